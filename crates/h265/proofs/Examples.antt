@@ -1,0 +1,141 @@
+-- Document 01's marked examples as one list of cases under one statement, with what they do not cover: a level that must be
+-- limited first, a residual beyond the range, a sum beyond 32 bits, and the largest sums of absolute entries, which no wrong
+-- entry of F leaves alone.
+use mathlib.Core.Bool.{Bool, true, false, _&&_}
+use mathlib.Core.List.{List, [], _∷_, _++_}
+use Prim.Native.Nat.{ℕ}
+use lib.Dec.{T}
+use lib.IntN.{ℤ, pos, negsuc, negℤ}
+use lib.ListN.{replicate}
+use lib.Signed.{leZ}
+use Rattle.integers.specs.Clip.{clip3}
+use Rattle.integers.specs.Lists.{tabulate, tabulateFrom}
+use Rattle.integers.specs.Shift.{shiftRight, roundShift}
+use Rattle.integers.specs.Sum.{sum}
+use Rattle.h265.specs.Range.{log2Size, transformRange, coeffMin, coeffMax, clipCoeff}
+use Rattle.h265.specs.Quantization.{qpBdOffset, clipQpPrime, qpPrime, levelScale, scaleOfQp}
+use Rattle.h265.specs.ScalingFactor.{ScalingList, repeatedPosition, factorSource, entryOf, dcOf, factorBy, scalingFactor}
+use Rattle.h265.specs.ScalingFactor.ScalingList.{flat, listed}
+use Rattle.h265.specs.Scaling.{bdShift, scaledValue, scaleLevel, scaledAt}
+use Rattle.h265.specs.TransformSkip.{tsShift, tsResidual}
+use Rattle.h265.specs.Matrix.{foldingValues, folding, foldedEntry, foldedAngle, transMatrix32, transMatrix, dstEntries, dstMatrix, absSum}
+use Rattle.h265.specs.Transform.{transformLine, blockAt, rowOrder, columnsRead, stageOneSum, stageOneValue, intermediate, stageTwoSum, stageTwoShift, stageTwo, residual}
+
+-- what a definition gives, and what the document says
+pub record Case : Type 0 where
+  pub found : List ℤ
+  pub expected : List ℤ
+
+infix 20 _gives_
+_gives_ : List ℤ → List ℤ → Case
+found gives expected = record { found = found; expected = expected }
+
+equal : List ℤ → List ℤ → Bool
+equal [] [] = true
+equal [] (y ∷ ys) = false
+equal (x ∷ xs) [] = false
+equal (x ∷ xs) (y ∷ ys) = (leZ x y && leZ y x) && equal xs ys
+
+pub agree : List Case → Bool
+unfolding equal
+agree [] = true
+agree (c ∷ cs) = equal (c .found) (c .expected) && agree cs
+
+one : ℤ → List ℤ
+one z = z ∷ []
+
+rangeOf : ℕ → Bool → List ℤ
+rangeOf b x = one (pos (transformRange b x))
+
+-- one level at index 0
+scaled : ScalingList → ℕ → ℕ → ℤ → ℤ → List ℤ
+scaled list n b q level = one (scaledAt list n b false q (one level) 0)
+
+-- m at an index, of the list that has 20 at entry 0 and 7 elsewhere, with DC 30
+factor : ℕ → ℕ → List ℤ
+factor n i = one (pos (scalingFactor (listed (20 ∷ replicate 63 7) 30) n i))
+
+shiftOf : ℕ → ℕ → Bool → List ℤ
+shiftOf n b x = one (tsShift (transformRange b x) b (log2Size n))
+
+-- a 4×4 block with one coefficient
+only : ℕ → ℤ → List ℤ
+only i z = replicate i (pos 0) ++ z ∷ replicate 15 (pos 0)
+
+-- the 4×4 residual, plain range
+rows : (ℕ → ℕ → ℤ) → ℕ → ℕ → List ℤ → List ℤ
+rows t b nx d = tabulate 16 (rowOrder 4 (residual t 4 b (transformRange b false) nx d))
+
+-- 32767 in column 0
+full : ℕ → ℕ → ℤ
+full k c = columnsRead 1 (λ i j. pos 32767) k c
+
+all : ℤ → List ℤ
+all z = replicate 16 z
+
+norms : (ℕ → ℕ → ℤ) → ℕ → List ℤ
+norms t n = tabulate n (absSum t n)
+
+pub examples : List Case
+unfolding _gives_ one rangeOf scaled factor shiftOf only rows full all norms
+examples =
+    -- R
+    (rangeOf 8 true gives one (pos 15))
+    ∷ (rangeOf 9 true gives one (pos 15))
+    ∷ (rangeOf 10 true gives one (pos 16))
+    ∷ (rangeOf 16 true gives one (pos 22))
+    ∷ (rangeOf 16 false gives one (pos 15))
+    -- QP′
+    ∷ (one (qpPrime 10 (negℤ (pos 13))) gives one (pos 0))
+    ∷ (one (qpPrime 10 (pos 51)) gives one (pos 63))
+    ∷ (one (qpPrime 10 (pos 60)) gives one (pos 63))
+    -- one level
+    ∷ (scaled flat 4 8 (pos 4) (pos 1) gives one (pos 32))
+    ∷ (scaled flat 4 8 (pos 4) (negℤ (pos 1)) gives one (negℤ (pos 32)))
+    ∷ (scaled flat 4 8 (pos 4) (pos 40000) gives one (pos 32767))
+    -- a level that must be limited before it is scaled: 10000 without the limit
+    ∷ (scaled (listed (replicate 64 1) 1) 32 8 (pos 4) (pos 40000) gives one (pos 8192))
+    -- m
+    ∷ (factor 16 0 gives one (pos 30))
+    ∷ (factor 16 1 gives one (pos 20))
+    ∷ (factor 16 17 gives one (pos 20))
+    ∷ (factor 8 0 gives one (pos 20))
+    -- t
+    ∷ (shiftOf 4 8 false gives one (pos 5))
+    ∷ (shiftOf 4 13 false gives one (pos 0))
+    ∷ (shiftOf 32 16 false gives one (negℤ (pos 6)))
+    ∷ (shiftOf 32 16 true gives one (pos 1))
+    -- transform skip
+    ∷ (one (tsResidual (pos 5) (pos 16)) gives one (pos 1))
+    ∷ (one (tsResidual (pos 5) (pos 15)) gives one (pos 0))
+    ∷ (one (tsResidual (pos 5) (negℤ (pos 16))) gives one (pos 0))
+    ∷ (one (tsResidual (pos 5) (negℤ (pos 17))) gives one (negℤ (pos 1)))
+    ∷ (one (tsResidual (negℤ (pos 6)) (pos 3)) gives one (pos 192))
+    -- DCT
+    ∷ (rows (transMatrix 4) 8 4 (only 0 (pos 62)) gives all (pos 0))
+    ∷ (rows (transMatrix 4) 8 4 (only 0 (pos 63)) gives all (pos 1))
+    ∷ (rows (transMatrix 4) 8 4 (only 0 (negℤ (pos 64))) gives all (pos 0))
+    ∷ (rows (transMatrix 4) 8 4 (only 3 (pos 64)) gives
+    (let row : List ℤ = pos 0 ∷ negsuc 0 ∷ pos 1 ∷ pos 0 ∷ [] in row ++ (row ++ (row ++ row))))
+    ∷ (rows (transMatrix 4) 8 3 (only 3 (pos 64)) gives all (pos 0))
+    -- a residual beyond the range, which is not limited
+    ∷ (rows (transMatrix 4) 16 4 (only 0 (pos 32767)) gives all (pos 65536))
+    -- DST
+    ∷ (rows dstMatrix 8 4 (only 0 (pos 64)) gives
+    (pos 0 ∷ pos 0 ∷ pos 0 ∷ pos 0 ∷ pos 0 ∷ pos 0 ∷ pos 1 ∷ pos 1 ∷ pos 0 ∷ pos 0 ∷ pos 1 ∷ pos 1 ∷ pos 0 ∷ pos 1 ∷ pos 1 ∷ pos 1 ∷ []))
+    -- stage one before and after its limit
+    ∷ (one (stageOneValue (transMatrix 4) 4 full 0 0) gives one (pos 63230))
+    ∷ (one (intermediate (transMatrix 4) 4 15 full 0 0) gives one (pos 32767))
+    -- the first sum of extended precision that no 32 bits hold
+    ∷ (one (stageOneSum (transMatrix 32) 32 (λ k c. pos 2097151) 0 0) gives one (pos 3904895162))
+    -- the sums of absolute entries, output by output
+    ∷ (norms (transMatrix 4) 4 gives replicate 4 (pos 247))
+    ∷ (norms (transMatrix 8) 8 gives replicate 8 (pos 479))
+    ∷ (norms (transMatrix 16) 16 gives replicate 16 (pos 940))
+    ∷ (norms (transMatrix 32) 32 gives replicate 32 (pos 1862))
+    ∷ (norms dstMatrix 4 gives (pos 242 ∷ pos 242 ∷ pos 222 ∷ pos 242 ∷ []))
+    ∷ []
+
+pub examples-hold : T (agree examples)
+unfolding agree equal examples log2Size transformRange coeffMin coeffMax clipCoeff qpBdOffset clipQpPrime qpPrime levelScale scaleOfQp repeatedPosition factorSource entryOf dcOf factorBy scalingFactor bdShift scaledValue scaleLevel scaledAt tsShift tsResidual foldingValues folding foldedEntry foldedAngle transMatrix32 transMatrix dstEntries dstMatrix absSum transformLine blockAt rowOrder columnsRead stageOneSum stageOneValue intermediate stageTwoSum stageTwoShift stageTwo residual clip3 tabulate tabulateFrom shiftRight roundShift sum
+examples-hold = tt

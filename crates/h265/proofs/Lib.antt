@@ -1,0 +1,4 @@
+-- Laws of the definitions, and the marked examples.
+pub mod RangeLaws
+pub mod QuantizationLaws
+pub mod Examples

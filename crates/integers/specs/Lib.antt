@@ -1,0 +1,5 @@
+pub mod Clip
+pub mod Shift
+pub mod Sum
+pub mod Lists
+pub mod Within

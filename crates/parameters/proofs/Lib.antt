@@ -1,0 +1,2 @@
+-- What the functions below the refusals rely on.
+pub mod ParametersLaws

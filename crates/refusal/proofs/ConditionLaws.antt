@@ -1,0 +1,31 @@
+-- What an accepted size or depth gives.
+--   size-accepted   the size is one of the four
+--   depth-accepted  the depth is 8 .. 16
+--   width-accepted  the depth is at most 9, and precision is not extended
+use mathlib.Core.Path.{_≡_, refl, sym, subst}
+use mathlib.Core.Bool.{Bool, true, false, not, _||_}
+use Prim.Native.Nat.{ℕ, _≤_}
+use borrow.Author.Tests.{ltb-false}
+use lib.Dec.{T, ltb}
+use Rattle.h265.specs.Range.{isSize}
+use Rattle.refusal.specs.Condition.{sizeRefused, depthRefused, widthRefused}
+
+not-false : (t : Bool) → not t ≡ false → T t
+not-false true e = tt
+not-false false e = subst T e tt
+
+pub size-accepted : (n : ℕ) → sizeRefused n ≡ false → T (isSize n)
+unfolding sizeRefused
+size-accepted n e = not-false (isSize n) e
+
+neither : (s t : Bool) → s || t ≡ false → (s ≡ false) × (t ≡ false)
+neither true t e = absurd (subst T e tt)
+neither false t e = (refl, e)
+
+pub depth-accepted : (b : ℕ) → depthRefused b ≡ false → (8 ≤ b) × (b ≤ 16)
+unfolding depthRefused
+depth-accepted b e = let h = neither (ltb b 8) (ltb 16 b) e in (ltb-false b 8 (h .0), ltb-false 16 b (h .1))
+
+pub width-accepted : (b : ℕ) (x : Bool) → widthRefused b x ≡ false → (b ≤ 9) × (x ≡ false)
+unfolding widthRefused
+width-accepted b x e = let h = neither (ltb 9 b) x e in (ltb-false 9 b (h .0), h .1)

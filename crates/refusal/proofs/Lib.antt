@@ -1,0 +1,2 @@
+-- Laws of the conditions that calls share.
+pub mod ConditionLaws

@@ -1,0 +1,36 @@
+-- Document 01's table "Refused, by number": a number for each row, and the place where the row names one.
+--   number e   the row's number
+--   place e    the place that it names, else 0
+use Prim.Native.Nat.{ℕ}
+use Rattle.refusal.specs.declared.Refusal.{Refusal}
+use Rattle.refusal.specs.declared.Refusal.the-variants.{SizeInvalid, DepthInvalid, WidthTooNarrow, DstSizeInvalid, ListLengthInvalid, InputTooShort, OutputTooShort, PlaceOutside, CoefficientOutside, KindUnknown, BodyTooShort, LevelsBeforeParameters, ParameterInvalid}
+
+abbrev pub number : Refusal → ℕ
+number SizeInvalid = 1
+number DepthInvalid = 2
+number WidthTooNarrow = 3
+number DstSizeInvalid = 4
+number ListLengthInvalid = 5
+number InputTooShort = 6
+number OutputTooShort = 7
+number PlaceOutside = 8
+number (CoefficientOutside at) = 9
+number KindUnknown = 20
+number BodyTooShort = 21
+number LevelsBeforeParameters = 22
+number ParameterInvalid = 23
+
+abbrev pub place : Refusal → ℕ
+place SizeInvalid = 0
+place DepthInvalid = 0
+place WidthTooNarrow = 0
+place DstSizeInvalid = 0
+place ListLengthInvalid = 0
+place InputTooShort = 0
+place OutputTooShort = 0
+place PlaceOutside = 0
+place (CoefficientOutside at) = at
+place KindUnknown = 0
+place BodyTooShort = 0
+place LevelsBeforeParameters = 0
+place ParameterInvalid = 0

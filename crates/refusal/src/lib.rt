@@ -1,0 +1,98 @@
+// Why a call was refused: a variant for each row of document 01's table, with the place where the row names one.
+ghost use mathlib.Core.Path.{_≡_};
+ghost use Rattle.refusal.specs.Condition.{sizeRefused, depthRefused, widthRefused};
+ghost use Rattle.refusal.specs.Refusal.{number, place};
+
+pub enum Refusal {
+    SizeInvalid,
+    DepthInvalid,
+    WidthTooNarrow,
+    DstSizeInvalid,
+    ListLengthInvalid,
+    InputTooShort,
+    OutputTooShort,
+    PlaceOutside,
+    CoefficientOutside(usize),
+    KindUnknown,
+    BodyTooShort,
+    LevelsBeforeParameters,
+    ParameterInvalid,
+}
+
+// The answer of a call that hands nothing back but what it wrote.
+pub enum Answer {
+    Done,
+    Refused(Refusal),
+}
+
+// The refusal's number in document 01's table.
+pub fn number(refusal: Refusal) -> u8
+    ensures { λ r. ⌜ r ≡ number refusal ⌝ }
+{
+    match refusal {
+        Refusal::SizeInvalid => 1,
+        Refusal::DepthInvalid => 2,
+        Refusal::WidthTooNarrow => 3,
+        Refusal::DstSizeInvalid => 4,
+        Refusal::ListLengthInvalid => 5,
+        Refusal::InputTooShort => 6,
+        Refusal::OutputTooShort => 7,
+        Refusal::PlaceOutside => 8,
+        Refusal::CoefficientOutside(_) => 9,
+        Refusal::KindUnknown => 20,
+        Refusal::BodyTooShort => 21,
+        Refusal::LevelsBeforeParameters => 22,
+        Refusal::ParameterInvalid => 23,
+    }
+}
+
+// The place that the refusal names, and 0 where it names none.
+pub fn place(refusal: Refusal) -> usize
+    ensures { λ r. ⌜ r ≡ place refusal ⌝ }
+{
+    match refusal {
+        Refusal::SizeInvalid => 0,
+        Refusal::DepthInvalid => 0,
+        Refusal::WidthTooNarrow => 0,
+        Refusal::DstSizeInvalid => 0,
+        Refusal::ListLengthInvalid => 0,
+        Refusal::InputTooShort => 0,
+        Refusal::OutputTooShort => 0,
+        Refusal::PlaceOutside => 0,
+        Refusal::CoefficientOutside(at) => at,
+        Refusal::KindUnknown => 0,
+        Refusal::BodyTooShort => 0,
+        Refusal::LevelsBeforeParameters => 0,
+        Refusal::ParameterInvalid => 0,
+    }
+}
+
+// Row 1: the size is none of 4, 8, 16, 32.
+pub fn size_refused(n: usize) -> bool
+    ensures { λ r. ⌜ r ≡ sizeRefused n ⌝ }
+{
+    match n {
+        4 | 8 | 16 | 32 => false,
+        _ => true,
+    }
+}
+
+// Row 2: the depth is outside 8 .. 16.
+pub fn depth_refused(bit_depth: u8) -> bool
+    ensures { λ r. ⌜ r ≡ depthRefused «bit_depth» ⌝ }
+{
+    if bit_depth < 8 {
+        return true;
+    }
+    16 < bit_depth
+}
+
+// Row 3: 16-bit output, and the depth is above 9 or precision is extended.
+pub fn width_refused(bit_depth: u8, extended_precision: bool) -> bool
+    ensures { λ r. ⌜ r ≡ widthRefused «bit_depth» «extended_precision» ⌝ }
+{
+    if 9 < bit_depth {
+        return true;
+    }
+    extended_precision
+}
