@@ -6,7 +6,7 @@ import subprocess
 import sys
 
 # public only so that the crates above can call them; docs/ARCHITECTURE.md says so
-INTERNAL = {"integers", "transform_1d", "stages"}
+INTERNAL = {"integers", "coefficients", "transform_1d", "stages", "stages_wide", "text"}
 
 found = []
 

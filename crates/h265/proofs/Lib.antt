@@ -1,4 +1,5 @@
 -- Laws of the definitions, and the marked examples.
 pub mod RangeLaws
 pub mod QuantizationLaws
+pub mod TransformLaws
 pub mod Examples

@@ -1,24 +1,29 @@
 -- Laws of sizes, depths and the range.
 --   size-cases                            a fact of the four sizes is a fact of every size
+--   size-bound, size-square               n is 4 .. 32, and n² at most 1024
 --   log2Size-bound                        L is 2 .. 5
 --   transformRange-least, -most, -depth   R is 15 .. 22, and at most B + 7
 --   coeffMin-≤-coeffMax, coeffMin-within, coeffMax-within   the ends of the range
+--   coeffMin-eq, coeffMax-eq              the ends as code works them out, from 2^R
 --   clipCoeff-between, clipCoeff-within, clipCoeff-id       a number limited to the range
-use mathlib.Core.Path.{_≡_, refl, sym, subst}
+--   outsideRange-false                    what the test says of a number in the range
+use mathlib.Core.Path.{_≡_, refl, sym, ap, _∙_, subst}
 use mathlib.Core.Bool.{Bool, true, false, cond, _||_}
-use Prim.Native.Nat.{ℕ, _+_, _-_, _^_, max, _≤_, _<_}
-use native.Mathlib.Nat.{le-refl}
+use Prim.Native.Nat.{ℕ, _+_, _-_, _*_, _^_, max, _≤_, _<_}
+use native.Mathlib.Nat.{le-refl, mul-le-mul}
 use native.Mathlib.Omega.{arith}
 use lib.Dec.{T, eqb, eqb→eq}
 use lib.Pow.{pow-pos}
-use lib.IntN.{ℤ, pos, negℤ, _-ℤ_}
-use lib.Signed.{_≤ℤ_}
+use lib.IntN.{ℤ, pos, negℤ, _-ℤ_, +ℤ-idl}
+use lib.Signed.{ltZ, _≤ℤ_}
 use Rattle.integers.specs.Clip.{clip3}
+use Rattle.integers.specs.Shift.{pow2}
 use Rattle.integers.specs.Within.{Within}
 use Rattle.integers.proofs.LinearLaws.{parts-add, parts-neg, le-out}
+use Rattle.integers.proofs.MachineLaws.{ltZ-false}
 use Rattle.integers.proofs.BoundLaws.{within-neg, within-pos, within-out}
 use Rattle.integers.proofs.ClipLaws.{clip3-between, clip3-id, clip3-within}
-use Rattle.h265.specs.Range.{isSize, log2Size, transformRange, coeffMin, coeffMax, clipCoeff}
+use Rattle.h265.specs.Range.{isSize, log2Size, transformRange, coeffMin, coeffMax, clipCoeff, outsideRange}
 
 either : (a b : Bool) (Q : Type 0) → (T a → Q) → (T b → Q) → T (a || b) → Q
 either true b Q f g t = f tt
@@ -31,6 +36,12 @@ size-cases Q a b c d n t =
   where
     at : (k : ℕ) → Q k → T (eqb n k) → Q n
     at k q e = subst Q (sym (eqb→eq n k e)) q
+
+pub size-bound : (n : ℕ) → T (isSize n) → (4 ≤ n) × (n ≤ 32)
+size-bound n t = size-cases (λ m. (4 ≤ m) × (m ≤ 32)) (omega arith) (omega arith) (omega arith) (omega arith) n t
+
+pub size-square : (n : ℕ) → T (isSize n) → n * n ≤ 1024
+size-square n t = mul-le-mul (size-bound n t .1) (size-bound n t .1)
 
 pub log2Size-bound : (n : ℕ) → T (isSize n) → (2 ≤ log2Size n) × (log2Size n ≤ 5)
 unfolding log2Size
@@ -66,6 +77,14 @@ coeffMin-≤-coeffMax r =
     le-out (negℤ (pos (2 ^ r))) (pos (2 ^ r) -ℤ pos 1)
     (omega (arith, parts-neg (pos (2 ^ r)), parts-add (pos (2 ^ r)) (negℤ (pos 1)), pow-pos r))
 
+pub coeffMin-eq : (p : ℤ) (r : ℕ) → p ≡ pow2 r → pos 0 -ℤ p ≡ coeffMin r
+unfolding coeffMin
+coeffMin-eq p r e = ap (λ (z : ℤ). pos 0 -ℤ z) e ∙ +ℤ-idl (negℤ (pow2 r))
+
+pub coeffMax-eq : (p : ℤ) (r : ℕ) → p ≡ pow2 r → p -ℤ pos 1 ≡ coeffMax r
+unfolding coeffMax
+coeffMax-eq p r e = ap (λ (z : ℤ). z -ℤ pos 1) e
+
 pub clipCoeff-between : (r : ℕ) (z : ℤ) → (coeffMin r ≤ℤ clipCoeff r z) × (clipCoeff r z ≤ℤ coeffMax r)
 unfolding clipCoeff
 clipCoeff-between r z = clip3-between (coeffMin r) (coeffMax r) z (coeffMin-≤-coeffMax r)
@@ -77,3 +96,13 @@ clipCoeff-within r z = clip3-within (coeffMin r) (coeffMax r) z (coeffMin-≤-co
 pub clipCoeff-id : (r : ℕ) (z : ℤ) → coeffMin r ≤ℤ z → z ≤ℤ coeffMax r → clipCoeff r z ≡ z
 unfolding clipCoeff
 clipCoeff-id r z h k = clip3-id (coeffMin r) (coeffMax r) z h k
+
+neither : (s t : Bool) → s || t ≡ false → (s ≡ false) × (t ≡ false)
+neither true t e = absurd (subst T e tt)
+neither false t e = (refl, e)
+
+pub outsideRange-false : (r : ℕ) (z : ℤ) → outsideRange r z ≡ false → (coeffMin r ≤ℤ z) × (z ≤ℤ coeffMax r)
+unfolding outsideRange
+outsideRange-false r z e =
+    let h = neither (ltZ z (coeffMin r)) (ltZ (coeffMax r) z) e in
+    (ltZ-false (h .0), ltZ-false (h .1))

@@ -5,12 +5,12 @@
 --   transformRange    R: 15, and with extended precision the larger of 15 and B + 6
 --   coeffMin, coeffMax r   the ends of the range: -2^R and 2^R - 1
 --   clipCoeff r z     z limited to the range
---   inCoeffRange r z  z lies in the range
-use mathlib.Core.Bool.{Bool, _&&_, _||_, cond}
+--   outsideRange r z  z lies outside the range
+use mathlib.Core.Bool.{Bool, _||_, cond}
 use Prim.Native.Nat.{ℕ, _+_, max}
 use lib.Dec.{eqb}
 use lib.IntN.{ℤ, pos, negℤ, _-ℤ_}
-use lib.Signed.{leZ}
+use lib.Signed.{ltZ}
 use Rattle.integers.specs.Clip.{clip3}
 use Rattle.integers.specs.Shift.{pow2}
 
@@ -32,5 +32,5 @@ coeffMax r = pow2 r -ℤ pos 1
 unfoldable pub clipCoeff : ℕ → ℤ → ℤ
 clipCoeff r z = clip3 (coeffMin r) (coeffMax r) z
 
-unfoldable pub inCoeffRange : ℕ → ℤ → Bool
-inCoeffRange r z = leZ (coeffMin r) z && leZ z (coeffMax r)
+unfoldable pub outsideRange : ℕ → ℤ → Bool
+outsideRange r z = ltZ z (coeffMin r) || ltZ (coeffMax r) z

@@ -7,3 +7,4 @@ pub mod ClipLaws
 pub mod ShiftLaws
 pub mod SumLaws
 pub mod ListsLaws
+pub mod SearchLaws

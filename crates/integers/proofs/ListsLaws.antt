@@ -1,6 +1,6 @@
 -- Laws of lists by an index function, and of loops that store one element after the other.
 --   tabulate-…    length, elements, equality by elements
---   overwrite-…   no store, one store more, length, elements
+--   overwrite-…   no store, one store more, length, elements, the first k and the others, a second time
 --   Stored        the invariant of a loop that has stored f 0, .., f (k - 1); stored-none, -more, -length, -all are its needs
 use mathlib.Core.Path.{_≡_, refl, sym, ap, ap₂, _∙_}
 use mathlib.Core.List.{List, [], _∷_, _++_, append-assoc}
@@ -8,8 +8,8 @@ use Prim.Native.Nat.{ℕ, zero, suc, _+_, _-_, _≤_, _<_}
 use native.Mathlib.Nat.{not-suc-le-zero, add-zero, zero-add, add-suc}
 use native.Mathlib.Numerals.{add-one}
 use native.Mathlib.Omega.{arith}
-use lib.ListN.{length, getD, drop, set, length-append, length-drop, List·getD-append}
-use lib.Seq.{drop-cons, getD-append-add, getD-drop, set-at}
+use lib.ListN.{length, getD, take, drop, set, length-append, length-drop, List·getD-append}
+use lib.Seq.{drop-cons, getD-append-add, getD-drop, set-at, take-at, drop-at}
 use Rattle.integers.specs.Lists.{tabulateFrom, tabulate, overwrite}
 
 module _ {A : Type 0} where
@@ -88,6 +88,21 @@ module _ {A : Type 0} where
     where
       at : i ≡ length (tabulate k f) + (i - k)
       at = rw tabulate-length (omega arith)
+
+module _ {A : Type 0} (k : ℕ) (f : ℕ → A) (xs : List A) where
+  -- the first k elements, and the others
+  pub overwrite-take : take k (overwrite k f xs) ≡ tabulate k f
+  unfolding overwrite
+  overwrite-take = take-at (tabulate k f) (drop k xs) k (tabulate-length k f)
+
+  pub overwrite-drop : drop k (overwrite k f xs) ≡ drop k xs
+  unfolding overwrite
+  overwrite-drop = drop-at (tabulate k f) (drop k xs) k (tabulate-length k f)
+
+-- a second time
+pub overwrite-twice : {A : Type 0} (k : ℕ) (f g : ℕ → A) (xs : List A) → overwrite k f (overwrite k g xs) ≡ overwrite k f xs
+unfolding overwrite
+overwrite-twice {A} k f g xs = ap (λ (l : List A). tabulate k f ++ l) (overwrite-drop k g xs)
 
 -- ys is xs after the stores of f 0, .., f (k - 1), each at its index
 pub record Stored {A : Type 0} (f : ℕ → A) (xs : List A) (k : ℕ) (ys : List A) : Type 0 where

@@ -3,7 +3,7 @@ ghost use mathlib.Core.Path.{_≡_};
 ghost use Prim.Native.Nat.{_≤_};
 ghost use lib.Dec.{T};
 ghost use lib.IntN.{pos, natAbs};
-ghost use Rattle.h265.specs.Range.{isSize, log2Size, transformRange};
+ghost use Rattle.h265.specs.Range.{isSize, log2Size};
 ghost use Rattle.h265.specs.Quantization.{qpBdOffset, clipQpPrime, qpPrime, scaleOfQp};
 ghost use Rattle.parameters.specs.Answers.{numberOutcome, qpPrimeOutcome, dequantOutcome, transformSkipOutcome};
 ghost use Rattle.parameters.specs.Parameters.{maxLog2TransformDynamicRange, qpBdOffsetOf, qpPrimeOf, dequantOf, dequantParams, tsAdd, transformSkipOf, transformSkipParams, KnownSize};
@@ -63,18 +63,6 @@ fn log2_of_size(n: usize) -> u32
     }
 }
 
-fn range_of(bit_depth: u8, extended_precision: bool) -> u32
-    requires { ⌜ «bit_depth» ≤ 16 ⌝ }
-    ensures { λ r. ⌜ r ≡ transformRange «bit_depth» «extended_precision» ⌝ }
-{
-    if extended_precision {
-        if 9 < bit_depth {
-            return (bit_depth + 6) as u32;
-        }
-    }
-    15
-}
-
 fn offset_of(bit_depth: u8) -> u32
     requires { ⌜ (8 ≤ «bit_depth») × («bit_depth» ≤ 16) ⌝ }
     ensures { λ r. ⌜ r ≡ qpBdOffset «bit_depth» ⌝ }
@@ -125,7 +113,7 @@ fn params_of(log2n: u32, qp_prime: i32, bit_depth: u8, extended_precision: bool)
     requires { ⌜ KnownSize log2n «bit_depth» ⌝ }
     ensures { λ r. ⌜ r ≡ dequantOf log2n «qp_prime» «bit_depth» «extended_precision» ⌝ }
 {
-    let range = range_of(bit_depth, extended_precision);
+    let range = coefficients::transform_range(bit_depth, extended_precision);
     let shift = (bit_depth as u32) + log2n + 10 - range;
     let half = integers::pow2(shift - 1);
     let end = integers::pow2(range);
@@ -159,7 +147,7 @@ fn skip_params_of(
     ensures { λ r. ⌜ r ≡ transformSkipOf log2n «qp_prime» «bit_depth» «extended_precision» ⌝ }
 {
     let dequant = params_of(log2n, qp_prime, bit_depth, extended_precision);
-    let range = range_of(bit_depth, extended_precision);
+    let range = coefficients::transform_range(bit_depth, extended_precision);
     let tr_shift = (range as i32) - (((bit_depth as u32) + log2n) as i32);
     TransformSkipParams {
         dequant,
@@ -175,7 +163,7 @@ pub fn max_log2_transform_dynamic_range(bit_depth: u8, extended_precision: bool)
     if refusal::depth_refused(bit_depth) {
         return NumberAnswer::Refused(Refusal::DepthInvalid);
     }
-    NumberAnswer::Value(range_of(bit_depth, extended_precision))
+    NumberAnswer::Value(coefficients::transform_range(bit_depth, extended_precision))
 }
 
 // What QP′ is above QP.

@@ -18,13 +18,13 @@ returns : tie.Need-returns
 unfolding maxLog2TransformDynamicRange
 returns c = rw (sym (c .before .depth-refused .ensures) ∙ c .if1 .taken)
 
-range-of-requires : tie.Need-range-of-requires
-range-of-requires c κs = depth-accepted (c .before .before .args .bit-depth) (depth-ok c) .1
+transform-range-requires : tie.Need-transform-range-requires
+transform-range-requires c κs = depth-accepted (c .before .before .args .bit-depth) (depth-ok c) .1
 
 returns-2 : tie.Need-returns-2
 unfolding maxLog2TransformDynamicRange
-returns-2 c = rw (depth-ok (c .before), c .range-of .ensures)
+returns-2 c = rw (depth-ok (c .before), c .transform-range .ensures)
 
 pub max-log2-transform-dynamic-range-spec : {M : Type 1} → statement M
 max-log2-transform-dynamic-range-spec =
-    tie.close (tie.spec depth-refused-requires returns range-of-requires returns-2)
+    tie.close (tie.spec depth-refused-requires returns transform-range-requires returns-2)

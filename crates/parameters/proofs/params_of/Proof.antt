@@ -15,14 +15,14 @@ use Rattle.integers.proofs.BoundLaws.{within-fits, within-pos, within-eq, withi
 use Rattle.h265.specs.Range.{transformRange, coeffMin, coeffMax}
 use Rattle.h265.specs.Quantization.{clipQpPrime, scaleOfQp}
 use Rattle.h265.specs.Scaling.{bdShift}
-use Rattle.h265.proofs.RangeLaws.{transformRange-most, transformRange-depth, coeffMin-within, coeffMax-within}
+use Rattle.h265.proofs.RangeLaws.{transformRange-most, transformRange-depth, coeffMin-within, coeffMax-within, coeffMin-eq, coeffMax-eq}
 use Rattle.h265.proofs.QuantizationLaws.{clipQpPrime-bound, scaleOfQp-bound}
 use Rattle.parameters.specs.Parameters.{dequantOf}
 use Rattle.parameters.proofs.params_of.Statement.{statement}
 use Rattle.parameters.proofs.params_of.Tie as tie
 
-range-of-requires : tie.Need-range-of-requires
-range-of-requires c κs = search needs
+transform-range-requires : tie.Need-transform-range-requires
+transform-range-requires c κs = search needs
 
 add-shift : tie.Need-add-shift
 add-shift c = search needs
@@ -31,9 +31,9 @@ add-shift-2 : tie.Need-add-shift-2
 add-shift-2 c = search needs
 
 -- the range is below what it is taken from, and below 23
-range-fits : (c : tie.After-range-of) → (c .range-of .result + 3 ≤ c .before .args .bit-depth + 10) × (c .range-of .result ≤ 22)
+range-fits : (c : tie.After-transform-range) → (c .transform-range .result + 3 ≤ c .before .args .bit-depth + 10) × (c .transform-range .result ≤ 22)
 range-fits c =
-    rw (c .range-of .ensures) (
+    rw (c .transform-range .ensures) (
       omega (arith, transformRange-depth (c .before .args .bit-depth) (c .before .args .extended-precision) (c .before .pre .deep)),
       transformRange-most (c .before .args .bit-depth) (c .before .args .extended-precision) (c .before .pre .shallow),
     )
@@ -64,15 +64,7 @@ scale-of-qp-requires c κs =
 factor-is : (c : tie.After-scale-of-qp) → pos 16 *ℤ c .scale-of-qp .result ≡ pos (16 * scaleOfQp (c .before .limited-qp .result))
 factor-is c = ap (λ (z : ℤ). pos 16 *ℤ z) (c .scale-of-qp .ensures) ∙ pos-*ℤ-pos 16 (scaleOfQp (c .before .limited-qp .result))
 
-low-is : (p : ℤ) (r : ℕ) → p ≡ pow2 r → pos 0 -ℤ p ≡ coeffMin r
-unfolding coeffMin
-low-is p r e = ap (λ (z : ℤ). pos 0 -ℤ z) e ∙ +ℤ-idl (negℤ (pow2 r))
-
-high-is : (p : ℤ) (r : ℕ) → p ≡ pow2 r → p -ℤ pos 1 ≡ coeffMax r
-unfolding coeffMax
-high-is p r e = ap (λ (z : ℤ). z -ℤ pos 1) e
-
-end-most : (c : tie.After-pow22) → 2 ^ c .before .before .range-of .result ≤ 4194304
+end-most : (c : tie.After-pow22) → 2 ^ c .before .before .transform-range .result ≤ 4194304
 end-most c = pow-mono (range-fits (c .before .before) .1)
 
 mul-t13 : tie.Need-mul-t13
@@ -83,14 +75,14 @@ mul-t13 c =
 sub-t14 : tie.Need-sub-t14
 sub-t14 c =
     let p = c .before .before in
-    rw (round-trip (sfits-of (p .pow22 .ok)), low-is (p .pow22 .result) (p .before .before .range-of .result) (p .pow22 .ensures))
-    (within-fits {b = 4194304} tt (within-le (end-most p) (coeffMin-within (p .before .before .range-of .result))))
+    rw (round-trip (sfits-of (p .pow22 .ok)), coeffMin-eq (p .pow22 .result) (p .before .before .transform-range .result) (p .pow22 .ensures))
+    (within-fits {b = 4194304} tt (within-le (end-most p) (coeffMin-within (p .before .before .transform-range .result))))
 
 sub-t15 : tie.Need-sub-t15
 sub-t15 c =
     let p = c .before .before in
-    rw (round-trip (sfits-of (p .pow22 .ok)), high-is (p .pow22 .result) (p .before .before .range-of .result) (p .pow22 .ensures))
-    (within-fits {b = 4194304} tt (within-le (end-most p) (coeffMax-within (p .before .before .range-of .result))))
+    rw (round-trip (sfits-of (p .pow22 .ok)), coeffMax-eq (p .pow22 .result) (p .before .before .transform-range .result) (p .pow22 .ensures))
+    (within-fits {b = 4194304} tt (within-le (end-most p) (coeffMax-within (p .before .before .transform-range .result))))
 
 returns : tie.Need-returns
 unfolding dequantOf bdShift
@@ -105,15 +97,15 @@ returns c =
       round-trip (sfits-of (p .pow22 .ok)),
       factor-is c,
       limited-is (c .before),
-      low-is (p .pow22 .result) (p .before .before .range-of .result) (p .pow22 .ensures),
-      high-is (p .pow22 .result) (p .before .before .range-of .result) (p .pow22 .ensures),
+      coeffMin-eq (p .pow22 .result) (p .before .before .transform-range .result) (p .pow22 .ensures),
+      coeffMax-eq (p .pow22 .result) (p .before .before .transform-range .result) (p .pow22 .ensures),
       p .before .pow2 .ensures,
-      p .before .before .range-of .ensures,
+      p .before .before .transform-range .ensures,
     )
 
 pub params-of-spec : {M : Type 1} → statement M
 params-of-spec =
     tie.close
     (tie.spec
-    range-of-requires add-shift add-shift-2 sub-shift sub-pow2 pow2-requires pow2-requires-2
+    transform-range-requires add-shift add-shift-2 sub-shift sub-pow2 pow2-requires pow2-requires-2
     limited-qp-requires scale-of-qp-requires mul-t13 sub-t14 sub-t15 returns)

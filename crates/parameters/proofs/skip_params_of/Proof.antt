@@ -20,13 +20,13 @@ use Rattle.parameters.proofs.skip_params_of.Tie as tie
 params-of-requires : tie.Need-params-of-requires
 params-of-requires c κs = search needs
 
-range-of-requires : tie.Need-range-of-requires
-range-of-requires c κs = search needs
+transform-range-requires : tie.Need-transform-range-requires
+transform-range-requires c κs = search needs
 
-range-fits : (c : tie.After-range-of) → (15 ≤ c .range-of .result) × (c .range-of .result ≤ 22)
+range-fits : (c : tie.After-transform-range) → (15 ≤ c .transform-range .result) × (c .transform-range .result ≤ 22)
 range-fits c =
     let a = c .before .before in
-    rw (c .range-of .ensures)
+    rw (c .transform-range .ensures)
     (transformRange-least (a .args .bit-depth) (a .args .extended-precision), transformRange-most (a .args .bit-depth) (a .args .extended-precision) (a .pre .shallow))
 
 cast-tr-shift : tie.Need-cast-tr-shift
@@ -39,7 +39,7 @@ cast-tr-shift-2 : tie.Need-cast-tr-shift-2
 cast-tr-shift-2 c = search needs
 
 -- what the machine subtracts
-shift-is : (c : tie.After-range-of) → toZ w32 (c .range-of .result) -ℤ toZ w32 (c .before .before .args .bit-depth + c .before .before .args .log2n) ≡ tsShift (c .range-of .result) (c .before .before .args .bit-depth) (c .before .before .args .log2n)
+shift-is : (c : tie.After-transform-range) → toZ w32 (c .transform-range .result) -ℤ toZ w32 (c .before .before .args .bit-depth + c .before .before .args .log2n) ≡ tsShift (c .transform-range .result) (c .before .before .args .bit-depth) (c .before .before .args .log2n)
 unfolding tsShift
 shift-is c =
     let a = c .before .before in
@@ -49,10 +49,10 @@ shift-small : (r b l : ℕ) → 15 ≤ r → r ≤ 22 → b + l ≤ 21 → natAb
 unfolding tsShift
 shift-small r b l h k m = within-out {b = 22} (pos r -ℤ pos (b + l)) (omega (arith, parts-add (pos r) (negℤ (pos (b + l))), parts-neg (pos (b + l)))) .within
 
-small : (c : tie.After-range-of) → natAbs (tsShift (c .range-of .result) (c .before .before .args .bit-depth) (c .before .before .args .log2n)) ≤ 22
+small : (c : tie.After-transform-range) → natAbs (tsShift (c .transform-range .result) (c .before .before .args .bit-depth) (c .before .before .args .log2n)) ≤ 22
 small c =
     let a = c .before .before in
-    shift-small (c .range-of .result) (a .args .bit-depth) (a .args .log2n) (range-fits c .0) (range-fits c .1) (omega (arith, a .pre))
+    shift-small (c .transform-range .result) (a .args .bit-depth) (a .args .log2n) (range-fits c .0) (range-fits c .1) (omega (arith, a .pre))
 
 sub-tr-shift : tie.Need-sub-tr-shift
 sub-tr-shift c = rw (shift-is c) (sfits-abs (omega (arith, small c)))
@@ -71,11 +71,11 @@ returns c =
       shift-is (c .before),
       c .before .before .params-of .ensures,
       round-trip (a .fits .qp-prime),
-      c .before .range-of .ensures,
+      c .before .transform-range .ensures,
     )
 
 pub skip-params-of-spec : {M : Type 1} → statement M
 skip-params-of-spec =
     tie.close
     (tie.spec
-    params-of-requires range-of-requires cast-tr-shift add-tr-shift cast-tr-shift-2 sub-tr-shift skip-add-requires returns)
+    params-of-requires transform-range-requires cast-tr-shift add-tr-shift cast-tr-shift-2 sub-tr-shift skip-add-requires returns)

@@ -1,0 +1,2 @@
+-- What row 9 asks, row by row.
+pub mod OutsideLaws

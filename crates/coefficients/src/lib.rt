@@ -1,0 +1,66 @@
+// The range of coefficients, and where a block has one outside it. Internal: the crates above call these and meet what they require.
+ghost use mathlib.Core.Path.{_≡_};
+ghost use mathlib.Core.Bool.{true, false};
+ghost use Prim.Native.Nat.{_+_, _*_, _≤_};
+ghost use lib.Dec.{T};
+ghost use lib.IntN.{pos};
+ghost use lib.ListN.{getD, length};
+ghost use Rattle.integers.specs.Search.{firstWhere};
+ghost use Rattle.h265.specs.Range.{isSize, transformRange, outsideRange};
+ghost use Rattle.coefficients.specs.Outside.{firstOutside};
+
+// R: coefficients lie in -2^R .. 2^R - 1.
+pub fn transform_range(bit_depth: u8, extended_precision: bool) -> u32
+    requires { ⌜ «bit_depth» ≤ 16 ⌝ }
+    ensures { λ r. ⌜ r ≡ transformRange «bit_depth» «extended_precision» ⌝ }
+{
+    if extended_precision {
+        if 9 < bit_depth {
+            return (bit_depth + 6) as u32;
+        }
+    }
+    15
+}
+
+// Whether x lies outside the range.
+pub fn is_outside(x: i32, range: u32) -> bool
+    requires { ⌜ range ≤ 22 ⌝ }
+    ensures { λ r. ⌜ r ≡ outsideRange range x ⌝ }
+{
+    let end = 1i32 << range;
+    if x < 0 - end {
+        return true;
+    }
+    end - 1 < x
+}
+
+// Of nx coefficients from base on, the first outside the range, and nx where there is none.
+fn row_outside(coeff: &[i32], base: usize, nx: usize, range: u32) -> usize
+    requires { ⌜ (base + nx ≤ length (now coeff)) × (range ≤ 22) ⌝ }
+    ensures { λ r. ⌜ r ≡ firstWhere nx (λ c. outsideRange range (getD (now (coeff .entry)) (base + c) (pos 0))) ⌝ }
+{
+    let mut c: usize = 0;
+    while c < nx {
+        if is_outside(coeff[base + c], range) {
+            return c;
+        }
+        c += 1;
+    }
+    c
+}
+
+// The first coefficient in row order that lies outside the range, among the first nx columns, and n² where there is none.
+pub fn first_outside(coeff: &[i32], n: usize, nx: usize, range: u32) -> usize
+    requires { ⌜ T (isSize n) × (nx ≤ n) × (n * n ≤ length (now coeff)) × (range ≤ 22) ⌝ }
+    ensures { λ r. ⌜ r ≡ firstOutside range n nx (now (coeff .entry)) ⌝ }
+{
+    let mut k: usize = 0;
+    while k < n {
+        let c = row_outside(coeff, k * n, nx, range);
+        if c < nx {
+            return k * n + c;
+        }
+        k += 1;
+    }
+    n * n
+}

@@ -1,0 +1,60 @@
+-- Laws of sizes, and of m by the rule that supplies it.
+--   size-square                    n² is at most 1024
+--   size-last                      a size that is not 4, 8 or 16 is 32
+--   factor-four, factor-eight      at sizes 4 and 8 m is the entry at the index
+--   factor-dc, factor-repeated     at sizes 16 and 32: index 0, and the others
+--   position-16, position-32       the position that the code works out
+--   position-inside                a position in the list is below 64
+use mathlib.Core.Path.{_≡_, refl}
+use mathlib.Core.List.{List}
+use Prim.Native.Nat.{ℕ, _+_, _-_, _*_, _/_, _%_, _^_, _≤_, _<_}
+use native.Mathlib.Omega.{arith}
+use borrow.Author.Tests.{eq-eqb, ne-eqb}
+use lib.Dec.{T, lit≤}
+use lib.ListN.{getD}
+use Rattle.h265.specs.Range.{isSize, log2Size}
+use Rattle.h265.specs.ScalingFactor.{repeatedPosition, factorSource, entryOf, dcOf, factorBy, scalingFactor}
+use Rattle.h265.specs.ScalingFactor.ScalingList.{listed}
+use Rattle.h265.proofs.RangeLaws.{size-cases}
+
+-- ---- sizes
+pub size-square : (n : ℕ) → T (isSize n) → n * n ≤ 1024
+size-square n t = size-cases (λ m. m * m ≤ 1024) (lit≤ tt) (lit≤ tt) (lit≤ tt) (lit≤ tt) n t
+
+-- what is neither 4, 8 nor 16
+pub size-last : (n : ℕ) → T (isSize n) → (n ≡ 4 → ⊥) → (n ≡ 8 → ⊥) → (n ≡ 16 → ⊥) → n ≡ 32
+size-last n t a b c =
+    size-cases (λ m. (m ≡ 4 → ⊥) → (m ≡ 8 → ⊥) → (m ≡ 16 → ⊥) → m ≡ 32)
+    (λ a b c. absurd (a refl)) (λ a b c. absurd (b refl)) (λ a b c. absurd (c refl)) (λ a b c. refl) n t a b c
+
+-- ---- m
+module _ (es : List ℕ) (d n i : ℕ) where
+  pub factor-four : n ≡ 4 → scalingFactor (listed es d) n i ≡ getD es i 0
+  unfolding scalingFactor factorSource factorBy entryOf
+  factor-four e = rw (eq-eqb n 4 e)
+
+  pub factor-eight : (n ≡ 4 → ⊥) → n ≡ 8 → scalingFactor (listed es d) n i ≡ getD es i 0
+  unfolding scalingFactor factorSource factorBy entryOf
+  factor-eight a e = rw (ne-eqb n 4 a, eq-eqb n 8 e)
+
+  pub factor-dc : (n ≡ 4 → ⊥) → (n ≡ 8 → ⊥) → i ≡ 0 → scalingFactor (listed es d) n i ≡ d
+  unfolding scalingFactor factorSource factorBy dcOf
+  factor-dc a b e = rw (ne-eqb n 4 a, ne-eqb n 8 b, eq-eqb i 0 e)
+
+  pub factor-repeated : (n ≡ 4 → ⊥) → (n ≡ 8 → ⊥) → (i ≡ 0 → ⊥) → scalingFactor (listed es d) n i ≡ getD es (repeatedPosition n i) 0
+  unfolding scalingFactor factorSource factorBy entryOf
+  factor-repeated a b z = rw (ne-eqb n 4 a, ne-eqb n 8 b, ne-eqb i 0 z)
+
+pub position-16 : (i : ℕ) → i / 2 ^ 4 / 2 ^ (4 - 3) * 8 + i % 2 ^ 4 / 2 ^ (4 - 3) ≡ repeatedPosition 16 i
+unfolding repeatedPosition log2Size
+position-16 i = refl
+
+pub position-32 : (i : ℕ) → i / 2 ^ 5 / 2 ^ (5 - 3) * 8 + i % 2 ^ 5 / 2 ^ (5 - 3) ≡ repeatedPosition 32 i
+unfolding repeatedPosition log2Size
+position-32 i = refl
+
+pub position-inside : (n i : ℕ) → T (isSize n) → i < n * n → 16 ≤ n → repeatedPosition n i < 64
+unfolding repeatedPosition log2Size
+position-inside n i t h k =
+    size-cases (λ m. i < m * m → 16 ≤ m → repeatedPosition m i < 64)
+    (λ h k. omega arith) (λ h k. omega arith) (λ h k. omega arith) (λ h k. omega arith) n t h k

@@ -1,0 +1,8 @@
+-- Laws that belong to no one function.
+pub mod FactorLaws
+pub mod LevelLaws
+pub mod PlainLaws
+pub mod SkipLaws
+pub mod WorkLaws
+pub mod LadderLaws
+pub mod BlockLaws

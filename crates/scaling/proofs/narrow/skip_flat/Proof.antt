@@ -1,0 +1,82 @@
+-- `scaling::narrow::skip_flat` meets its contract. The loop's invariant: the first i places hold their residuals, and the others are as lent.
+use mathlib.Core.Path.{_≡_}
+use Prim.Native.Nat.{_-_, _≤_}
+use native.Mathlib.Omega.{arith}
+use borrow.Author.Needs.{needs}
+use lib.IntN.{pos}
+use lib.ListN.{getD}
+use mir.Syntax.{w16, w32}
+use mir.Val.{SFits}
+use Rattle.integers.proofs.MachineLaws.{round-trip}
+use Rattle.integers.proofs.ListsLaws.{Stored, stored-none, stored-more, stored-length, stored-all}
+use Rattle.scaling.specs.Work.{flatResidualAt, flatAt}
+use Rattle.scaling.proofs.WorkLaws.{cast-as, cast-fits, flatResidualAt-fits}
+use Rattle.scaling.proofs.narrow.skip_flat.Statement.{statement}
+use Rattle.scaling.proofs.narrow.skip_flat.Tie as tie
+
+abbrev Inv-loop : tie.InvT-loop
+Inv-loop levels count by out₀ i₀ out i = Stored (flatResidualAt by levels) out₀ i out × (i ≤ count)
+
+abbrev μ-loop : tie.MeasureT-loop
+μ-loop levels count by out₀ i₀ out i = count - i
+
+loop-holds : tie.Need-loop-holds Inv-loop μ-loop
+loop-holds c = (stored-none, omega arith)
+
+mul-residual-flat : tie.Need-mul-residual-flat Inv-loop μ-loop
+mul-residual-flat c = search needs
+
+shared-slice-copy-out-residual-flat : tie.Need-shared-slice-copy-out-residual-flat Inv-loop μ-loop
+shared-slice-copy-out-residual-flat c = omega (arith, c .before .before .pre .1 .0)
+
+residual-flat-requires : tie.Need-residual-flat-requires Inv-loop μ-loop
+residual-flat-requires c κs = c .before .before .before .pre .0
+
+-- the level that was read, and what was worked out of it
+level-fits : (c : tie.After-residual-flat-arg Inv-loop μ-loop) → let l = c .before .before in SFits w32 (getD (l .before .args .levels .now) (l .loop .i) (pos 0))
+level-fits c = record { sfits = c .residual-flat-arg .given }
+
+value-is : (c : tie.After-residual-flat Inv-loop μ-loop)
+    → let l = c .before .before .before in let s = l .before in c .residual-flat .result ≡ flatResidualAt (s .args .by) (s .args .levels .now) (l .loop .i)
+unfolding flatResidualAt flatAt
+value-is c = rw (round-trip (level-fits (c .before))) at (c .residual-flat .ensures)
+
+value-fits : (c : tie.After-residual-flat Inv-loop μ-loop) → let l = c .before .before .before in let s = l .before in SFits w16 (flatResidualAt (s .args .by) (s .args .levels .now) (l .loop .i))
+value-fits c =
+    let l = c .before .before .before in
+    let s = l .before in
+    flatResidualAt-fits (s .args .levels .now) (l .loop .i) (s .args .by) (s .pre .1 .1 .0) (s .pre .1 .1 .1)
+
+cast-out : tie.Need-cast-out Inv-loop μ-loop
+cast-out c = cast-fits (value-is c) (value-fits c) w32 tt
+
+mul-t12 : tie.Need-mul-t12 Inv-loop μ-loop
+mul-t12 c = search needs
+
+slice-set-from-out : tie.Need-slice-set-from-out Inv-loop μ-loop
+slice-set-from-out c =
+    let l = c .before .before .before in
+    omega (arith, stored-length (l .loop .inv .0), l .before .pre .1 .0)
+
+add-i : tie.Need-add-i Inv-loop μ-loop
+add-i c = omega arith
+
+loop-less : tie.Need-loop-less Inv-loop μ-loop
+loop-less c = omega arith
+
+loop-again : tie.Need-loop-again Inv-loop μ-loop
+loop-again c =
+    let l = c .before .before .before in
+    (stored-more (l .loop .inv .0) (omega (arith, l .before .pre .1 .0)) (cast-as (value-is c) (value-fits c) w32 tt), omega arith)
+
+same-length : tie.Need-same-length Inv-loop μ-loop
+same-length c = stored-length (c .before .loop .inv .0)
+
+returns : tie.Need-returns Inv-loop μ-loop
+returns c = stored-all (c .before .loop .inv .0) (omega arith)
+
+pub skip-flat-spec : {M : Type 1} → statement M
+skip-flat-spec =
+    tie.close
+    (tie.spec
+    Inv-loop μ-loop loop-holds mul-residual-flat shared-slice-copy-out-residual-flat residual-flat-requires cast-out mul-t12 slice-set-from-out add-i loop-less loop-again same-length returns)

@@ -1,0 +1,7 @@
+pub mod Answers
+pub mod Factor
+pub mod Level
+pub mod Plain
+pub mod Skip
+pub mod Blocks
+pub mod Work

@@ -1,0 +1,57 @@
+// One level. Every product stays in 64 bits: a level is limited to 2^22 in size before it is scaled, and no factor reaches 2^35.
+ghost use mathlib.Core.Path.{_≡_};
+ghost use Rattle.integers.specs.Within.{Within};
+ghost use Rattle.scaling.specs.Answers.{levelOutcome};
+ghost use Rattle.scaling.specs.Level.{scaledLevel, levelBy, flatLevel, listedLevel, Manageable};
+use crate::LevelAnswer;
+use crate::ScaledLevel;
+use parameters::DequantAnswer;
+use parameters::DequantParams;
+use parameters::QpPrime;
+
+// A level scaled by a factor, with the rounding, the shift and the limits of a block.
+fn scaled(level: i32, factor: i64, by: DequantParams) -> ScaledLevel
+    requires { ⌜ Manageable by ⌝ }
+    requires { ⌜ Within 19251855360 factor ⌝ }
+    ensures { λ r. ⌜ r .value ≡ levelBy by factor level ⌝ }
+{
+    let limited = integers::clip3(by.clip_min, by.clip_max, level as i64);
+    let shifted = integers::shift_right(limited * factor + by.add, by.shift);
+    ScaledLevel {
+        value: integers::clip3(by.clip_min, by.clip_max, shifted) as i32,
+    }
+}
+
+// A level without a list.
+pub(crate) fn scaled_flat(level: i32, by: DequantParams) -> ScaledLevel
+    requires { ⌜ Manageable by ⌝ }
+    ensures { λ r. ⌜ r .value ≡ flatLevel by level ⌝ }
+{
+    scaled(level, by.factor, by)
+}
+
+// A level with the m of a list. The block's factor is 16 times what m is multiplied by.
+pub(crate) fn scaled_listed(level: i32, m: u8, by: DequantParams) -> ScaledLevel
+    requires { ⌜ Manageable by ⌝ }
+    ensures { λ r. ⌜ r .value ≡ listedLevel by m level ⌝ }
+{
+    scaled(level, integers::shift_right(by.factor, 4) * (m as i64), by)
+}
+
+// One level of a block, for every level, m and QP′.
+pub fn scale_level(
+    level: i32,
+    m: u8,
+    n: usize,
+    qp_prime: QpPrime,
+    bit_depth: u8,
+    extended_precision: bool,
+) -> LevelAnswer
+    ensures { λ r. ⌜ levelOutcome r ≡ scaledLevel level m n («qp_prime» .0) «bit_depth» «extended_precision» ⌝ }
+{
+    let found = parameters::dequant_params(n, qp_prime, bit_depth, extended_precision);
+    match found {
+        DequantAnswer::Params(by) => LevelAnswer::Level(scaled_listed(level, m, by)),
+        DequantAnswer::Refused(why) => LevelAnswer::Refused(why),
+    }
+}

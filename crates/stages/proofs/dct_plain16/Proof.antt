@@ -1,0 +1,45 @@
+-- `stages::dct_plain16` meets its contract: a block with one column and one row in use is filled with its one value, any other is worked out.
+use native.Mathlib.Omega.{arith}
+use Rattle.stages.proofs.PlainLaws.{size-bounds, blockAsk-columns, result-columns, rowsUsed-one}
+use borrow.Author.Needs.{needs}
+use Rattle.stages.proofs.dct_plain16.Statement.{statement}
+use Rattle.stages.proofs.dct_plain16.Tie as tie
+
+rows-used16-requires : tie.Need-rows-used16-requires
+rows-used16-requires c κs = (c .before .pre .1 .long, omega (arith, size-bounds (c .before .args .n) (c .before .pre .0)), size-bounds (c .before .args .n) (c .before .pre .0) .1)
+
+dc-fill16-requires : tie.Need-dc-fill16-requires
+dc-fill16-requires c κs = (
+  omega (arith, size-bounds (c .before .before .before .before .args .n) (c .before .before .before .before .pre .0)),
+  size-bounds (c .before .before .before .before .args .n) (c .before .before .before .before .pre .0) .1,
+  blockAsk-columns (c .before .before .before .if1 .taken) (c .before .before .before .before .pre .1),
+  c .before .before .before .before .pre .2,
+  rowsUsed-one (c .before .if2 .taken) (omega (arith, size-bounds (c .before .before .before .before .args .n) (c .before .before .before .before .pre .0))) (c .before .before .rows-used16 .ensures),
+)
+
+same-length : tie.Need-same-length
+same-length c = search needs
+
+returns : tie.Need-returns
+returns c = result-columns (c .before .before .before .before .before .before .args .n) _ _ _ _ (c .before .before .before .before .before .if1 .taken) (c .before .dc-fill16 .ensures)
+
+dct-sized16-requires : tie.Need-dct-sized16-requires
+dct-sized16-requires c κs = search needs
+
+same-length-2 : tie.Need-same-length-2
+same-length-2 c = search needs
+
+returns-2 : tie.Need-returns-2
+returns-2 c = search needs
+
+pub dct-plain16-spec : {M : Type 1} → statement M
+dct-plain16-spec =
+    tie.close
+    (tie.spec
+    rows-used16-requires
+    dc-fill16-requires
+    same-length
+    returns
+    dct-sized16-requires
+    same-length-2
+    returns-2)

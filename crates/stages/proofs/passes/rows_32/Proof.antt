@@ -1,0 +1,81 @@
+-- `stages::passes::rows_32` meets its contract: the rows passed hold their lines. The measure is what is left of the rows.
+use Prim.Native.Nat.{_≤_, _-_}
+use native.Mathlib.Omega.{arith}
+use Rattle.integers.specs.Shift.{roundShift}
+use Rattle.transform_1d.specs.Rows.{Filled}
+use Rattle.transform_1d.proofs.RowsLaws.{filled-zero, filled-all}
+use Rattle.stages.specs.Passes.{rowValue}
+use Rattle.stages.proofs.PassesLaws.{passAsk-line, passAsk-row, lineSums-halves, placed-mirror, filled-line}
+use Rattle.stages.proofs.passes.rows_32.Statement.{statement}
+use Rattle.stages.proofs.passes.rows_32.Tie as tie
+
+abbrev Inv-loop : tie.InvT-loop
+Inv-loop t x groups s out₀ m₀ out m = (m ≤ 32) × Filled 32 32 (rowValue t x 32 groups s) m out₀ out
+
+abbrev μ-loop : tie.MeasureT-loop
+μ-loop t x groups s out₀ m₀ out m = 32 - m
+
+loop-holds : tie.Need-loop-holds Inv-loop μ-loop
+loop-holds c = (omega arith, filled-zero)
+
+idct-raw-32-requires : tie.Need-idct-raw-32-requires Inv-loop μ-loop
+idct-raw-32-requires c κs = passAsk-line (c .before .before .pre .0) _ (omega arith)
+
+mul-put-rounded : tie.Need-mul-put-rounded Inv-loop μ-loop
+mul-put-rounded c = omega (arith, passAsk-row (c .before .before .before .before .pre .0) (c .before .before .before .loop .m) (omega arith))
+
+put-rounded-requires : tie.Need-put-rounded-requires Inv-loop μ-loop
+put-rounded-requires c κs =
+    (lineSums-halves (c .before .idct-raw-32 .ensures), omega arith, omega (arith, passAsk-row (c .before .before .before .before .pre .0) (c .before .before .before .loop .m) (omega arith), c .before .before .before .loop .inv .1 .long), c .before .before .before .before .pre .1, c .before .before .before .before .pre .2)
+
+mirror-requires : tie.Need-mirror-requires Inv-loop μ-loop
+mirror-requires c κs = lineSums-halves (c .before .before .before .idct-raw-32 .ensures)
+
+mul-put-rounded-2 : tie.Need-mul-put-rounded-2 Inv-loop μ-loop
+mul-put-rounded-2 c = omega (arith, passAsk-row (c .before .before .before .before .before .before .before .before .pre .0) (c .before .before .before .before .before .before .before .loop .m) (omega arith))
+
+add-put-rounded : tie.Need-add-put-rounded Inv-loop μ-loop
+add-put-rounded c = omega (arith, passAsk-row (c .before .before .before .before .before .before .before .before .pre .0) (c .before .before .before .before .before .before .before .loop .m) (omega arith))
+
+put-rounded-requires-2 : tie.Need-put-rounded-requires-2 Inv-loop μ-loop
+put-rounded-requires-2 c κs =
+    (c .before .mirror .ensures .0, omega arith, omega (arith, passAsk-row (c .before .before .before .before .before .before .before .before .pre .0) (c .before .before .before .before .before .before .before .loop .m) (omega arith), c .before .before .before .before .before .before .before .loop .inv .1 .long, c .before .before .before .put-rounded .ensures .long), c .before .before .before .before .before .before .before .before .pre .1, c .before .before .before .before .before .before .before .before .pre .2)
+
+add-m : tie.Need-add-m Inv-loop μ-loop
+add-m c = omega arith
+
+loop-less : tie.Need-loop-less Inv-loop μ-loop
+loop-less c = omega arith
+
+loop-again : tie.Need-loop-again Inv-loop μ-loop
+loop-again c = (
+  omega arith,
+  filled-line (λ x. roundShift x (c .before .before .before .before .before .before .before .before .before .before .args .s)) (omega arith) (c .before .before .before .before .before .before .before .idct-raw-32 .ensures) (c .before .before .before .before .before .before .before .before .before .loop .inv .1)
+      (placed-mirror (λ x. roundShift x (c .before .before .before .before .before .before .before .before .before .before .args .s)) _ _ (c .before .before .before .mirror .ensures .1) (c .before .before .before .before .before .put-rounded .ensures) (c .before .put-rounded2 .ensures)),
+)
+
+same-length : tie.Need-same-length Inv-loop μ-loop
+same-length c = c .before .loop .inv .1 .long
+
+returns : tie.Need-returns Inv-loop μ-loop
+returns c = filled-all _ (omega arith) (c .before .loop .inv .1)
+
+pub rows-32-spec : {M : Type 1} → statement M
+rows-32-spec =
+    tie.close
+    (tie.spec
+    Inv-loop
+    μ-loop
+    loop-holds
+    idct-raw-32-requires
+    mul-put-rounded
+    put-rounded-requires
+    mirror-requires
+    mul-put-rounded-2
+    add-put-rounded
+    put-rounded-requires-2
+    add-m
+    loop-less
+    loop-again
+    same-length
+    returns)

@@ -1,0 +1,176 @@
+// One stage of a block: lines over columns of 16-bit data, stored as rows. The intermediate stands transposed, so that both stages
+// read columns. Sizes are literals: with a size that is known only at run time a block takes half as long again.
+ghost use mathlib.Core.Path.{_≡_};
+ghost use Prim.Native.Nat.{ℕ, _<_, _≤_};
+ghost use lib.ListN.{length};
+ghost use mir.Syntax.{w16};
+ghost use mir.Val.{SFits};
+ghost use Rattle.transform_1d.specs.Rows.{Filled};
+ghost use Rattle.stages.specs.Passes.{PassAsk, columnValue, rowValue};
+use crate::finish::mirror;
+use crate::finish::put_clipped;
+use crate::finish::put_rounded;
+use crate::finish::put_rounded16;
+use transform_1d::idct_raw_4;
+use transform_1d::idct_raw_8;
+use transform_1d::idct_raw_16;
+use transform_1d::idct_raw_32;
+
+// Stage one at size 4: column c of x becomes row c of d, for c < nx.
+pub fn columns_4(t: &[i16], x: &[i16], nx: usize, groups: usize, d: &mut [i16])
+    requires { ⌜ PassAsk 4 (now t) (now x) nx groups (length (now d)) ⌝ }
+    ensures { λ _. ⌜ Filled 4 4 (columnValue (now (t .entry)) (now (x .entry)) 4 groups) nx (now (d .entry)) (now (d .exit)) ⌝ }
+{
+    let mut c: usize = 0;
+    while c < nx {
+        let z = idct_raw_4(t, x, c, 4, groups);
+        put_clipped(z, 4, d, c * 4);
+        c += 1;
+    }
+}
+
+// Stage two at size 4: column m of x, which is row m of the intermediate, becomes row m of out.
+pub fn rows_4(t: &[i16], x: &[i16], groups: usize, s: u32, out: &mut [i32])
+    requires { ⌜ PassAsk 4 (now t) (now x) 4 groups (length (now out)) × (0 < s) × (s ≤ 12) ⌝ }
+    ensures { λ _. ⌜ Filled 4 4 (rowValue (now (t .entry)) (now (x .entry)) 4 groups s) 4 (now (out .entry)) (now (out .exit)) ⌝ }
+{
+    let mut m: usize = 0;
+    while m < 4 {
+        let z = idct_raw_4(t, x, m, 4, groups);
+        put_rounded(z, 4, s, out, m * 4);
+        m += 1;
+    }
+}
+
+// Stage two at size 4, for values that fit 16 bits.
+pub fn rows16_4(t: &[i16], x: &[i16], groups: usize, s: u32, out: &mut [i16])
+    requires { ⌜ PassAsk 4 (now t) (now x) 4 groups (length (now out)) × (0 < s) × (s ≤ 12) × ((m j : ℕ) → m < 4 → j < 4 → SFits w16 (rowValue (now t) (now x) 4 groups s m j)) ⌝ }
+    ensures { λ _. ⌜ Filled 4 4 (rowValue (now (t .entry)) (now (x .entry)) 4 groups s) 4 (now (out .entry)) (now (out .exit)) ⌝ }
+{
+    let mut m: usize = 0;
+    while m < 4 {
+        let z = idct_raw_4(t, x, m, 4, groups);
+        put_rounded16(z, 4, s, out, m * 4);
+        m += 1;
+    }
+}
+
+// Stage one at size 8: column c of x becomes row c of d, for c < nx.
+pub fn columns_8(t: &[i16], x: &[i16], nx: usize, groups: usize, d: &mut [i16])
+    requires { ⌜ PassAsk 8 (now t) (now x) nx groups (length (now d)) ⌝ }
+    ensures { λ _. ⌜ Filled 8 8 (columnValue (now (t .entry)) (now (x .entry)) 8 groups) nx (now (d .entry)) (now (d .exit)) ⌝ }
+{
+    let mut c: usize = 0;
+    while c < nx {
+        let z = idct_raw_8(t, x, c, 8, groups);
+        put_clipped(z, 8, d, c * 8);
+        c += 1;
+    }
+}
+
+// Stage two at size 8: column m of x, which is row m of the intermediate, becomes row m of out.
+pub fn rows_8(t: &[i16], x: &[i16], groups: usize, s: u32, out: &mut [i32])
+    requires { ⌜ PassAsk 8 (now t) (now x) 8 groups (length (now out)) × (0 < s) × (s ≤ 12) ⌝ }
+    ensures { λ _. ⌜ Filled 8 8 (rowValue (now (t .entry)) (now (x .entry)) 8 groups s) 8 (now (out .entry)) (now (out .exit)) ⌝ }
+{
+    let mut m: usize = 0;
+    while m < 8 {
+        let z = idct_raw_8(t, x, m, 8, groups);
+        put_rounded(z, 8, s, out, m * 8);
+        m += 1;
+    }
+}
+
+// Stage two at size 8, for values that fit 16 bits.
+pub fn rows16_8(t: &[i16], x: &[i16], groups: usize, s: u32, out: &mut [i16])
+    requires { ⌜ PassAsk 8 (now t) (now x) 8 groups (length (now out)) × (0 < s) × (s ≤ 12) × ((m j : ℕ) → m < 8 → j < 8 → SFits w16 (rowValue (now t) (now x) 8 groups s m j)) ⌝ }
+    ensures { λ _. ⌜ Filled 8 8 (rowValue (now (t .entry)) (now (x .entry)) 8 groups s) 8 (now (out .entry)) (now (out .exit)) ⌝ }
+{
+    let mut m: usize = 0;
+    while m < 8 {
+        let z = idct_raw_8(t, x, m, 8, groups);
+        put_rounded16(z, 8, s, out, m * 8);
+        m += 1;
+    }
+}
+
+// Stage one at size 16: column c of x becomes row c of d, for c < nx.
+pub fn columns_16(t: &[i16], x: &[i16], nx: usize, groups: usize, d: &mut [i16])
+    requires { ⌜ PassAsk 16 (now t) (now x) nx groups (length (now d)) ⌝ }
+    ensures { λ _. ⌜ Filled 16 16 (columnValue (now (t .entry)) (now (x .entry)) 16 groups) nx (now (d .entry)) (now (d .exit)) ⌝ }
+{
+    let mut c: usize = 0;
+    while c < nx {
+        let z = idct_raw_16(t, x, c, 16, groups);
+        put_clipped(z, 16, d, c * 16);
+        c += 1;
+    }
+}
+
+// Stage two at size 16: column m of x, which is row m of the intermediate, becomes row m of out.
+pub fn rows_16(t: &[i16], x: &[i16], groups: usize, s: u32, out: &mut [i32])
+    requires { ⌜ PassAsk 16 (now t) (now x) 16 groups (length (now out)) × (0 < s) × (s ≤ 12) ⌝ }
+    ensures { λ _. ⌜ Filled 16 16 (rowValue (now (t .entry)) (now (x .entry)) 16 groups s) 16 (now (out .entry)) (now (out .exit)) ⌝ }
+{
+    let mut m: usize = 0;
+    while m < 16 {
+        let z = idct_raw_16(t, x, m, 16, groups);
+        put_rounded(z, 16, s, out, m * 16);
+        m += 1;
+    }
+}
+
+// Stage two at size 16, for values that fit 16 bits.
+pub fn rows16_16(t: &[i16], x: &[i16], groups: usize, s: u32, out: &mut [i16])
+    requires { ⌜ PassAsk 16 (now t) (now x) 16 groups (length (now out)) × (0 < s) × (s ≤ 12) × ((m j : ℕ) → m < 16 → j < 16 → SFits w16 (rowValue (now t) (now x) 16 groups s m j)) ⌝ }
+    ensures { λ _. ⌜ Filled 16 16 (rowValue (now (t .entry)) (now (x .entry)) 16 groups s) 16 (now (out .entry)) (now (out .exit)) ⌝ }
+{
+    let mut m: usize = 0;
+    while m < 16 {
+        let z = idct_raw_16(t, x, m, 16, groups);
+        put_rounded16(z, 16, s, out, m * 16);
+        m += 1;
+    }
+}
+
+// Stage one at size 32: column c of x becomes row c of d, for c < nx.
+pub fn columns_32(t: &[i16], x: &[i16], nx: usize, groups: usize, d: &mut [i16])
+    requires { ⌜ PassAsk 32 (now t) (now x) nx groups (length (now d)) ⌝ }
+    ensures { λ _. ⌜ Filled 32 32 (columnValue (now (t .entry)) (now (x .entry)) 32 groups) nx (now (d .entry)) (now (d .exit)) ⌝ }
+{
+    let mut c: usize = 0;
+    while c < nx {
+        let z = idct_raw_32(t, x, c, 32, groups);
+        put_clipped(z, 16, d, c * 32);
+        put_clipped(mirror(z), 16, d, c * 32 + 16);
+        c += 1;
+    }
+}
+
+// Stage two at size 32: column m of x, which is row m of the intermediate, becomes row m of out.
+pub fn rows_32(t: &[i16], x: &[i16], groups: usize, s: u32, out: &mut [i32])
+    requires { ⌜ PassAsk 32 (now t) (now x) 32 groups (length (now out)) × (0 < s) × (s ≤ 12) ⌝ }
+    ensures { λ _. ⌜ Filled 32 32 (rowValue (now (t .entry)) (now (x .entry)) 32 groups s) 32 (now (out .entry)) (now (out .exit)) ⌝ }
+{
+    let mut m: usize = 0;
+    while m < 32 {
+        let z = idct_raw_32(t, x, m, 32, groups);
+        put_rounded(z, 16, s, out, m * 32);
+        put_rounded(mirror(z), 16, s, out, m * 32 + 16);
+        m += 1;
+    }
+}
+
+// Stage two at size 32, for values that fit 16 bits.
+pub fn rows16_32(t: &[i16], x: &[i16], groups: usize, s: u32, out: &mut [i16])
+    requires { ⌜ PassAsk 32 (now t) (now x) 32 groups (length (now out)) × (0 < s) × (s ≤ 12) × ((m j : ℕ) → m < 32 → j < 32 → SFits w16 (rowValue (now t) (now x) 32 groups s m j)) ⌝ }
+    ensures { λ _. ⌜ Filled 32 32 (rowValue (now (t .entry)) (now (x .entry)) 32 groups s) 32 (now (out .entry)) (now (out .exit)) ⌝ }
+{
+    let mut m: usize = 0;
+    while m < 32 {
+        let z = idct_raw_32(t, x, m, 32, groups);
+        put_rounded16(z, 16, s, out, m * 32);
+        put_rounded16(mirror(z), 16, s, out, m * 32 + 16);
+        m += 1;
+    }
+}

@@ -1,0 +1,4 @@
+pub mod MatrixOf
+pub mod Lanes
+pub mod Kernel
+pub mod Rows
