@@ -1,4 +1,5 @@
 -- The search for a coefficient outside the range, row by row.
+--   firstOutside-inside   what a search that found none says of each place
 --   outsideAt-row       the test at row k and column c
 --   none-part, none-row   a part of a row without one, and a whole row
 use mathlib.Core.Path.{_≡_, refl, sym, ap, ap₂, _∙_}
@@ -6,7 +7,7 @@ use mathlib.Core.Bool.{Bool, true, false, _&&_}
 use mathlib.Core.List.{List}
 use mathlib.Core.Logic.{⊎-elim}
 use Prim.Native.Nat.{ℕ, zero, suc, _+_, _*_, _-_, _/_, _%_, min, _≤_, _<_}
-use native.Mathlib.Nat.{div-add-mod', mod-lt, suc-mul}
+use native.Mathlib.Nat.{suc-mul, lt-of-lt-of-le}
 use native.Mathlib.Numerals.{add-one}
 use native.Mathlib.Decide.{decLt}
 use native.Mathlib.Omega.{arith}
@@ -15,9 +16,9 @@ use lib.Arith.{digits-mod, digits-lt}
 use lib.Dec.{ltb}
 use lib.IntN.{ℤ, pos}
 use lib.ListN.{getD}
-use Rattle.integers.proofs.SearchLaws.{None}
+use Rattle.integers.proofs.SearchLaws.{None, First, firstWhere-first}
 use Rattle.h265.specs.Range.{outsideRange}
-use Rattle.coefficients.specs.Outside.{outsideAt}
+use Rattle.coefficients.specs.Outside.{outsideAt, firstOutside}
 
 module _ (r n nx : ℕ) (xs : List ℤ) where
   -- a column that is read
@@ -62,3 +63,11 @@ module _ (r n nx : ℕ) (xs : List ℤ) where
                 let s : (k + 1) * n ≡ k * n + n = ap (λ (j : ℕ). j * n) (add-one k) ∙ suc-mul k n in
                 rw (← e) (in-row (i - k * n) (omega arith))
           ]
+
+-- where the search passed the block, every coefficient that is read lies in the range
+pub firstOutside-inside : (r n nx : ℕ) (xs : List ℤ) → nx ≤ n → n * n ≤ firstOutside r n nx xs
+    → (k c : ℕ) → k < n → c < nx → outsideRange r (getD xs (k * n + c) (pos 0)) ≡ false
+unfolding firstOutside
+firstOutside-inside r n nx xs l h k c hk hc =
+    sym (outsideAt-row r n nx xs k c hc l)
+    ∙ firstWhere-first (n * n) (outsideAt r n nx xs) .before .at (k * n + c) (lt-of-lt-of-le (digits-lt {q = k} {m = n} {r = c} {c = n} hk (omega arith)) h)

@@ -1,0 +1,9 @@
+-- Laws of this crate's definitions; each file builds only on those above it.
+pub mod PartsLaws
+pub mod ScanLaws
+pub mod JoinLaws
+pub mod PassLaws
+pub mod StageLaws
+pub mod ColumnLaws
+pub mod LayoutLaws
+pub mod ResultLaws

@@ -1,0 +1,132 @@
+-- Laws that bring both stages to the standard's definitions.
+--   intermediate-cong, stageTwo-cong   stages by matrices and data that agree
+
+--   limited-intermediate               stage one's transposed values, limited as stage two reads them, are the intermediate
+--   filled-stages                      both stages of a block
+--   filled-residual                    coefficients in the range need no limit: the residual
+--   filled-dct, filled-dst, layoutOf-kind-…   a kind of transform by its matrix
+--   depth-shift, stagesAsk-size        what a depth and a range make of the shift; a size by another name
+use mathlib.Core.Path.{_≡_, refl, sym, ap, ap₂, _∙_, subst}
+use mathlib.Core.Bool.{Bool, true, false, cond}
+use mathlib.Core.List.{List}
+use Prim.Native.Nat.{ℕ, zero, suc, _+_, _*_, _-_, _/_, _^_, _≤_, _<_}
+use native.Mathlib.Decide.{decLt}
+use native.Mathlib.Omega.{arith}
+use borrow.Author.Tests.{lt-ltb, le-ltb}
+use lib.Dec.{T}
+use lib.IntN.{ℤ, pos, _*ℤ_}
+use lib.ListN.{length, getD}
+use Rattle.integers.specs.Lists.{overwrite}
+use Rattle.integers.specs.Shift.{shiftRight, roundShift}
+use Rattle.integers.proofs.LinearLaws.{split, ring, diff-ext}
+use Rattle.integers.proofs.SumLaws.{sum-none}
+use Rattle.h265.specs.Matrix.{transMatrix, dstMatrix}
+use Rattle.h265.specs.Range.{clipCoeff}
+use Rattle.h265.specs.Transform.{transformLine, blockAt, rowOrder, columnsRead, stageOneSum, stageOneValue, intermediate, stageTwoSum, stageTwoShift, stageTwo, residual}
+use Rattle.h265.proofs.RangeLaws.{clipCoeff-id}
+use Rattle.transform_1d.specs.Lanes.{laneMatrix}
+use Rattle.transform_1d.specs.MatrixOf.{matrixOf}
+use Rattle.transform_1d.specs.Rows.{Filled}
+use Rattle.transform_1d.specs.declared.Kind.{Kind}
+use Rattle.transform_1d.specs.declared.Kind.the-variants.{Dct, Dst}
+use Rattle.transform_1d.proofs.RowsLaws.{row-unique, filled-overwrite}
+use Rattle.transform_1d.proofs.MatrixLaws.{transformLine-cong}
+use Rattle.stages_wide.specs.Wide.{limitedBlock, WideAsk, DepthAsk, CoeffsInRange}
+use Rattle.stages_wide.specs.Parts.{limitedAt, LayoutOf, StagesAsk, Zeros, bothStages}
+use Rattle.stages_wide.proofs.StageLaws.{filled-cong}
+
+module _ (t u : ℕ → ℕ → ℤ) (n : ℕ) where
+  pub intermediate-cong : (r : ℕ) (d e : ℕ → ℕ → ℤ) (m c : ℕ) → ((k : ℕ) → k < n → t k m ≡ u k m) → ((k : ℕ) → k < n → d k c ≡ e k c)
+      → intermediate t n r d m c ≡ intermediate u n r e m c
+  unfolding intermediate stageOneValue stageOneSum
+  intermediate-cong r d e m c h k = ap (λ (z : ℤ). clipCoeff r (roundShift z 7)) (transformLine-cong t u n (λ i. d i c) (λ i. e i c) m h k)
+
+  pub stageTwo-cong : (s : ℕ) (f g : ℕ → ℕ → ℤ) (m j : ℕ) → ((k : ℕ) → k < n → t k j ≡ u k j) → ((c : ℕ) → c < n → f m c ≡ g m c)
+      → stageTwo t n s f m j ≡ stageTwo u n s g m j
+  unfolding stageTwo stageTwoSum
+  stageTwo-cong s f g m j h k = ap (λ (z : ℤ). roundShift z s) (transformLine-cong t u n (λ c. f m c) (λ c. g m c) j h k)
+
+columnsRead-in : (nx : ℕ) (d : ℕ → ℕ → ℤ) (k c : ℕ) → c < nx → columnsRead nx d k c ≡ d k c
+unfolding columnsRead
+columnsRead-in nx d k c h = rw (lt-ltb c nx h)
+
+columnsRead-past : (nx : ℕ) (d : ℕ → ℕ → ℤ) (k c : ℕ) → nx ≤ c → columnsRead nx d k c ≡ pos 0
+unfolding columnsRead
+columnsRead-past nx d k c h = rw (le-ltb c nx h)
+
+-- a column of zeros stays zero before the limit
+intermediate-zero : (t : ℕ → ℕ → ℤ) (n r : ℕ) (d : ℕ → ℕ → ℤ) (m c : ℕ) → ((k : ℕ) → k < n → d k c ≡ pos 0) → intermediate t n r d m c ≡ clipCoeff r (pos 0)
+unfolding intermediate stageOneValue stageOneSum transformLine roundShift shiftRight
+intermediate-zero t n r d m c h =
+    ap (λ (z : ℤ). clipCoeff r (roundShift z 7)) (sum-none n (λ k. t k m *ℤ d k c) (λ k i. ap (λ (z : ℤ). t k m *ℤ z) (h k i) ∙ times-zero (t k m)))
+  where
+    times-zero : (a : ℤ) → a *ℤ pos 0 ≡ pos 0
+    times-zero a = rw (← split a) (simp ring (diff-ext _ _ _ _ (omega arith)))
+
+module _ {t : ℕ → ℕ → ℤ} {n : ℕ} {xs : List ℤ} (l : LayoutOf t n xs) {nx : ℕ} (r : ℕ) (d : ℕ → ℕ → ℤ) {g₀ g : List ℤ} (z : Zeros g₀)
+    (f : Filled n n (λ c m. stageOneValue (laneMatrix xs) n d m c) nx g₀ g) where
+  pub limited-intermediate : (m c : ℕ) → m < n → c < n → limitedAt r g (c * n + m) ≡ intermediate t n r (columnsRead nx d) m c
+  unfolding intermediate
+  limited-intermediate m c i j =
+      elim (decLt c nx) [
+        | yes y ↦ ap (clipCoeff r) (f .done c m y i)
+            ∙ intermediate-cong (laneMatrix xs) t n r d (columnsRead nx d) m c (λ k b. l .reads k m b i) (λ k b. sym (columnsRead-in nx d k c y))
+        | no e ↦ ap (clipCoeff r) (f .kept (c * n + m) (λ k b a h q. e (subst (λ (v : ℕ). v < nx) (sym (row-unique n c k m b i h q)) a)) ∙ z .at (c * n + m))
+            ∙ sym (intermediate-zero t n r (columnsRead nx d) m c (λ k b. columnsRead-past nx d k c (omega arith)))
+      ]
+
+  pub filled-stages : (s : ℕ) {out₀ out : List ℤ} → Filled n n (stageTwo (laneMatrix xs) n s (λ m c. limitedAt r g (c * n + m))) n out₀ out
+      → Filled n n (stageTwo t n s (intermediate t n r (columnsRead nx d))) n out₀ out
+  filled-stages s p =
+      filled-cong
+      (λ m j i b. stageTwo-cong (laneMatrix xs) t n s (λ m c. limitedAt r g (c * n + m)) (intermediate t n r (columnsRead nx d)) m j
+      (λ k a. l .reads k j a b) (λ c a. limited-intermediate m c i a)) p
+
+pub filled-residual : (t : ℕ → ℕ → ℤ) (n b r nx : ℕ) (xs : List ℤ) {out₀ out : List ℤ} → 0 < n → CoeffsInRange r n nx xs → n * n ≤ length out₀
+    → Filled n n (bothStages t n (r + 5 - b) r nx xs) n out₀ out → out ≡ overwrite (n * n) (rowOrder n (residual t n b r nx xs)) out₀
+unfolding residual stageTwoShift blockAt
+filled-residual t n b r nx xs {out₀} {out} h a w p =
+    filled-overwrite n h
+    (filled-cong
+    (λ m j i e. stageTwo-cong t t n (r + 5 - b) _ _ m j (λ k q. refl)
+    (λ c q. intermediate-cong t t n r (columnsRead nx (limitedBlock r n xs)) (columnsRead nx (blockAt n xs)) m c (λ k v. refl) (λ k v. same k c v)))
+    p) w
+  where
+    same : (k c : ℕ) → k < n → columnsRead nx (limitedBlock r n xs) k c ≡ columnsRead nx (blockAt n xs) k c
+    same k c v =
+        elim (decLt c nx) [
+          | yes y ↦ columnsRead-in nx (limitedBlock r n xs) k c y ∙ clipCoeff-id r (getD xs (k * n + c) (pos 0)) (a .at k c v y .0) (a .at k c v y .1) ∙ sym (columnsRead-in nx (blockAt n xs) k c y)
+          | no e ↦ columnsRead-past nx (limitedBlock r n xs) k c (omega arith) ∙ sym (columnsRead-past nx (blockAt n xs) k c (omega arith))
+        ]
+
+module _ {kind : Kind} {n m : ℕ} (s r nx : ℕ) (xs : List ℤ) {out₀ out : List ℤ} (e : n ≡ m) where
+  pub filled-dct : kind ≡ Dct → Filled m m (bothStages (transMatrix m) m s r nx xs) m out₀ out → Filled n n (bothStages (matrixOf kind n) n s r nx xs) n out₀ out
+  unfolding matrixOf
+  filled-dct k p =
+      subst (λ (κ : Kind). Filled n n (bothStages (matrixOf κ n) n s r nx xs) n out₀ out) (sym k)
+      (subst (λ (i : ℕ). Filled i i (bothStages (transMatrix i) i s r nx xs) i out₀ out) (sym e) p)
+
+  pub filled-dst : kind ≡ Dst → Filled m m (bothStages dstMatrix m s r nx xs) m out₀ out → Filled n n (bothStages (matrixOf kind n) n s r nx xs) n out₀ out
+  unfolding matrixOf
+  filled-dst k p =
+      subst (λ (κ : Kind). Filled n n (bothStages (matrixOf κ n) n s r nx xs) n out₀ out) (sym k)
+      (subst (λ (i : ℕ). Filled i i (bothStages dstMatrix i s r nx xs) i out₀ out) (sym e) p)
+
+module _ {kind : Kind} {n : ℕ} {xs : List ℤ} where
+  pub layoutOf-kind-dct : kind ≡ Dct → LayoutOf (transMatrix n) n xs → LayoutOf (matrixOf kind n) n xs
+  unfolding matrixOf
+  layoutOf-kind-dct k l = subst (λ (κ : Kind). LayoutOf (matrixOf κ n) n xs) (sym k) l
+
+  pub layoutOf-kind-dst : kind ≡ Dst → n ≡ 4 → LayoutOf dstMatrix 4 xs → LayoutOf (matrixOf kind n) n xs
+  unfolding matrixOf
+  layoutOf-kind-dst k e l =
+      subst (λ (κ : Kind). LayoutOf (matrixOf κ n) n xs) (sym k) (subst (λ (i : ℕ). LayoutOf dstMatrix i xs) (sym e) l)
+
+pub depth-shift : {b r : ℕ} → DepthAsk b r → (4 ≤ r + 5 - b) × (r + 5 - b ≤ 12)
+depth-shift a = (a .below, omega (arith, a .above))
+
+pub stagesAsk-size : {kind : Kind} {n m b r nx sourceLength targetLength : ℕ} {xs : List ℤ}
+    → n ≡ m → WideAsk kind n r sourceLength targetLength → DepthAsk b r → CoeffsInRange r n nx xs → StagesAsk m (r + 5 - b) r nx sourceLength targetLength
+stagesAsk-size {b = b} {r} {nx} {sourceLength} {targetLength} e w d c =
+    subst (λ (i : ℕ). StagesAsk i (r + 5 - b) r nx sourceLength targetLength) e
+    record { least = depth-shift d .0; most = depth-shift d .1; range = w .most; columns = c .columns; source = w .source; room = w .room }

@@ -1,0 +1,70 @@
+-- `stages_wide::blocks::second_stage` meets its contract: a pass over the parts of a transposed block, whose groups of zero rows are left out.
+use borrow.Author.Needs.{needs}
+use mathlib.Core.Path.{_≡_, refl}
+use Prim.Native.Nat.{ℕ, _+_, _*_, _/_, _≤_, _<_}
+use native.Mathlib.Nat.{mul-le-mul-right}
+use native.Mathlib.Omega.{arith}
+use lib.ListN.{length}
+use Rattle.h265.specs.Transform.{stageTwoSum, stageTwo}
+use Rattle.stages_wide.specs.Parts.{limitedAt}
+use Rattle.stages_wide.proofs.StageLaws.{PartsOf, skipped-zeroFrom, partsOf-ask, partsOf-transposed, passValue-line, filled-cong}
+use Rattle.stages_wide.proofs.ScanLaws.{square-most}
+use Rattle.stages_wide.proofs.blocks.second_stage.Statement.{statement}
+use Rattle.stages_wide.proofs.blocks.second_stage.Tie as tie
+
+mul-split-run : tie.Need-mul-split-run
+mul-split-run c = omega (arith, square-most (c .args .n) (c .pre .0 .size))
+
+split-run-requires : tie.Need-split-run-requires
+split-run-requires c κs = search needs
+
+groups-used-requires : tie.Need-groups-used-requires
+groups-used-requires c κs = search needs
+
+groups-used-requires-2 : tie.Need-groups-used-requires-2
+groups-used-requires-2 c κs = search needs
+
+parts : (c : tie.After-split-run)
+    → PartsOf (λ m x. limitedAt (c .before .before .before .args .range) (c .before .before .before .args .g .now) (x * c .before .before .before .args .n + m)) (c .before .before .before .args .n) (c .before .before .before .args .n) 1 (c .before .before .before .args .n)
+    (c .split-run .last .1 .1 .1 .1 .0) (c .split-run .last .1 .1 .1 .1 .1 .0)
+parts c =
+    let a = c .before .before .before .pre in
+    partsOf-transposed (c .before .before .before .args .range) (c .before .before .before .args .g .now) (a .0 .range) (a .0 .highs) (a .0 .lows) (c .split-run .ensures .0) (c .split-run .ensures .1)
+
+pass-requires : tie.Need-pass-requires
+pass-requires c κs =
+    let a = c .before .before .before .before .before .before .before .before .before .before .before .before .pre in
+    partsOf-ask (parts (c .before .before .before .before .before .before .before .before .before)) (a .0 .layout) (a .0 .size)
+    (skipped-zeroFrom (omega arith) (c .before .before .before .before .before .groups-used .ensures)) (skipped-zeroFrom (omega arith) (c .before .before .before .groups-used2 .ensures))
+    (a .1) (a .2) (omega arith) (a .0 .room)
+
+same-length : tie.Need-same-length
+same-length c = search needs
+
+same-length-2 : tie.Need-same-length-2
+same-length-2 c = search needs
+
+same-length-3 : tie.Need-same-length-3
+same-length-3 c = search needs
+
+returns : tie.Need-returns
+unfolding stageTwo stageTwoSum
+returns c =
+    filled-cong
+    (λ k j i m. passValue-line (parts (c .before .before .before .before .before .before .before .before .before .before .before)) (c .before .before .before .before .before .before .before .before .before .before .before .before .before .before .args .t .now) (c .before .before .before .before .before .before .before .groups-used .result) (c .before .before .before .before .before .groups-used2 .result) (c .before .before .before .before .before .before .before .before .before .before .before .before .before .before .args .shift) k j
+    (skipped-zeroFrom (omega arith) (c .before .before .before .before .before .before .before .groups-used .ensures)) (skipped-zeroFrom (omega arith) (c .before .before .before .before .before .groups-used2 .ensures)) i)
+    (c .before .pass .ensures)
+
+pub second-stage-spec : {M : Type 1} → statement M
+second-stage-spec =
+    tie.close
+    (tie.spec
+    mul-split-run
+    split-run-requires
+    groups-used-requires
+    groups-used-requires-2
+    pass-requires
+    same-length
+    same-length-2
+    same-length-3
+    returns)

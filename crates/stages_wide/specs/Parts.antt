@@ -1,0 +1,111 @@
+-- A value of up to 23 bits as two parts of 16 bits, so that the 16-bit lines serve every range: x = 32768 × h + l.
+--   highPart, lowPart x    h = (x + 16384) >> 15, and l = x - 32768 × h
+--   joinParts h l          32768 × h + l
+--   limitedAt r xs i       place i of xs, limited to the range
+--   partsSum               a line over both parts: 32768 × the line over the high parts + the line over the low parts
+--   partsOutput            the same of the sums that two lines give
+--   Layout t n             t is a layout for n points: its length, and its small entries
+--   Sums z                 the sums of a line, with room for those of two halves; HighSums: and outputs of high parts are small
+--   PassAsk                what a pass over lines asks: line c reads places c × lead, c × lead + stride, .. of h and l, and no high
+--                          part there is above 128 in size, as for x of at most 2^22
+--   passValue              output j of line c, rounded
+--   ZeroFrom q n x         rows from 4 × q on of an n × n block are zero
+--   ColumnPlaced           ys is xs with f 0, .., f (m - 1) down column c
+--   Zeros x                every place of x is zero
+--   StageAsk               what a stage of a block asks of its layout, its range, and the lengths of its source, its buffers and its target
+--   LayoutOf t n xs        xs is a layout that reads back as the n-point matrix t
+--   StagesAsk              what both stages of a block ask of their shift, range, column count and lengths
+--   bothStages             the residual by a matrix, for a shift, of coefficients that are limited as they are read
+use mathlib.Core.Path.{_≡_}
+use mathlib.Core.List.{List}
+use Prim.Native.Nat.{ℕ, _+_, _*_, _/_, _^_, _<_, _≤_}
+use lib.Dec.{T}
+use lib.IntN.{ℤ, pos, _+ℤ_, _-ℤ_, _*ℤ_}
+use lib.ListN.{getD, length}
+use Rattle.integers.specs.Shift.{shiftRight, roundShift}
+use Rattle.integers.specs.Within.{Within}
+use Rattle.h265.specs.Range.{clipCoeff, isSize}
+use Rattle.h265.specs.Transform.{columnsRead, intermediate, stageTwo}
+use Rattle.transform_1d.specs.Lanes.{laneMatrix, lineSum, laneOutput, SmallEntries}
+use Rattle.stages_wide.specs.Wide.{limitedBlock}
+
+unfoldable pub highPart : ℤ → ℤ
+highPart x = shiftRight (x +ℤ pos 16384) 15
+
+unfoldable pub lowPart : ℤ → ℤ
+lowPart x = x -ℤ pos 32768 *ℤ highPart x
+
+abbrev pub joinParts : ℤ → ℤ → ℤ
+joinParts h l = pos 32768 *ℤ h +ℤ l
+
+abbrev pub limitedAt : ℕ → List ℤ → ℕ → ℤ
+limitedAt r xs i = clipCoeff r (getD xs i (pos 0))
+
+abbrev pub partsSum : List ℤ → List ℤ → List ℤ → ℕ → ℕ → ℕ → ℕ → ℕ → ℤ
+partsSum t h l base stride hg lg j = joinParts (lineSum t h base stride hg j) (lineSum t l base stride lg j)
+
+abbrev pub partsOutput : List ℤ → List ℤ → ℕ → ℕ → ℤ
+partsOutput zh zl s j = roundShift (joinParts (laneOutput zh j) (laneOutput zl j)) s
+
+pub record Layout (t : List ℤ) (n : ℕ) : Type 0 where
+  pub long : 16 * n ≤ length t
+  pub small : SmallEntries t
+
+pub record Sums (z : List ℤ) : Type 0 where
+  pub at : (p : ℕ) → p < 32 → Within (2 ^ 26) (getD z p (pos 0))
+
+pub record HighSums (z : List ℤ) : Type 0 where
+  pub sums : Sums z
+  pub output : (j : ℕ) → j < 32 → Within (2 ^ 19) (laneOutput z j)
+
+pub record PassAsk (n : ℕ) (t h l : List ℤ) (lines lead stride hg lg s outLength : ℕ) : Type 0 where
+  pub layout : Layout t n
+  pub size : T (isSize n)
+  pub highs : 4 * hg ≤ n
+  pub lows : 4 * lg ≤ n
+  pub highReads : (c k : ℕ) → c < lines → k < n → c * lead + k * stride < length h
+  pub lowReads : (c k : ℕ) → c < lines → k < n → c * lead + k * stride < length l
+  pub small : (c k : ℕ) → c < lines → k < n → Within 128 (getD h (c * lead + k * stride) (pos 0))
+  pub least : 4 ≤ s
+  pub most : s ≤ 12
+  pub few : lines ≤ n
+  pub room : lines * n ≤ outLength
+
+abbrev pub passValue : List ℤ → List ℤ → List ℤ → ℕ → ℕ → ℕ → ℕ → ℕ → ℕ → ℕ → ℤ
+passValue t h l lead stride hg lg s c j = roundShift (partsSum t h l (c * lead) stride hg lg j) s
+
+pub record ZeroFrom (q n : ℕ) (x : List ℤ) : Type 0 where
+  pub most : 4 * q ≤ n
+  pub zero : (i : ℕ) → 4 * q * n ≤ i → i < n * n → getD x i (pos 0) ≡ pos 0
+
+pub record ColumnPlaced (n c : ℕ) (f : ℕ → ℤ) (m : ℕ) (xs ys : List ℤ) : Type 0 where
+  pub long : length ys ≡ length xs
+  pub done : (k : ℕ) → k < m → getD ys (k * n + c) (pos 0) ≡ f k
+  pub kept : (i : ℕ) → ((k : ℕ) → k < m → i ≡ k * n + c → ⊥) → getD ys i (pos 0) ≡ getD xs i (pos 0)
+
+pub record Zeros (x : List ℤ) : Type 0 where
+  pub at : (i : ℕ) → getD x i (pos 0) ≡ pos 0
+
+pub record StageAsk (t : List ℤ) (n r sourceLength highLength lowLength targetLength : ℕ) : Type 0 where
+  pub layout : Layout t n
+  pub size : T (isSize n)
+  pub range : r ≤ 22
+  pub source : n * n ≤ sourceLength
+  pub highs : n * n ≤ highLength
+  pub lows : n * n ≤ lowLength
+  pub room : n * n ≤ targetLength
+
+pub record LayoutOf (t : ℕ → ℕ → ℤ) (n : ℕ) (xs : List ℤ) : Type 0 where
+  pub layout : Layout xs n
+  pub reads : (k j : ℕ) → k < n → j < n → laneMatrix xs k j ≡ t k j
+
+pub record StagesAsk (n s r nx sourceLength targetLength : ℕ) : Type 0 where
+  pub least : 4 ≤ s
+  pub most : s ≤ 12
+  pub range : r ≤ 22
+  pub columns : nx ≤ n
+  pub source : n * n ≤ sourceLength
+  pub room : n * n ≤ targetLength
+
+abbrev pub bothStages : (ℕ → ℕ → ℤ) → ℕ → ℕ → ℕ → ℕ → List ℤ → ℕ → ℕ → ℤ
+bothStages t n s r nx xs = stageTwo t n s (intermediate t n r (columnsRead nx (limitedBlock r n xs)))

@@ -1,0 +1,17 @@
+-- `transform::inv_transform_into_scalar_extended` meets its contract: it is the general function's, for a DCT.
+use borrow.Author.Needs.{needs}
+use Rattle.transform.proofs.BlocksLaws.{of-dct}
+use Rattle.transform.proofs.inv_transform_into_scalar_extended.Statement.{statement}
+use Rattle.transform.proofs.inv_transform_into_scalar_extended.Tie as tie
+
+invert-32-requires : tie.Need-invert-32-requires
+invert-32-requires c κs = of-dct (c .before .args .n)
+
+same-length : tie.Need-same-length
+same-length c = search needs
+
+returns : tie.Need-returns
+returns c = search needs
+
+pub inv-transform-into-scalar-extended-spec : {M : Type 1} → statement M
+inv-transform-into-scalar-extended-spec = tie.close (tie.spec invert-32-requires same-length returns)
