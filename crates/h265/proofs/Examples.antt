@@ -1,5 +1,5 @@
--- Document 01's marked examples as one list of cases under one statement, with what they do not cover: a level that must be
--- limited first, a residual beyond the range, a sum beyond 32 bits, and the largest sums of absolute entries, which no wrong
+-- Document 01's marked examples as one list of cases under one statement, with what they do not cover: each entry of levelScale, a
+-- level that must be limited first, a residual beyond the range, a sum beyond 32 bits, and the largest sums of absolute entries, which no wrong
 -- entry of F leaves alone.
 use mathlib.Core.Bool.{Bool, true, false, _&&_}
 use mathlib.Core.List.{List, [], _∷_, _++_}
@@ -93,6 +93,13 @@ examples =
     ∷ (scaled flat 4 8 (pos 4) (pos 1) gives one (pos 32))
     ∷ (scaled flat 4 8 (pos 4) (negℤ (pos 1)) gives one (negℤ (pos 32)))
     ∷ (scaled flat 4 8 (pos 4) (pos 40000) gives one (pos 32767))
+    -- each entry of levelScale: 50 times it
+    ∷ (scaled flat 4 8 (pos 0) (pos 100) gives one (pos 2000))
+    ∷ (scaled flat 4 8 (pos 1) (pos 100) gives one (pos 2250))
+    ∷ (scaled flat 4 8 (pos 2) (pos 100) gives one (pos 2550))
+    ∷ (scaled flat 4 8 (pos 3) (pos 100) gives one (pos 2850))
+    ∷ (scaled flat 4 8 (pos 4) (pos 100) gives one (pos 3200))
+    ∷ (scaled flat 4 8 (pos 5) (pos 100) gives one (pos 3600))
     -- a level that must be limited before it is scaled: 10000 without the limit
     ∷ (scaled (listed (replicate 64 1) 1) 32 8 (pos 4) (pos 40000) gives one (pos 8192))
     -- m

@@ -1,0 +1,19 @@
+-- From what a wrapped function answered to the record that C gets.
+--   withValue v o   the outcome o with the value v
+--   writes-by       a wrapper that hands on a wrapped function's answer and output
+use mathlib.Core.Path.{_≡_, _∙_}
+use mathlib.Core.List.{List}
+use lib.IntN.{ℤ}
+use Rattle.refusal.specs.declared.Answer.{Answer}
+use Rattle.refusal.specs.Outcome.{Outcome, answer}
+use Rattle.refusal.specs.Written as Called
+use Rattle.c_api.specs.declared.Answered.{Answered}
+use Rattle.c_api.specs.Answers.{ofAnswered}
+use Rattle.c_api.specs.Blocks.{Writes}
+
+abbrev pub withValue : {A B : Type 0} → B → Outcome A → Outcome B
+withValue v o = record { number = o .number; place = o .place; value = v }
+
+pub writes-by : {r : Answered} {a : Answer} {after : List ℤ} {w : Called.Written}
+    → ofAnswered r ≡ answer a → Called.Writes a after w → Writes r after w
+writes-by same written = record { answered = same ∙ written .answered; out = written .out }

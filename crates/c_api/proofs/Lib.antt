@@ -1,0 +1,2 @@
+-- Laws of the records that C gets.
+pub mod AnswersLaws

@@ -1,0 +1,19 @@
+-- `c_api::answers::refused` meets its contract: number and place are those of the refusal.
+use borrow.Author.Needs.{needs}
+use Rattle.c_api.proofs.answers.refused.Statement.{statement}
+use Rattle.c_api.proofs.answers.refused.Tie as tie
+
+number-requires : tie.Need-number-requires
+number-requires c κs = search needs
+
+cast-t3 : tie.Need-cast-t3
+cast-t3 c = search needs
+
+place-requires : tie.Need-place-requires
+place-requires c κs = search needs
+
+returns : tie.Need-returns
+returns c = rw (c .before .number .ensures, c .place .ensures)
+
+pub refused-spec : {M : Type 1} → statement M
+refused-spec = tie.close (tie.spec number-requires cast-t3 place-requires returns)

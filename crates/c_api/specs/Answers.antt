@@ -1,0 +1,50 @@
+-- The records that C gets, as number, place and values: what the definitions of the wrapped functions speak of.
+--   ofAnswered        of a call that hands back no value
+--   ofNumber          of a call that hands back one unsigned number
+--   ofSigned          one signed number
+--   ofQpPrime         the same, where it is QP′
+--   ofDequant         the numbers by which a block is scaled
+--   ofTransformSkip   the same with the shift of transform skip and its rounding
+use Prim.Native.Nat.{ℕ}
+use lib.IntN.{ℤ}
+use Rattle.refusal.specs.Outcome.{Outcome}
+use Rattle.parameters.specs.declared.QpPrime.{QpPrime}
+use Rattle.parameters.specs.declared.DequantParams.{DequantParams}
+use Rattle.parameters.specs.declared.TransformSkipParams.{TransformSkipParams}
+use Rattle.c_api.specs.declared.Answered.{Answered}
+use Rattle.c_api.specs.declared.NumberAnswered.{NumberAnswered}
+use Rattle.c_api.specs.declared.SignedAnswered.{SignedAnswered}
+use Rattle.c_api.specs.declared.DequantAnswered.{DequantAnswered}
+use Rattle.c_api.specs.declared.TransformSkipAnswered.{TransformSkipAnswered}
+
+abbrev pub ofAnswered : Answered → Outcome (Unit {0})
+ofAnswered r = record { number = r .number; place = r .place; value = tt }
+
+abbrev pub ofNumber : NumberAnswered → Outcome ℕ
+ofNumber r = record { number = r .number; place = r .place; value = r .value }
+
+abbrev pub ofSigned : SignedAnswered → Outcome ℤ
+ofSigned r = record { number = r .number; place = r .place; value = r .value }
+
+abbrev pub ofQpPrime : SignedAnswered → Outcome QpPrime
+ofQpPrime r = record { number = r .number; place = r .place; value = record { 0 = r .value } }
+
+abbrev pub ofDequant : DequantAnswered → Outcome DequantParams
+ofDequant r =
+    record {
+      number = r .number;
+      place = r .place;
+      value = record { factor = r .factor; add = r .add; shift = r .shift; «clip_min» = r .«clip_min»; «clip_max» = r .«clip_max» };
+    }
+
+abbrev pub ofTransformSkip : TransformSkipAnswered → Outcome TransformSkipParams
+ofTransformSkip r =
+    record {
+      number = r .number;
+      place = r .place;
+      value = record {
+        dequant = record { factor = r .factor; add = r .add; shift = r .shift; «clip_min» = r .«clip_min»; «clip_max» = r .«clip_max» };
+        «tr_add» = r .«tr_add»;
+        «tr_shift» = r .«tr_shift»;
+      };
+    }

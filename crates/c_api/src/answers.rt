@@ -1,0 +1,183 @@
+// Each answer of the library as a record of numbers: a refusal's number and place, and the values, zeros on refusal.
+ghost use mathlib.Core.Path.{_≡_};
+ghost use Rattle.refusal.specs.Outcome.{answer as answerOutcome, refused as refusedWith};
+ghost use Rattle.parameters.specs.Answers.{numberOutcome, qpPrimeOutcome, dequantOutcome, transformSkipOutcome};
+ghost use Rattle.scaling.specs.Answers.{factorOutcome, levelOutcome};
+ghost use Rattle.c_api.specs.Answers.{ofAnswered, ofNumber, ofSigned, ofQpPrime, ofDequant, ofTransformSkip};
+use crate::Answered;
+use crate::DequantAnswered;
+use crate::NumberAnswered;
+use crate::SignedAnswered;
+use crate::TransformSkipAnswered;
+use parameters::DequantAnswer;
+use parameters::NumberAnswer;
+use parameters::QpPrimeAnswer;
+use parameters::TransformSkipAnswer;
+use refusal::Answer;
+use refusal::Refusal;
+use scaling::FactorAnswer;
+use scaling::LevelAnswer;
+
+pub(crate) fn refused(why: Refusal) -> Answered
+    ensures { λ r. ⌜ ofAnswered r ≡ refusedWith tt why ⌝ }
+{
+    Answered {
+        number: refusal::number(why) as u32,
+        place: refusal::place(why),
+    }
+}
+
+pub(crate) fn answered(answer: Answer) -> Answered
+    ensures { λ r. ⌜ ofAnswered r ≡ answerOutcome answer ⌝ }
+{
+    match answer {
+        Answer::Done => Answered {
+            number: 0,
+            place: 0,
+        },
+        Answer::Refused(why) => refused(why),
+    }
+}
+
+pub(crate) fn number_answered(answer: NumberAnswer) -> NumberAnswered
+    ensures { λ r. ⌜ ofNumber r ≡ numberOutcome answer ⌝ }
+{
+    match answer {
+        NumberAnswer::Value(value) => NumberAnswered {
+            number: 0,
+            place: 0,
+            value,
+        },
+        NumberAnswer::Refused(why) => {
+            let no = refused(why);
+            NumberAnswered {
+                number: no.number,
+                place: no.place,
+                value: 0,
+            }
+        }
+    }
+}
+
+pub(crate) fn qp_prime_answered(answer: QpPrimeAnswer) -> SignedAnswered
+    ensures { λ r. ⌜ ofQpPrime r ≡ qpPrimeOutcome answer ⌝ }
+{
+    match answer {
+        QpPrimeAnswer::Value(qp_prime) => SignedAnswered {
+            number: 0,
+            place: 0,
+            value: qp_prime.0,
+        },
+        QpPrimeAnswer::Refused(why) => {
+            let no = refused(why);
+            SignedAnswered {
+                number: no.number,
+                place: no.place,
+                value: 0,
+            }
+        }
+    }
+}
+
+pub(crate) fn dequant_answered(answer: DequantAnswer) -> DequantAnswered
+    ensures { λ r. ⌜ ofDequant r ≡ dequantOutcome answer ⌝ }
+{
+    match answer {
+        DequantAnswer::Params(params) => DequantAnswered {
+            number: 0,
+            place: 0,
+            factor: params.factor,
+            add: params.add,
+            shift: params.shift,
+            clip_min: params.clip_min,
+            clip_max: params.clip_max,
+        },
+        DequantAnswer::Refused(why) => {
+            let no = refused(why);
+            DequantAnswered {
+                number: no.number,
+                place: no.place,
+                factor: 0,
+                add: 0,
+                shift: 0,
+                clip_min: 0,
+                clip_max: 0,
+            }
+        }
+    }
+}
+
+pub(crate) fn transform_skip_answered(answer: TransformSkipAnswer) -> TransformSkipAnswered
+    ensures { λ r. ⌜ ofTransformSkip r ≡ transformSkipOutcome answer ⌝ }
+{
+    match answer {
+        TransformSkipAnswer::Params(params) => {
+            let dequant = params.dequant;
+            TransformSkipAnswered {
+                number: 0,
+                place: 0,
+                factor: dequant.factor,
+                add: dequant.add,
+                shift: dequant.shift,
+                clip_min: dequant.clip_min,
+                clip_max: dequant.clip_max,
+                tr_add: params.tr_add,
+                tr_shift: params.tr_shift,
+            }
+        }
+        TransformSkipAnswer::Refused(why) => {
+            let no = refused(why);
+            TransformSkipAnswered {
+                number: no.number,
+                place: no.place,
+                factor: 0,
+                add: 0,
+                shift: 0,
+                clip_min: 0,
+                clip_max: 0,
+                tr_add: 0,
+                tr_shift: 0,
+            }
+        }
+    }
+}
+
+pub(crate) fn factor_answered(answer: FactorAnswer) -> NumberAnswered
+    ensures { λ r. ⌜ ofNumber r ≡ factorOutcome answer ⌝ }
+{
+    match answer {
+        FactorAnswer::Factor(m) => NumberAnswered {
+            number: 0,
+            place: 0,
+            value: m as u32,
+        },
+        FactorAnswer::Refused(why) => {
+            let no = refused(why);
+            NumberAnswered {
+                number: no.number,
+                place: no.place,
+                value: 0,
+            }
+        }
+    }
+}
+
+pub(crate) fn level_answered(answer: LevelAnswer) -> SignedAnswered
+    ensures { λ r. ⌜ ofSigned r ≡ levelOutcome answer ⌝ }
+{
+    match answer {
+        LevelAnswer::Level(scaled) => SignedAnswered {
+            number: 0,
+            place: 0,
+            value: scaled.value,
+        },
+        LevelAnswer::Refused(why) => {
+            let no = refused(why);
+            SignedAnswered {
+                number: no.number,
+                place: no.place,
+                value: 0,
+            }
+        }
+    }
+}

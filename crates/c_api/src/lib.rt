@@ -1,0 +1,72 @@
+// The library for C and Rust: every entry point under the prefix residual_, with numbers and slices as arguments and one record of numbers as answer. include/residual.h declares the same for C.
+mod answers;
+mod levels;
+mod quantities;
+mod transforms;
+
+pub use levels::residual_dequantize_into_scalar_i16;
+pub use levels::residual_dequantize_into_scalar_i32;
+pub use levels::residual_dequantize_scaled_into_scalar_i16;
+pub use levels::residual_dequantize_scaled_into_scalar_i32;
+pub use levels::residual_dequantize_transform_skip_into_scalar_i16;
+pub use levels::residual_dequantize_transform_skip_into_scalar_i32;
+pub use levels::residual_dequantize_transform_skip_scaled_into_scalar_i16;
+pub use levels::residual_dequantize_transform_skip_scaled_into_scalar_i32;
+pub use levels::residual_scale_level;
+pub use levels::residual_scaling_coeff;
+pub use quantities::residual_dequant_params;
+pub use quantities::residual_max_log2_transform_dynamic_range;
+pub use quantities::residual_qp_bd_offset;
+pub use quantities::residual_qp_prime;
+pub use quantities::residual_transform_skip_params;
+pub use transforms::residual_inv_transform_dst_into_scalar;
+pub use transforms::residual_inv_transform_dst_into_scalar_extended;
+pub use transforms::residual_inv_transform_dst_into_scalar16;
+pub use transforms::residual_inv_transform_into_scalar;
+pub use transforms::residual_inv_transform_into_scalar_extended;
+pub use transforms::residual_inv_transform_into_scalar16;
+
+// What a call answers: 0, or a refusal's number with its place. The other records add the values, zeros on refusal.
+#[repr(C)]
+pub struct Answered {
+    pub number: u32,
+    pub place: usize,
+}
+
+#[repr(C)]
+pub struct NumberAnswered {
+    pub number: u32,
+    pub place: usize,
+    pub value: u32,
+}
+
+#[repr(C)]
+pub struct SignedAnswered {
+    pub number: u32,
+    pub place: usize,
+    pub value: i32,
+}
+
+#[repr(C)]
+pub struct DequantAnswered {
+    pub number: u32,
+    pub place: usize,
+    pub factor: i64,
+    pub add: i64,
+    pub shift: u32,
+    pub clip_min: i64,
+    pub clip_max: i64,
+}
+
+#[repr(C)]
+pub struct TransformSkipAnswered {
+    pub number: u32,
+    pub place: usize,
+    pub factor: i64,
+    pub add: i64,
+    pub shift: u32,
+    pub clip_min: i64,
+    pub clip_max: i64,
+    pub tr_add: i32,
+    pub tr_shift: i32,
+}

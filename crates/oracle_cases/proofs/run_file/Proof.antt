@@ -1,0 +1,36 @@
+-- `oracle_cases::run_file` meets its contract, which says nothing: the measure is the number of turns that are left.
+use native.Mathlib.Omega.{arith}
+use Rattle.oracle_cases.proofs.run_file.Statement.{statement}
+use Rattle.oracle_cases.proofs.run_file.Tie as tie
+
+abbrev Inv-loop : tie.InvT-loop
+Inv-loop fd turns₀ turns = Unit {0}
+
+abbrev μ-loop : tie.MeasureT-loop
+μ-loop fd turns₀ turns = turns
+
+loop-holds : tie.Need-loop-holds Inv-loop μ-loop
+loop-holds c = tt
+
+run-case-requires : tie.Need-run-case-requires Inv-loop μ-loop
+run-case-requires c κs = tt
+
+sub-turns : tie.Need-sub-turns Inv-loop μ-loop
+sub-turns c = omega arith
+
+loop-less : tie.Need-loop-less Inv-loop μ-loop
+loop-less c = omega arith
+
+loop-again : tie.Need-loop-again Inv-loop μ-loop
+loop-again c = tt
+
+returns : tie.Need-returns Inv-loop μ-loop
+returns c = tt
+
+returns-2 : tie.Need-returns-2 Inv-loop μ-loop
+returns-2 c = tt
+
+pub run-file-spec : {M : Type 1} → statement M
+run-file-spec =
+    tie.close
+    (tie.spec Inv-loop μ-loop loop-holds run-case-requires sub-turns loop-less loop-again returns returns-2)

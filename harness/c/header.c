@@ -1,0 +1,130 @@
+/* Compiled against include/residual.h and linked with the archive: calls every function that the header declares and compares with examples of docs/RULES.md. */
+#include "residual.h"
+#include <stdio.h>
+#include <string.h>
+
+static int failed;
+static int called;
+
+static void expect(bool holds, const char *what) {
+    called++;
+    if (!holds) {
+        failed++;
+        printf("header: %s: not as expected\n", what);
+    }
+}
+
+static void quantities(void) {
+    residual_number_answered range = residual_max_log2_transform_dynamic_range(10, true);
+    expect(range.number == 0 && range.place == 0 && range.value == 16, "max_log2_transform_dynamic_range");
+    residual_number_answered offset = residual_qp_bd_offset(17);
+    expect(offset.number == 2 && offset.place == 0 && offset.value == 0, "qp_bd_offset");
+    residual_signed_answered qp = residual_qp_prime(60, 10);
+    expect(qp.number == 0 && qp.place == 0 && qp.value == 63, "qp_prime");
+    residual_dequant_answered d = residual_dequant_params(4, 4, 8, false);
+    expect(d.number == 0 && d.place == 0 && d.factor == 1024 && d.add == 16 && d.shift == 5 && d.clip_min == -32768 && d.clip_max == 32767, "dequant_params");
+    residual_transform_skip_answered s = residual_transform_skip_params(32, 4, 16, false);
+    expect(s.number == 0 && s.place == 0 && s.factor == 1024 && s.add == 32768 && s.shift == 16 && s.clip_min == -32768 && s.clip_max == 32767 && s.tr_add == 0 && s.tr_shift == -6, "transform_skip_params");
+}
+
+#ifdef has_scaling
+/* One block: level 2 at index 0 and zeros, QP' 4, depth 8, n = 4; the element past it stays 7. */
+#define BLOCK(element) element out[17] = {[16] = 7}; out[5] = 9
+
+static void scaling(void) {
+    int32_t levels[16] = {2};
+    uint8_t list[64];
+    memset(list, 20, sizeof list);
+    residual_number_answered m = residual_scaling_coeff(list, 64, 30, 16, 0);
+    expect(m.number == 0 && m.place == 0 && m.value == 30, "scaling_coeff");
+    residual_signed_answered level = residual_scale_level(-1, 16, 4, 4, 8, false);
+    expect(level.number == 0 && level.place == 0 && level.value == -32, "scale_level");
+    residual_answered a;
+    {
+        BLOCK(int32_t);
+        a = residual_dequantize_into_scalar_i32(levels, 16, 4, 4, 8, false, out, 17);
+        expect(a.number == 0 && a.place == 0 && out[0] == 64 && out[5] == 0 && out[16] == 7, "dequantize_into_scalar_i32");
+    }
+    {
+        BLOCK(int16_t);
+        a = residual_dequantize_into_scalar_i16(levels, 16, 4, 4, 8, false, out, 17);
+        expect(a.number == 0 && a.place == 0 && out[0] == 64 && out[5] == 0 && out[16] == 7, "dequantize_into_scalar_i16");
+    }
+    {
+        BLOCK(int32_t);
+        a = residual_dequantize_scaled_into_scalar_i32(levels, 16, 4, 4, 8, false, list, 64, 30, out, 17);
+        expect(a.number == 0 && a.place == 0 && out[0] == 80 && out[5] == 0 && out[16] == 7, "dequantize_scaled_into_scalar_i32");
+    }
+    {
+        BLOCK(int16_t);
+        a = residual_dequantize_scaled_into_scalar_i16(levels, 16, 4, 4, 8, false, list, 63, 30, out, 17);
+        expect(a.number == 5 && a.place == 0 && out[0] == 0 && out[5] == 9 && out[16] == 7, "dequantize_scaled_into_scalar_i16");
+    }
+    {
+        BLOCK(int32_t);
+        a = residual_dequantize_transform_skip_into_scalar_i32(levels, 16, 4, 4, 8, false, out, 17);
+        expect(a.number == 0 && a.place == 0 && out[0] == 2 && out[5] == 0 && out[16] == 7, "dequantize_transform_skip_into_scalar_i32");
+    }
+    {
+        BLOCK(int16_t);
+        a = residual_dequantize_transform_skip_into_scalar_i16(levels, 15, 4, 4, 8, false, out, 17);
+        expect(a.number == 6 && a.place == 0 && out[0] == 0 && out[5] == 9 && out[16] == 7, "dequantize_transform_skip_into_scalar_i16");
+    }
+    {
+        BLOCK(int32_t);
+        a = residual_dequantize_transform_skip_scaled_into_scalar_i32(levels, 16, 4, 4, 8, false, list, 64, 30, out, 17);
+        expect(a.number == 0 && a.place == 0 && out[0] == 3 && out[5] == 0 && out[16] == 7, "dequantize_transform_skip_scaled_into_scalar_i32");
+    }
+    {
+        BLOCK(int16_t);
+        a = residual_dequantize_transform_skip_scaled_into_scalar_i16(levels, 16, 4, 4, 8, false, list, 64, 30, out, 17);
+        expect(a.number == 0 && a.place == 0 && out[0] == 3 && out[5] == 0 && out[16] == 7, "dequantize_transform_skip_scaled_into_scalar_i16");
+    }
+}
+#endif
+
+#ifdef has_transform
+static const int32_t dst_residual[16] = {0, 0, 0, 0, 0, 0, 1, 1, 0, 0, 1, 1, 0, 1, 1, 1};
+
+/* Index 0 alone: 63 gives 1 everywhere by the DCT, 64 the rows above by the DST; the element past the block stays 7. */
+#define DCT(name, element)                                                                        \
+    {                                                                                             \
+        element coeff[16] = {63}, out[17] = {[16] = 7};                                           \
+        residual_answered a = residual_##name(coeff, 16, 4, 8, 4, out, 17);                       \
+        bool same = a.number == 0 && a.place == 0 && out[16] == 7;                                \
+        for (int i = 0; i < 16; i++) same = same && out[i] == 1;                                  \
+        expect(same, #name);                                                                      \
+    }
+#define DST(name, element)                                                                        \
+    {                                                                                             \
+        element coeff[16] = {64}, out[17] = {[16] = 7};                                           \
+        residual_answered a = residual_##name(coeff, 16, 8, out, 17);                             \
+        bool same = a.number == 0 && a.place == 0 && out[16] == 7;                                \
+        for (int i = 0; i < 16; i++) same = same && out[i] == dst_residual[i];                    \
+        expect(same, #name);                                                                      \
+    }
+
+static void transforms(void) {
+    DCT(inv_transform_into_scalar, int32_t)
+    DCT(inv_transform_into_scalar_extended, int32_t)
+    DCT(inv_transform_into_scalar16, int16_t)
+    DST(inv_transform_dst_into_scalar, int32_t)
+    DST(inv_transform_dst_into_scalar_extended, int32_t)
+    DST(inv_transform_dst_into_scalar16, int16_t)
+    int32_t coeff[16] = {[5] = 32768}, out[16] = {9};
+    residual_answered a = residual_inv_transform_into_scalar(coeff, 16, 4, 8, 4, out, 16);
+    expect(a.number == 9 && a.place == 5 && out[0] == 9, "inv_transform_into_scalar, refused with a place");
+}
+#endif
+
+int main(void) {
+    quantities();
+#ifdef has_scaling
+    scaling();
+#endif
+#ifdef has_transform
+    transforms();
+#endif
+    printf("header: %d calls, %d failed\n", called, failed);
+    return failed != 0;
+}

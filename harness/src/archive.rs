@@ -1,0 +1,151 @@
+//! The archive of `rt staticlib c_api`, under the names of include/residual.h. A slice is a pointer and a length.
+//! A group of functions is left out (`cfg`) where the archive does not have it yet; `harness/build` looks.
+
+#[repr(C)]
+#[derive(Clone, Copy, PartialEq, Eq, Debug, Default)]
+pub struct Answered {
+    pub number: u32,
+    pub place: usize,
+}
+
+#[repr(C)]
+#[derive(Clone, Copy, PartialEq, Eq, Debug, Default)]
+pub struct NumberAnswered {
+    pub number: u32,
+    pub place: usize,
+    pub value: u32,
+}
+
+#[repr(C)]
+#[derive(Clone, Copy, PartialEq, Eq, Debug, Default)]
+pub struct SignedAnswered {
+    pub number: u32,
+    pub place: usize,
+    pub value: i32,
+}
+
+#[repr(C)]
+#[derive(Clone, Copy, PartialEq, Eq, Debug, Default)]
+pub struct DequantAnswered {
+    pub number: u32,
+    pub place: usize,
+    pub factor: i64,
+    pub add: i64,
+    pub shift: u32,
+    pub clip_min: i64,
+    pub clip_max: i64,
+}
+
+#[repr(C)]
+#[derive(Clone, Copy, PartialEq, Eq, Debug, Default)]
+pub struct TransformSkipAnswered {
+    pub number: u32,
+    pub place: usize,
+    pub factor: i64,
+    pub add: i64,
+    pub shift: u32,
+    pub clip_min: i64,
+    pub clip_max: i64,
+    pub tr_add: i32,
+    pub tr_shift: i32,
+}
+
+mod linked {
+    use super::*;
+    unsafe extern "C" {
+        pub safe fn residual_max_log2_transform_dynamic_range(bit_depth: u8, extended_precision: bool) -> NumberAnswered;
+        pub safe fn residual_qp_bd_offset(bit_depth: u8) -> NumberAnswered;
+        pub safe fn residual_qp_prime(qp: i32, bit_depth: u8) -> SignedAnswered;
+        pub safe fn residual_dequant_params(n: usize, qp_prime: i32, bit_depth: u8, extended_precision: bool) -> DequantAnswered;
+        pub safe fn residual_transform_skip_params(n: usize, qp_prime: i32, bit_depth: u8, extended_precision: bool) -> TransformSkipAnswered;
+    }
+}
+
+pub use linked::residual_dequant_params as dequant_params;
+pub use linked::residual_max_log2_transform_dynamic_range as max_log2_transform_dynamic_range;
+pub use linked::residual_qp_bd_offset as qp_bd_offset;
+pub use linked::residual_qp_prime as qp_prime;
+pub use linked::residual_transform_skip_params as transform_skip_params;
+
+#[cfg(has_scaling)]
+pub mod scaling {
+    use super::*;
+
+    unsafe extern "C" {
+        fn residual_scaling_coeff(list: *const u8, list_len: usize, dc: u8, n: usize, index: usize) -> NumberAnswered;
+        fn residual_scale_level(level: i32, m: u8, n: usize, qp_prime: i32, bit_depth: u8, extended_precision: bool) -> SignedAnswered;
+    }
+
+    pub fn scaling_coeff(list: &[u8], dc: u8, n: usize, index: usize) -> NumberAnswered {
+        unsafe { residual_scaling_coeff(list.as_ptr(), list.len(), dc, n, index) }
+    }
+
+    pub fn scale_level(level: i32, m: u8, n: usize, qp_prime: i32, bit_depth: u8, extended_precision: bool) -> SignedAnswered {
+        unsafe { residual_scale_level(level, m, n, qp_prime, bit_depth, extended_precision) }
+    }
+
+    macro_rules! flat {
+        ($name:ident, $linked:ident, $out:ty) => {
+            unsafe extern "C" {
+                fn $linked(levels: *const i32, levels_len: usize, n: usize, qp_prime: i32, bit_depth: u8, extended_precision: bool, out: *mut $out, out_len: usize) -> Answered;
+            }
+            pub fn $name(levels: &[i32], n: usize, qp_prime: i32, bit_depth: u8, extended_precision: bool, _list: &[u8], _dc: u8, out: &mut [$out]) -> Answered {
+                unsafe { $linked(levels.as_ptr(), levels.len(), n, qp_prime, bit_depth, extended_precision, out.as_mut_ptr(), out.len()) }
+            }
+        };
+    }
+
+    macro_rules! listed {
+        ($name:ident, $linked:ident, $out:ty) => {
+            unsafe extern "C" {
+                fn $linked(levels: *const i32, levels_len: usize, n: usize, qp_prime: i32, bit_depth: u8, extended_precision: bool, list: *const u8, list_len: usize, dc: u8, out: *mut $out, out_len: usize) -> Answered;
+            }
+            pub fn $name(levels: &[i32], n: usize, qp_prime: i32, bit_depth: u8, extended_precision: bool, list: &[u8], dc: u8, out: &mut [$out]) -> Answered {
+                unsafe { $linked(levels.as_ptr(), levels.len(), n, qp_prime, bit_depth, extended_precision, list.as_ptr(), list.len(), dc, out.as_mut_ptr(), out.len()) }
+            }
+        };
+    }
+
+    flat!(dequantize_into_scalar_i32, residual_dequantize_into_scalar_i32, i32);
+    flat!(dequantize_into_scalar_i16, residual_dequantize_into_scalar_i16, i16);
+    flat!(dequantize_transform_skip_into_scalar_i32, residual_dequantize_transform_skip_into_scalar_i32, i32);
+    flat!(dequantize_transform_skip_into_scalar_i16, residual_dequantize_transform_skip_into_scalar_i16, i16);
+    listed!(dequantize_scaled_into_scalar_i32, residual_dequantize_scaled_into_scalar_i32, i32);
+    listed!(dequantize_scaled_into_scalar_i16, residual_dequantize_scaled_into_scalar_i16, i16);
+    listed!(dequantize_transform_skip_scaled_into_scalar_i32, residual_dequantize_transform_skip_scaled_into_scalar_i32, i32);
+    listed!(dequantize_transform_skip_scaled_into_scalar_i16, residual_dequantize_transform_skip_scaled_into_scalar_i16, i16);
+}
+
+#[cfg(has_transform)]
+pub mod transform {
+    use super::*;
+
+    macro_rules! dct {
+        ($name:ident, $linked:ident, $element:ty) => {
+            unsafe extern "C" {
+                fn $linked(coeff: *const $element, coeff_len: usize, n: usize, bit_depth: u8, nx: usize, out: *mut $element, out_len: usize) -> Answered;
+            }
+            pub fn $name(coeff: &[$element], n: usize, bit_depth: u8, nx: usize, out: &mut [$element]) -> Answered {
+                unsafe { $linked(coeff.as_ptr(), coeff.len(), n, bit_depth, nx, out.as_mut_ptr(), out.len()) }
+            }
+        };
+    }
+
+    macro_rules! dst {
+        ($name:ident, $linked:ident, $element:ty) => {
+            unsafe extern "C" {
+                fn $linked(coeff: *const $element, coeff_len: usize, bit_depth: u8, out: *mut $element, out_len: usize) -> Answered;
+            }
+            pub fn $name(coeff: &[$element], _n: usize, bit_depth: u8, _nx: usize, out: &mut [$element]) -> Answered {
+                unsafe { $linked(coeff.as_ptr(), coeff.len(), bit_depth, out.as_mut_ptr(), out.len()) }
+            }
+        };
+    }
+
+    dct!(inv_transform_into_scalar, residual_inv_transform_into_scalar, i32);
+    dct!(inv_transform_into_scalar_extended, residual_inv_transform_into_scalar_extended, i32);
+    dct!(inv_transform_into_scalar16, residual_inv_transform_into_scalar16, i16);
+    dst!(inv_transform_dst_into_scalar, residual_inv_transform_dst_into_scalar, i32);
+    dst!(inv_transform_dst_into_scalar_extended, residual_inv_transform_dst_into_scalar_extended, i32);
+    dst!(inv_transform_dst_into_scalar16, residual_inv_transform_dst_into_scalar16, i16);
+}

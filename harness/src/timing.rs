@@ -1,0 +1,264 @@
+//! Times both sides on the same blocks, the least of many runs, and counts instructions of one call by callgrind where valgrind is at hand.
+//! `qp_bd_offset` and `qp_prime` have no source on the other side, and `scale_level` no counterpart: these three are left out.
+//! Prints a line for each function, size and shape: nanoseconds and instructions of ours and of the Rust, and the ratios ours / Rust.
+use crate::archive;
+use crate::blocks::{self, Element, Shape};
+use crate::random::Random;
+use crate::reference;
+#[cfg(has_scaling)]
+use crate::scaling;
+#[cfg(has_transform)]
+use crate::transform;
+use std::collections::HashMap;
+use std::hint::black_box;
+use std::process::Command;
+use std::time::Instant;
+
+/// One line of the table: the same work on both sides.
+struct Work {
+    label: String,
+    ours: Box<dyn FnMut()>,
+    rust: Box<dyn FnMut()>,
+}
+
+const SHAPES: [(&str, Shape); 3] = [("dense", Shape::Full), ("quarter", Shape::Quarter), ("dc", Shape::Dc)];
+
+fn numbers(list: &mut Vec<Work>) {
+    let mut add = |label: &str, ours: Box<dyn FnMut()>, rust: Box<dyn FnMut()>| list.push(Work { label: label.to_string(), ours, rust });
+    add(
+        "max_log2_transform_dynamic_range",
+        Box::new(|| {
+            black_box(archive::max_log2_transform_dynamic_range(black_box(12), black_box(true)));
+        }),
+        Box::new(|| {
+            black_box(oracle::max_log2_transform_dynamic_range(black_box(12), black_box(true)));
+        }),
+    );
+    add(
+        "dequant_params",
+        Box::new(|| {
+            black_box(archive::dequant_params(black_box(16), black_box(37), black_box(12), black_box(true)));
+        }),
+        Box::new(|| {
+            black_box(oracle::dequant_params(black_box(16), black_box(37), black_box(12), black_box(true)));
+        }),
+    );
+    add(
+        "transform_skip_params",
+        Box::new(|| {
+            black_box(archive::transform_skip_params(black_box(16), black_box(37), black_box(12), black_box(true)));
+        }),
+        Box::new(|| {
+            black_box(oracle::transform_skip_params(black_box(16), black_box(37), black_box(12), black_box(true)));
+        }),
+    );
+}
+
+#[cfg(has_scaling)]
+fn factors(list: &mut Vec<Work>) {
+    let entries: [u8; 64] = std::array::from_fn(|i| i as u8);
+    for n in reference::SIZES {
+        let index = n * n - 2;
+        list.push(Work {
+            label: format!("scaling_coeff {n}"),
+            ours: Box::new(move || {
+                black_box(archive::scaling::scaling_coeff(black_box(&entries), black_box(16), black_box(n), black_box(index)));
+            }),
+            rust: Box::new(move || {
+                black_box(oracle::scaling_coeff(black_box(&entries), black_box(16), black_box(n), black_box(index)));
+            }),
+        });
+    }
+}
+
+#[cfg(has_scaling)]
+fn scalers<E: Element>(list: &mut Vec<Work>, scaler: &'static scaling::Scaler<E>) {
+    // one bit depth with the 15-bit range, and one past it where the output is wide
+    let settings: &[(u8, bool)] = if E::NARROW { &[(8, false)] } else { &[(8, false), (12, true)] };
+    for &(bit_depth, extended_precision) in settings {
+        for n in reference::SIZES {
+            let mut random = Random::of(1, scaler.name);
+            let levels: Vec<i32> = blocks::block(&mut random, Shape::Full, n, n * n, -2000, 2000);
+            let factors: [u8; 64] = std::array::from_fn(|_| random.between(1, 255) as u8);
+            let label = format!("{} {n} depth {bit_depth}{}", scaler.name, if extended_precision { " extended" } else { "" });
+            let (mine, theirs) = (levels.clone(), levels);
+            let (mut out, mut kept) = (vec![E::of(0); n * n], vec![E::of(0); n * n]);
+            list.push(Work {
+                label,
+                ours: Box::new(move || {
+                    black_box((scaler.ours)(black_box(&mine), n, 30, bit_depth, extended_precision, &factors, 16, black_box(&mut out)));
+                }),
+                rust: Box::new(move || {
+                    (scaler.oracle)(black_box(&theirs), n, 30, bit_depth, extended_precision, &factors, 16, black_box(&mut kept));
+                }),
+            });
+        }
+    }
+}
+
+#[cfg(has_transform)]
+fn transforms<E: Element>(list: &mut Vec<Work>, transform: &'static transform::Transform<E>) {
+    let sizes: &[usize] = if transform.dst { &[4] } else { &reference::SIZES };
+    let bit_depth = if transform.extended { 12 } else { 8 };
+    for &n in sizes {
+        for (shape_name, shape) in SHAPES {
+            let mut random = Random::of(1, transform.name);
+            let coeff: Vec<E> = blocks::block(&mut random, shape, n, n * n, -2000, 2000);
+            // the caller's column count, as a decoder knows it
+            let nx = match shape {
+                Shape::Full => n,
+                Shape::Quarter => (n / 4).max(1),
+                _ => 1,
+            };
+            let label = format!("{} {n} {shape_name}", transform.name);
+            let (mine, theirs) = (coeff.clone(), coeff);
+            let (mut out, mut kept) = (vec![E::of(0); n * n], vec![E::of(0); n * n]);
+            list.push(Work {
+                label,
+                ours: Box::new(move || {
+                    black_box((transform.ours)(black_box(&mine), n, bit_depth, nx, black_box(&mut out)));
+                }),
+                rust: Box::new(move || {
+                    (transform.oracle)(black_box(&theirs), n, bit_depth, nx, black_box(&mut kept));
+                }),
+            });
+        }
+    }
+}
+
+fn all_work() -> Vec<Work> {
+    let mut list = Vec::new();
+    numbers(&mut list);
+    #[cfg(has_scaling)]
+    {
+        factors(&mut list);
+        for scaler in &scaling::WIDE {
+            scalers(&mut list, scaler);
+        }
+        for scaler in &scaling::NARROW {
+            scalers(&mut list, scaler);
+        }
+    }
+    #[cfg(has_transform)]
+    {
+        for transform in &transform::WIDE {
+            transforms(&mut list, transform);
+        }
+        for transform in &transform::NARROW {
+            transforms(&mut list, transform);
+        }
+    }
+    list
+}
+
+/// Nanoseconds of `repeats` calls.
+fn batch(work: &mut dyn FnMut(), repeats: u32) -> f64 {
+    let start = Instant::now();
+    for _ in 0..repeats {
+        work();
+    }
+    start.elapsed().as_nanos() as f64 / f64::from(repeats)
+}
+
+/// How many calls take about 20 microseconds, so that the clock's own time does not count.
+fn repeats(work: &mut dyn FnMut()) -> u32 {
+    let once = batch(work, 3).min(batch(work, 3)).max(1.0);
+    ((20_000.0 / once) as u32).clamp(1, 2000)
+}
+
+/// The least of `runs` batches on each side, taken in turns.
+fn least(work: &mut Work, runs: u32) -> (f64, f64) {
+    let (ours_repeats, rust_repeats) = (repeats(&mut work.ours), repeats(&mut work.rust));
+    let (mut ours, mut rust) = (f64::MAX, f64::MAX);
+    for _ in 0..runs {
+        ours = ours.min(batch(&mut work.ours, ours_repeats));
+        rust = rust.min(batch(&mut work.rust, rust_repeats));
+    }
+    (ours, rust)
+}
+
+/// A client request to callgrind; without valgrind it does nothing.
+#[cfg(target_arch = "x86_64")]
+fn callgrind(request: u64, argument: u64) {
+    const BASE: u64 = ((b'C' as u64) << 24) | ((b'T' as u64) << 16);
+    let words = [BASE + request, argument, 0, 0, 0, 0];
+    // the sequence of instructions by which valgrind knows a request: it leaves every register but rdx as it was
+    unsafe {
+        std::arch::asm!(
+            "rol rdi, 3",
+            "rol rdi, 13",
+            "rol rdi, 61",
+            "rol rdi, 51",
+            "xchg rbx, rbx",
+            in("rax") words.as_ptr(),
+            inout("rdx") 0u64 => _,
+            out("rdi") _,
+        );
+    }
+}
+
+const DUMP_AT: u64 = 3;
+const ZERO: u64 = 1;
+
+fn counted(label: &str, work: &mut dyn FnMut()) {
+    let name = format!("{label}\0");
+    // the first call pays for what is set up once
+    work();
+    callgrind(ZERO, 0);
+    work();
+    callgrind(DUMP_AT, name.as_ptr() as u64);
+}
+
+/// Runs each work once on each side between two requests to callgrind.
+pub fn count_instructions() {
+    counted("nothing", &mut || {});
+    for mut work in all_work() {
+        counted(&format!("ours {}", work.label), &mut work.ours);
+        counted(&format!("rust {}", work.label), &mut work.rust);
+    }
+}
+
+/// Instructions by label, from a run of this program under callgrind; nothing where valgrind is not at hand.
+fn instructions() -> HashMap<String, u64> {
+    let mut found = HashMap::new();
+    let Ok(program) = std::env::current_exe() else { return found };
+    let file = program.with_extension("callgrind");
+    let run = Command::new("valgrind")
+        .arg("--tool=callgrind")
+        .arg("--combine-dumps=yes")
+        .arg(format!("--callgrind-out-file={}", file.display()))
+        .arg(&program)
+        .arg("count-instructions")
+        .output();
+    if !run.is_ok_and(|o| o.status.success()) {
+        eprintln!("timing: valgrind is not at hand, so no instructions are counted");
+        return found;
+    }
+    let mut label = None;
+    for line in std::fs::read_to_string(&file).unwrap_or_default().lines() {
+        if let Some(name) = line.strip_prefix("desc: Trigger: Client Request: ") {
+            label = Some(name.to_string());
+        }
+        if let Some(total) = line.strip_prefix("totals: ").or(line.strip_prefix("summary: ")) {
+            if let (Some(name), Ok(count)) = (label.take(), total.trim().parse()) {
+                found.insert(name, count);
+            }
+        }
+    }
+    found
+}
+
+pub fn time(runs: u32) {
+    let counts = instructions();
+    let nothing = counts.get("nothing").copied().unwrap_or(0);
+    let count = |side: &str, label: &str| counts.get(&format!("{side} {label}")).map(|c| c.saturating_sub(nothing));
+    println!("{:<70} {:>9} {:>9} {:>6} {:>9} {:>9} {:>6}", "function, size, block", "ours ns", "Rust ns", "ratio", "ours ins", "Rust ins", "ratio");
+    for mut work in all_work() {
+        let (ours, rust) = least(&mut work, runs);
+        print!("{:<70} {ours:>9.1} {rust:>9.1} {:>6.2}", work.label, ours / rust);
+        match (count("ours", &work.label), count("rust", &work.label)) {
+            (Some(ours), Some(rust)) => println!(" {ours:>9} {rust:>9} {:>6.2}", ours as f64 / rust as f64),
+            _ => println!(),
+        }
+    }
+}

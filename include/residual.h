@@ -1,0 +1,103 @@
+/* The H.265 residual path for C: what the archive of the crate c_api defines, on x86-64.
+ *
+ * Every call answers a record that begins with a number and a place: 0 and 0, or the number of a refusal in docs/RULES.md with the place that it names.
+ * A refused call changes no element of any buffer, and the values of its record are zeros.
+ * A buffer is a pointer and its number of elements; the pointer is valid for that many, is not null, and an output overlaps no input.
+ * Blocks are stored row by row. Elements of an output from n * n on are never changed.
+ * No argument is out of bounds for a call: each is either refused or has a result.
+ */
+#ifndef RESIDUAL_H
+#define RESIDUAL_H
+
+#include <stdbool.h>
+#include <stddef.h>
+#include <stdint.h>
+
+#ifdef __cplusplus
+extern "C" {
+#endif
+
+typedef struct {
+    uint32_t number;
+    size_t place;
+} residual_answered;
+
+typedef struct {
+    uint32_t number;
+    size_t place;
+    uint32_t value;
+} residual_number_answered;
+
+typedef struct {
+    uint32_t number;
+    size_t place;
+    int32_t value;
+} residual_signed_answered;
+
+typedef struct {
+    uint32_t number;
+    size_t place;
+    int64_t factor;
+    int64_t add;
+    uint32_t shift;
+    int64_t clip_min;
+    int64_t clip_max;
+} residual_dequant_answered;
+
+typedef struct {
+    uint32_t number;
+    size_t place;
+    int64_t factor;
+    int64_t add;
+    uint32_t shift;
+    int64_t clip_min;
+    int64_t clip_max;
+    int32_t tr_add;
+    int32_t tr_shift;
+} residual_transform_skip_answered;
+
+/* Quantities: the range R, what QP' is above QP, QP', and the numbers by which a block is scaled. */
+residual_number_answered residual_max_log2_transform_dynamic_range(uint8_t bit_depth, bool extended_precision);
+residual_number_answered residual_qp_bd_offset(uint8_t bit_depth);
+residual_signed_answered residual_qp_prime(int32_t qp, uint8_t bit_depth);
+residual_dequant_answered residual_dequant_params(size_t n, int32_t qp_prime, uint8_t bit_depth, bool extended_precision);
+residual_transform_skip_answered residual_transform_skip_params(size_t n, int32_t qp_prime, uint8_t bit_depth, bool extended_precision);
+
+/* Scaling: m at an index of a block, one level, then blocks. A list has 64 entries at every size. */
+residual_number_answered residual_scaling_coeff(const uint8_t *list, size_t list_len, uint8_t dc, size_t n, size_t index);
+residual_signed_answered residual_scale_level(int32_t level, uint8_t m, size_t n, int32_t qp_prime, uint8_t bit_depth, bool extended_precision);
+residual_answered residual_dequantize_into_scalar_i32(const int32_t *levels, size_t levels_len, size_t n, int32_t qp_prime, uint8_t bit_depth,
+    bool extended_precision, int32_t *out, size_t out_len);
+residual_answered residual_dequantize_scaled_into_scalar_i32(const int32_t *levels, size_t levels_len, size_t n, int32_t qp_prime, uint8_t bit_depth,
+    bool extended_precision, const uint8_t *list, size_t list_len, uint8_t dc, int32_t *out, size_t out_len);
+residual_answered residual_dequantize_into_scalar_i16(const int32_t *levels, size_t levels_len, size_t n, int32_t qp_prime, uint8_t bit_depth,
+    bool extended_precision, int16_t *out, size_t out_len);
+residual_answered residual_dequantize_scaled_into_scalar_i16(const int32_t *levels, size_t levels_len, size_t n, int32_t qp_prime, uint8_t bit_depth,
+    bool extended_precision, const uint8_t *list, size_t list_len, uint8_t dc, int16_t *out, size_t out_len);
+
+/* Transform skip: scaling, then the shift of transform skip. */
+residual_answered residual_dequantize_transform_skip_into_scalar_i32(const int32_t *levels, size_t levels_len, size_t n, int32_t qp_prime, uint8_t bit_depth,
+    bool extended_precision, int32_t *out, size_t out_len);
+residual_answered residual_dequantize_transform_skip_scaled_into_scalar_i32(const int32_t *levels, size_t levels_len, size_t n, int32_t qp_prime, uint8_t bit_depth,
+    bool extended_precision, const uint8_t *list, size_t list_len, uint8_t dc, int32_t *out, size_t out_len);
+residual_answered residual_dequantize_transform_skip_into_scalar_i16(const int32_t *levels, size_t levels_len, size_t n, int32_t qp_prime, uint8_t bit_depth,
+    bool extended_precision, int16_t *out, size_t out_len);
+residual_answered residual_dequantize_transform_skip_scaled_into_scalar_i16(const int32_t *levels, size_t levels_len, size_t n, int32_t qp_prime, uint8_t bit_depth,
+    bool extended_precision, const uint8_t *list, size_t list_len, uint8_t dc, int16_t *out, size_t out_len);
+
+/* Inverse transforms: the DCT of a block whose columns from nx on are read as zero, and the DST of size 4. Coefficients have the width of the output. */
+residual_answered residual_inv_transform_into_scalar(const int32_t *coeff, size_t coeff_len, size_t n, uint8_t bit_depth, size_t nx, int32_t *out,
+    size_t out_len);
+residual_answered residual_inv_transform_into_scalar_extended(const int32_t *coeff, size_t coeff_len, size_t n, uint8_t bit_depth, size_t nx, int32_t *out,
+    size_t out_len);
+residual_answered residual_inv_transform_into_scalar16(const int16_t *coeff, size_t coeff_len, size_t n, uint8_t bit_depth, size_t nx, int16_t *out,
+    size_t out_len);
+residual_answered residual_inv_transform_dst_into_scalar(const int32_t *coeff, size_t coeff_len, uint8_t bit_depth, int32_t *out, size_t out_len);
+residual_answered residual_inv_transform_dst_into_scalar_extended(const int32_t *coeff, size_t coeff_len, uint8_t bit_depth, int32_t *out, size_t out_len);
+residual_answered residual_inv_transform_dst_into_scalar16(const int16_t *coeff, size_t coeff_len, uint8_t bit_depth, int16_t *out, size_t out_len);
+
+#ifdef __cplusplus
+}
+#endif
+
+#endif
