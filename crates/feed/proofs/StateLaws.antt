@@ -1,0 +1,56 @@
+-- Laws of states and of records without text.
+--   capped-id                    a count that fits is held as it is
+--   silent-kept, silent-moved    what a refused record, and an accepted one without text, hand back
+--   silent-takes                 a record without text leaves every buffer as it is
+--   lines-wrote                  what a line holds
+--   levels-given                 a block of levels, by what is known of the parameters
+--   block-takes                  what a record with text hands back
+use mathlib.Core.Path.{_≡_, refl, sym, ap, _∙_}
+use mathlib.Core.List.{List, []}
+use Prim.Native.Nat.{ℕ, _+_, _*_, _≤_, min}
+use native.Mathlib.Omega.{arith}
+use Rattle.integers.specs.Lists.{tabulate, tabulateFrom}
+use Rattle.refusal.specs.declared.Refusal.{Refusal}
+use Rattle.refusal.specs.declared.Answer.the-variants.{Done, Refused}
+use Rattle.refusal.specs.Outcome.{Outcome, accepted, refused}
+use Rattle.text.specs.Text.{WroteUpTo}
+use Rattle.text.proofs.WroteLaws.{wrote-none, wrote-length, counts}
+use Rattle.feed.specs.declared.Given.{Given}
+use Rattle.feed.specs.declared.Line.{Line}
+use Rattle.feed.specs.declared.State.{State}
+use Rattle.feed.specs.declared.Taken.{Taken}
+use Rattle.feed.specs.Record.{FeedState, Effect, unchanged, levelsBy, levelsEffect}
+use Rattle.feed.specs.Answers.{stateOf, capped, Takes, Silent, blankLine, Lines}
+
+pub capped-id : (s : FeedState) → s .blocks ≤ 18446744073709551615 → capped s ≡ s
+unfolding capped
+capped-id s h = ap (λ (b : ℕ). let t : FeedState = record { given = s .given; list = s .list; blocks = b } in t) (let e : min (s .blocks) 18446744073709551615 ≡ s .blocks = omega arith in e)
+
+pub silent-kept : (s : State) (why : Refusal) (at : ℕ) → s .blocks ≤ 18446744073709551615
+    → Silent (record { answer = Refused why; state = s; end = at }) at (refused (unchanged (stateOf s)) why)
+silent-kept s why at h = record { answered = refl; state = sym (capped-id (stateOf s) h); end = refl; none = refl }
+
+pub silent-moved : (s : State) (t : FeedState) (at : ℕ) → s .blocks ≤ 18446744073709551615 → stateOf s ≡ t
+    → Silent (record { answer = Done; state = s; end = at }) at (accepted (record { text = []; state = t }))
+silent-moved s t at h e = record { answered = refl; state = rw (← e) (sym (capped-id (stateOf s) h)); end = refl; none = refl }
+
+pub silent-takes : {r : Taken} {at : ℕ} {o : Outcome Effect} (l : List ℕ) (room : ℕ) → Silent r at o → Takes r l at l o room
+silent-takes {r} {at} {o} l room q =
+    record {
+      answered = q .answered;
+      state = q .state;
+      text = record { wrote = rw (q .none, q .end) (wrote-none l at); bound = omega (arith, q .end) };
+    }
+
+pub block-takes : {l t m : List ℕ} {at end e : ℕ} (s : State) (f : FeedState) (room : ℕ) → stateOf s ≡ capped f → e ≤ at + room
+    → WroteUpTo l at t m end e → Takes (record { answer = Done; state = s; end = end }) l at m (accepted (record { text = t; state = f })) room
+block-takes s f room q h w =
+    record { answered = refl; state = q; text = record { wrote = w .wrote; bound = omega (arith, w .bound) } }
+
+pub levels-given : {g : Given} (s : FeedState) (n : ℕ) (body : List ℕ) → s .given ≡ g → levelsEffect s n body ≡ levelsBy g s n body
+unfolding levelsEffect
+levels-given s n body e = ap (λ (g : Given). levelsBy g s n body) e
+
+pub lines-wrote : {t : List ℕ} (r : Line) → WroteUpTo blankLine 0 t (r .bytes) (r .end) 40 → Lines r t
+unfolding tabulate tabulateFrom
+lines-wrote r w = record { wrote = w .wrote; counts = counts (r .end) (r .bytes) (rw (wrote-length (w .wrote)) (w .bound)) }

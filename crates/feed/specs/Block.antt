@@ -1,0 +1,49 @@
+-- The residual of one block of a feed, by the parameters and the list in force. Document 01, "The feed program"; clause 8.6 in `h265`.
+-- Letters: n size, p the parameters, levels the block's levels in row order.
+--   dstRefused mode n          row 4: the DST has size 4 only
+--   coefficients list p n      the scaled levels
+--   transformedAt t b x n      the residual at an index, of coefficients by a matrix t
+--   residualAt list p n        the residual at an index, of levels by the mode: 0 DCT, 1 DST, 2 transform skip
+--   blockResidual list p n     the whole block
+use mathlib.Core.Bool.{Bool, false, not}
+use mathlib.Core.List.{List}
+use Prim.Native.Nat.{ℕ, _*_}
+use lib.Dec.{eqb}
+use lib.IntN.{ℤ, pos}
+use Rattle.integers.specs.Lists.{tabulate}
+use Rattle.h265.specs.Range.{transformRange}
+use Rattle.h265.specs.ScalingFactor.{ScalingList}
+use Rattle.h265.specs.Scaling.{scaledAt}
+use Rattle.h265.specs.TransformSkip.{skippedAt}
+use Rattle.h265.specs.Matrix.{transMatrix, dstMatrix}
+use Rattle.h265.specs.Transform.{residual, rowOrder}
+use Rattle.feed.specs.declared.Mode.{Mode}
+use Rattle.feed.specs.declared.Mode.the-variants.{Dct, Dst, Skip}
+use Rattle.feed.specs.declared.Parameters.{Parameters}
+
+unfoldable pub dstRefused : Mode → ℕ → Bool
+dstRefused Dct n = false
+dstRefused Dst n = not (eqb n 4)
+dstRefused Skip n = false
+
+unfoldable pub coefficients : ScalingList → Parameters → ℕ → List ℤ → List ℤ
+coefficients list p n levels =
+    tabulate (n * n) (scaledAt list n (p .«bit_depth») (p .«extended_precision») (pos (p .«qp_prime»)) levels)
+
+-- both stages over coefficients, with every column read
+unfoldable pub transformedAt : (ℕ → ℕ → ℤ) → ℕ → Bool → ℕ → List ℤ → ℕ → ℤ
+transformedAt t b x n d = rowOrder n (residual t n b (transformRange b x) n d)
+
+unfoldable pub residualBy : Mode → ScalingList → Parameters → ℕ → List ℤ → ℕ → ℤ
+residualBy Dct list p n levels =
+    transformedAt (transMatrix n) (p .«bit_depth») (p .«extended_precision») n (coefficients list p n levels)
+residualBy Dst list p n levels =
+    transformedAt dstMatrix (p .«bit_depth») (p .«extended_precision») n (coefficients list p n levels)
+residualBy Skip list p n levels =
+    skippedAt list n (p .«bit_depth») (p .«extended_precision») (pos (p .«qp_prime»)) levels
+
+unfoldable pub residualAt : ScalingList → Parameters → ℕ → List ℤ → ℕ → ℤ
+residualAt list p n levels = residualBy (p .mode) list p n levels
+
+unfoldable pub blockResidual : ScalingList → Parameters → ℕ → List ℤ → List ℤ
+blockResidual list p n levels = tabulate (n * n) (residualAt list p n levels)

@@ -1,0 +1,102 @@
+// The feed program: reads a feed from standard input, a record at a time, and writes its text to standard output. Where a read or
+// a write fails it ends at once: no `blocks` line and no `refused` line then says that the text is whole.
+ghost use Prim.Native.Nat.{_≤_};
+ghost use lib.ListN.{length};
+ghost use Rattle.text.specs.Text.{Counts};
+use feed::Line;
+use feed::State;
+use feed::StepAnswer;
+use libc::STDIN_FILENO;
+use libc::STDOUT_FILENO;
+
+// No input is this long; below it an offset cannot wrap.
+const LIMIT: u64 = 9223372036854775808;
+
+struct Progress {
+    going: bool,
+    state: State,
+    offset: u64,
+}
+
+fn stopped(state: State) -> Progress {
+    Progress {
+        going: false,
+        state,
+        offset: 0,
+    }
+}
+
+// Reads n bytes to the start of the buffer, or fewer where the input ends or a read fails.
+fn read_body(n: usize, body: &mut [u8]) -> usize
+    requires { ⌜ n ≤ length (now body) ⌝ }
+    ensures { λ r. ⌜ Counts r (now (body .exit)) ⌝ }
+{
+    io::read_full(STDIN_FILENO, &mut body[..n])
+}
+
+fn write_line(line: Line)
+    requires { ⌜ Counts (line .end) (line .bytes) ⌝ }
+{
+    let bytes = line.bytes;
+    let end = line.end;
+    io::write_all(STDOUT_FILENO, &bytes[..end]);
+}
+
+// One record: reads it and writes its text. A body is cut short where the input has ended; where one more read does not say so, a
+// read failed.
+fn turn(state: State, offset: u64) -> Progress {
+    let mut byte = [0u8; 1];
+    let mut body = [0u8; 4096];
+    let mut out = [0u8; 12288];
+    if offset >= LIMIT {
+        return stopped(state);
+    }
+    let got = libc::read(STDIN_FILENO, &mut byte);
+    if got < 0 {
+        return stopped(state);
+    }
+    if got == 0 {
+        let blocks = state.blocks;
+        write_line(feed::blocks_line(blocks));
+        return stopped(state);
+    }
+    let kind = byte[0];
+    let n = feed::record_length(kind);
+    let there = read_body(n, &mut body);
+    if there < n {
+        if libc::read(STDIN_FILENO, &mut byte) != 0 {
+            return stopped(state);
+        }
+    }
+    let stepped = feed::step(state, kind, &body[..there], &mut out);
+    let next = stepped.state;
+    let end = stepped.end;
+    let answer = stepped.answer;
+    match answer {
+        StepAnswer::Done => Progress {
+            going: io::write_all(STDOUT_FILENO, &out[..end]),
+            state: next,
+            offset: offset + 1 + n as u64,
+        },
+        StepAnswer::Refused(why) => {
+            write_line(feed::refusal_line(why, offset));
+            stopped(next)
+        }
+        StepAnswer::NoRoom => stopped(next),
+    }
+}
+
+fn main() {
+    let mut state = feed::start();
+    let mut offset: u64 = 0;
+    let mut going = true;
+    let mut turns = u64::MAX;
+    while turns > 0 && going {
+        let taken = turn(state, offset);
+        let next = taken.state;
+        state = next;
+        offset = taken.offset;
+        going = taken.going;
+        turns -= 1;
+    }
+}
