@@ -1,0 +1,158 @@
+-- Laws of the conditions that an opening and an edit share.
+--   ladder-passed        where the ladder answers 0, none of them holds
+--   ladder-go            and then an opening or an edit goes on
+--   ladder-refused       where it is refused, the same refusal stops an opening and an edit
+--   fits-ask             what the functions below the refusals rely on
+--   open-refused, open-outside, open-done   what an opening hands back, case by case
+--   edit-refused, edit-place, edit-outside, edit-done   what an edit hands back, case by case
+use mathlib.Core.Path.{_≡_, refl, sym, ap, _∙_}
+use mathlib.Core.Bool.{Bool, true, false, _||_, cond}
+use Prim.Native.Nat.{ℕ, _+_, _*_, _≤_, _<_}
+use native.Mathlib.Omega.{arith}
+use borrow.Author.Tests.{lt-ltb, le-ltb, lt-leb, eqb-true, not-false}
+use lib.Dec.{eqb, leb}
+use lib.IntN.{ℤ}
+use lib.ListN.{length}
+use Rattle.h265.specs.Range.{outsideRange}
+use Rattle.h265.proofs.RangeLaws.{transformRange-least, transformRange-most, transformRange-depth}
+use Rattle.refusal.specs.declared.Answer.the-variants.{Done, Refused}
+use Rattle.refusal.specs.declared.Refusal.{Refusal}
+use Rattle.refusal.specs.declared.Refusal.the-variants.{SizeInvalid, DepthInvalid, WidthTooNarrow, DstSizeInvalid, ListLengthInvalid, InputTooShort, OutputTooShort, PlaceOutside, CoefficientOutside, KindUnknown, BodyTooShort, LevelsBeforeParameters, ParameterInvalid}
+use Rattle.refusal.specs.Refusal.{number}
+use Rattle.refusal.specs.Condition.{sizeRefused, depthRefused, blockRefused}
+use Rattle.refusal.specs.Outcome.{Outcome, accepted, refused, answer}
+use Rattle.refusal.proofs.ConditionLaws.{size-accepted, depth-accepted}
+use Rattle.coefficients.specs.Outside.{firstOutside}
+use Rattle.transform_1d.specs.declared.Kind.{Kind}
+use Rattle.transform_1d.specs.declared.Kind.the-variants.{Dct, Dst}
+use Rattle.edited_block.specs.declared.EditedBlock.{EditedBlock}
+use Rattle.edited_block.specs.Columns.{columnCount}
+use Rattle.edited_block.specs.Edit.{Buffers, Left, zeroBlock, dstRefused, blockLadder, stopped, opened, openedBuffers, withColumns, edited, editedBuffers, Opens, Edits, BlockAsk}
+use Rattle.edited_block.specs.History.{Opening, rangeOf}
+use Rattle.edited_block.specs.Run.{openedAs, blockOf}
+use Rattle.edited_block.proofs.OpeningLaws.{Fits, coeff-long, inter-long, res-long, opened-is}
+
+number-least : (e : Refusal) → 1 ≤ number e
+number-least SizeInvalid = omega arith
+number-least DepthInvalid = omega arith
+number-least WidthTooNarrow = omega arith
+number-least DstSizeInvalid = omega arith
+number-least ListLengthInvalid = omega arith
+number-least InputTooShort = omega arith
+number-least OutputTooShort = omega arith
+number-least PlaceOutside = omega arith
+number-least (CoefficientOutside at) = omega arith
+number-least KindUnknown = omega arith
+number-least BodyTooShort = omega arith
+number-least LevelsBeforeParameters = omega arith
+number-least ParameterInvalid = omega arith
+
+-- one condition of a ladder that answers 0
+past : (t : Bool) (f : Refusal) (x : Outcome (Unit {0})) → accepted tt ≡ cond t (refused tt f) x → (t ≡ false) × (accepted tt ≡ x)
+past true f x p = absurd (let z : 0 ≡ number f = ap (λ (o : Outcome (Unit {0})). o .number) p in let b : ⊥ = omega (arith, number-least f) in b)
+past false f x p = (refl, p)
+
+dst-four : (k : Kind) (n : ℕ) → dstRefused k n ≡ false → k ≡ Dst → n ≡ 4
+unfolding dstRefused
+dst-four Dct n f q = cc
+dst-four Dst n f q = eqb-true n 4 (not-false (eqb n 4) f)
+
+-- one condition of a ladder that is refused with r
+rung : (block : EditedBlock) (lent : Buffers) (r : Refusal) (t : Bool) (f : Refusal) (x : Outcome (Unit {0})) (y : Left) → refused tt r ≡ cond t (refused tt f) x
+    → (refused tt r ≡ x → y ≡ stopped block lent r) → cond t (stopped block lent f) y ≡ stopped block lent r
+rung block lent r true f x y p k = ap (λ (o : Outcome (Unit {0})). record { answer = o; block = block; buffers = lent }) (sym p)
+rung block lent r false f x y p k = k p
+
+-- the ladder of an opening, or of an edit of its block, on lent buffers
+abbrev pub ladder : {A : Type 0} → Opening → Buffers → (Refusal → A) → A → A
+ladder o lent stop go = blockLadder stop go (o .kind) (o .size) (o .depth) (length (lent .coeff)) (length (lent .inter)) (length (lent .res))
+
+module _ (o : Opening) (lent : Buffers) where
+  pub ladder-passed : answer Done ≡ ladder o lent (refused tt) (accepted tt) → Fits o lent
+  unfolding blockLadder
+  ladder-passed p =
+      let p₁ = past (sizeRefused (o .size)) SizeInvalid _ p in
+      let p₂ = past (depthRefused (o .depth)) DepthInvalid _ (p₁ .1) in
+      let p₃ = past (dstRefused (o .kind) (o .size)) DstSizeInvalid _ (p₂ .1) in
+      let p₄ = past (blockRefused (o .size) (length (lent .coeff))) InputTooShort _ (p₃ .1) in
+      let p₅ = past (blockRefused (o .size) (length (lent .inter)) || blockRefused (o .size) (length (lent .res))) OutputTooShort _ (p₄ .1) in
+      record { size = p₁ .0; depth = p₂ .0; dst = p₃ .0; coeff = p₄ .0; work = p₅ .0 }
+
+  pub ladder-go : {A : Type 0} (stop : Refusal → A) (go : A) → Fits o lent → ladder o lent stop go ≡ go
+  unfolding blockLadder
+  ladder-go stop go f = rw (f .size, f .depth, f .dst, f .coeff, f .work)
+
+  pub ladder-refused : (block : EditedBlock) (r : Refusal) (go : Left) → answer (Refused r) ≡ ladder o lent (refused tt) (accepted tt)
+      → ladder o lent (stopped block lent) go ≡ stopped block lent r
+  unfolding blockLadder
+  ladder-refused block r go p =
+      rung block lent r (sizeRefused (o .size)) SizeInvalid _ _ p
+      (λ p₁. rung block lent r (depthRefused (o .depth)) DepthInvalid _ _ p₁
+      (λ p₂. rung block lent r (dstRefused (o .kind) (o .size)) DstSizeInvalid _ _ p₂
+      (λ p₃. rung block lent r (blockRefused (o .size) (length (lent .coeff))) InputTooShort _ _ p₃
+      (λ p₄. rung block lent r (blockRefused (o .size) (length (lent .inter)) || blockRefused (o .size) (length (lent .res))) OutputTooShort _ _ p₄ never))))
+    where
+      never : answer (Refused r) ≡ answer Done → go ≡ stopped block lent r
+      never q = absurd (let z : number r ≡ 0 = ap (λ (a : Outcome (Unit {0})). a .number) q in let b : ⊥ = omega (arith, number-least r) in b)
+
+  pub fits-ask : Fits o lent → BlockAsk (o .kind) (o .size) (o .depth) (rangeOf o) (length (lent .coeff)) (length (lent .inter)) (length (lent .res))
+  fits-ask f =
+      let h = depth-accepted (o .depth) (f .depth) in
+      record {
+        size = size-accepted (o .size) (f .size);
+        dst = dst-four (o .kind) (o .size) (f .dst);
+        depth = h;
+        range = (
+          transformRange-least (o .depth) (o .extended),
+          transformRange-most (o .depth) (o .extended) (h .1),
+          transformRange-depth (o .depth) (o .extended) (h .0),
+          omega (arith, transformRange-least (o .depth) (o .extended), h .1),
+        );
+        coeff = coeff-long o lent f;
+        inter = inter-long o lent f;
+        res = res-long o lent f;
+      }
+
+  -- ---- an opening
+  pub open-refused : (r : Refusal) → answer (Refused r) ≡ ladder o lent (refused tt) (accepted tt) → openedAs o lent ≡ stopped zeroBlock lent r
+  unfolding openedAs opened
+  open-refused r p = ladder-refused zeroBlock r _ p
+
+  pub open-outside : Fits o lent → (first : ℕ) → first ≡ firstOutside (rangeOf o) (o .size) (o .size) (lent .coeff) → first < o .size * o .size
+      → openedAs o lent ≡ stopped zeroBlock lent (CoefficientOutside first)
+  unfolding openedAs opened
+  open-outside f first e h = ladder-go _ _ f ∙ rw (sym e, lt-ltb first (o .size * o .size) h)
+
+  pub open-done : Fits o lent → (first : ℕ) → first ≡ firstOutside (rangeOf o) (o .size) (o .size) (lent .coeff) → o .size * o .size ≤ first
+      → openedAs o lent ≡ record { answer = accepted tt; block = blockOf o (columnCount (o .size) (lent .coeff)); buffers = openedBuffers (o .kind) (o .size) (o .depth) (rangeOf o) lent }
+  open-done f first e h = opened-is o lent (record { fits = f; first = rw (sym e) (le-ltb first (o .size * o .size) h) })
+
+  pub opens-stopped : (r : Refusal) (left : EditedBlock) → openedAs o lent ≡ stopped zeroBlock lent r → left ≡ zeroBlock → Opens (openedAs o lent) (Refused r) left (lent .inter) (lent .res)
+  opens-stopped r left p z = rw p (record { answered = refl; block = z; inter = refl; res = refl })
+
+-- ---- an edit
+abbrev pub openingOf : EditedBlock → Opening
+openingOf block = record { kind = block .kind; size = block .size; depth = block .depth; extended = block .extended }
+
+module _ (block : EditedBlock) (lent : Buffers) (row column : ℕ) (value : ℤ) where
+  pub edit-refused : (r : Refusal) → answer (Refused r) ≡ ladder (openingOf block) lent (refused tt) (accepted tt) → edited block lent row column value ≡ stopped block lent r
+  unfolding edited
+  edit-refused r p = ladder-refused (openingOf block) lent block r _ p
+
+  pub edit-place : Fits (openingOf block) lent → leb (block .size) row || leb (block .size) column ≡ true → edited block lent row column value ≡ stopped block lent PlaceOutside
+  unfolding edited
+  edit-place f p = ladder-go (openingOf block) lent _ _ f ∙ rw p
+
+  pub edit-outside : Fits (openingOf block) lent → row < block .size → column < block .size → outsideRange (rangeOf (openingOf block)) value ≡ true
+      → edited block lent row column value ≡ stopped block lent (CoefficientOutside (row * block .size + column))
+  unfolding edited
+  edit-outside f hr hc o = ladder-go (openingOf block) lent _ _ f ∙ rw (lt-leb (block .size) row hr, lt-leb (block .size) column hc, o)
+
+  pub edit-done : Fits (openingOf block) lent → row < block .size → column < block .size → outsideRange (rangeOf (openingOf block)) value ≡ false
+      → let after : Buffers = editedBuffers (block .kind) (block .size) (block .depth) (rangeOf (openingOf block)) lent row column value in
+      edited block lent row column value ≡ record { answer = accepted tt; block = withColumns block (columnCount (block .size) (after .coeff)); buffers = after }
+  unfolding edited
+  edit-done f hr hc o = ladder-go (openingOf block) lent _ _ f ∙ rw (lt-leb (block .size) row hr, lt-leb (block .size) column hc, o)
+
+  pub edits-stopped : (r : Refusal) → edited block lent row column value ≡ stopped block lent r → Edits (edited block lent row column value) (Refused r) block (lent .coeff) (lent .inter) (lent .res)
+  edits-stopped r p = rw p (record { answered = refl; block = refl; coeff = refl; inter = refl; res = refl })

@@ -1,0 +1,141 @@
+-- The opening and one edit, on any buffers, refused calls included. Document 01, "The held block", and rows 1, 2, 4, 6, 7, 8, 9 of its table.
+-- Letters: n size, b depth, x extended precision, r range, d coefficients, g intermediate, e residual.
+--   Buffers                   the three lent buffers
+--   Left                      what a call hands back: outcome, record and buffers
+--   reported, zeroBlock       a call's answer and record as an outcome; the record of a refused opening
+--   intermediateOf, residualOf   stage one over coefficients, and stage two over an intermediate; every value is read limited to the
+--                             range, since a caller may have spoiled the buffers
+--   opened                    the opening
+--   edited                    one edit
+--   Opens, Edits              a call's answer, record and buffers are what `opened` or `edited` says
+use mathlib.Core.Path.{_≡_}
+use mathlib.Core.Bool.{Bool, false, not, _&&_, _||_, cond}
+use mathlib.Core.List.{List}
+use Prim.Native.Nat.{ℕ, _+_, _*_, _≤_}
+use lib.Dec.{T, eqb, leb, ltb}
+use lib.IntN.{ℤ}
+use lib.ListN.{length, set}
+use Rattle.integers.specs.Lists.{overwrite}
+use Rattle.h265.specs.Range.{isSize, transformRange, outsideRange}
+use Rattle.h265.specs.Transform.{rowOrder, intermediate, stageTwo, stageTwoShift}
+use Rattle.refusal.specs.declared.Answer.{Answer}
+use Rattle.refusal.specs.declared.Refusal.{Refusal}
+use Rattle.refusal.specs.declared.Refusal.the-variants.{SizeInvalid, DepthInvalid, DstSizeInvalid, InputTooShort, OutputTooShort, PlaceOutside, CoefficientOutside}
+use Rattle.refusal.specs.Condition.{sizeRefused, depthRefused, blockRefused}
+use Rattle.refusal.specs.Outcome.{Outcome, accepted, refused, answer}
+use Rattle.transform_1d.specs.declared.Kind.{Kind}
+use Rattle.transform_1d.specs.declared.Kind.the-variants.{Dct, Dst}
+use Rattle.transform_1d.specs.MatrixOf.{matrixOf}
+use Rattle.coefficients.specs.Outside.{firstOutside}
+use Rattle.edited_block.specs.declared.EditedBlock.{EditedBlock}
+use Rattle.stages_wide.specs.Wide.{columnReplaced, limitedBlock}
+use Rattle.edited_block.specs.Columns.{columnCount}
+
+pub record Buffers : Type 0 where
+  pub coeff : List ℤ
+  pub inter : List ℤ
+  pub res : List ℤ
+
+pub record Left : Type 0 where
+  pub answer : Outcome (Unit {0})
+  pub block : EditedBlock
+  pub buffers : Buffers
+
+abbrev pub zeroBlock : EditedBlock
+zeroBlock = record { kind = Dct; size = 0; depth = 0; extended = Bool.false; columns = 0 }
+
+abbrev pub isDst : Kind → Bool
+isDst Dct = Bool.false
+isDst Dst = Bool.true
+
+-- row 4
+unfoldable pub dstRefused : Kind → ℕ → Bool
+dstRefused kind n = isDst kind && not (eqb n 4)
+
+unfoldable pub intermediateOf : Kind → ℕ → ℕ → List ℤ → ℕ → ℕ → ℤ
+intermediateOf kind n r d = intermediate (matrixOf kind n) n r (limitedBlock r n d)
+
+unfoldable pub residualOf : Kind → ℕ → ℕ → ℕ → List ℤ → ℕ → ℕ → ℤ
+residualOf kind n b r g = stageTwo (matrixOf kind n) n (stageTwoShift b r) (limitedBlock r n g)
+
+-- the conditions that an opening and an edit share, lowest number first: by the buffers' lengths; `stop` makes something of a refusal
+unfoldable pub blockLadder : {A : Type 0} → (Refusal → A) → A → Kind → ℕ → ℕ → ℕ → ℕ → ℕ → A
+blockLadder stop go kind n b coeff inter res =
+    cond (sizeRefused n) (stop SizeInvalid)
+    (cond (depthRefused b) (stop DepthInvalid)
+    (cond (dstRefused kind n) (stop DstSizeInvalid)
+    (cond (blockRefused n coeff) (stop InputTooShort)
+    (cond (blockRefused n inter || blockRefused n res) (stop OutputTooShort) go))))
+
+abbrev pub stopped : EditedBlock → Buffers → Refusal → Left
+stopped block lent e = record { answer = refused tt e; block = block; buffers = lent }
+
+unfoldable pub openedBuffers : Kind → ℕ → ℕ → ℕ → Buffers → Buffers
+openedBuffers kind n b r lent =
+    let g : List ℤ = overwrite (n * n) (rowOrder n (intermediateOf kind n r (lent .coeff))) (lent .inter) in
+    record { coeff = lent .coeff; inter = g; res = overwrite (n * n) (rowOrder n (residualOf kind n b r g)) (lent .res) }
+
+unfoldable pub opened : Kind → ℕ → ℕ → Bool → Buffers → Left
+opened kind n b x lent =
+    let r : ℕ = transformRange b x in
+    let first : ℕ = firstOutside r n n (lent .coeff) in
+    blockLadder (stopped zeroBlock lent)
+    (cond (ltb first (n * n)) (stopped zeroBlock lent (CoefficientOutside first))
+    (record {
+      answer = accepted tt;
+      block = record { kind = kind; size = n; depth = b; extended = x; columns = columnCount n (lent .coeff) };
+      buffers = openedBuffers kind n b r lent;
+    }))
+    kind n b (length (lent .coeff)) (length (lent .inter)) (length (lent .res))
+
+unfoldable pub editedBuffers : Kind → ℕ → ℕ → ℕ → Buffers → ℕ → ℕ → ℤ → Buffers
+editedBuffers kind n b r lent row column value =
+    let d : List ℤ = set (lent .coeff) (row * n + column) value in
+    let g : List ℤ = columnReplaced n column (λ m. intermediateOf kind n r d m column) (lent .inter) in
+    record { coeff = d; inter = g; res = overwrite (n * n) (rowOrder n (residualOf kind n b r g)) (lent .res) }
+
+abbrev pub withColumns : EditedBlock → ℕ → EditedBlock
+withColumns block c = record { kind = block .kind; size = block .size; depth = block .depth; extended = block .extended; columns = c }
+
+unfoldable pub edited : EditedBlock → Buffers → ℕ → ℕ → ℤ → Left
+edited block lent row column value =
+    let n : ℕ = block .size in
+    let b : ℕ = block .depth in
+    let r : ℕ = transformRange b (block .extended) in
+    let after : Buffers = editedBuffers (block .kind) n b r lent row column value in
+    blockLadder (stopped block lent)
+    (cond (leb n row || leb n column) (stopped block lent PlaceOutside)
+    (cond (outsideRange r value) (stopped block lent (CoefficientOutside (row * n + column)))
+    (record { answer = accepted tt; block = withColumns block (columnCount n (after .coeff)); buffers = after })))
+    (block .kind) n b (length (lent .coeff)) (length (lent .inter)) (length (lent .res))
+
+abbrev pub buffers : List ℤ → List ℤ → List ℤ → Buffers
+buffers d g e = record { coeff = d; inter = g; res = e }
+
+-- the coefficients are lent to an opening for reading alone
+pub record Opens (h : Left) (a : Answer) (left : EditedBlock) (g e : List ℤ) : Type 0 where
+  pub answered : answer a ≡ h .answer
+  pub block : left ≡ h .block
+  pub inter : g ≡ h .buffers .inter
+  pub res : e ≡ h .buffers .res
+
+pub record Edits (h : Left) (a : Answer) (left : EditedBlock) (d g e : List ℤ) : Type 0 where
+  pub answered : answer a ≡ h .answer
+  pub block : left ≡ h .block
+  pub coeff : d ≡ h .buffers .coeff
+  pub inter : g ≡ h .buffers .inter
+  pub res : e ≡ h .buffers .res
+
+-- what the functions below the refusals rely on, and what they leave in the two work buffers
+pub record BlockAsk (kind : Kind) (n b r : ℕ) (d g e : ℕ) : Type 0 where
+  pub size : T (isSize n)
+  pub dst : kind ≡ Dst → n ≡ 4
+  pub depth : (8 ≤ b) × (b ≤ 16)
+  pub range : (15 ≤ r) × (r ≤ 22) × (r ≤ b + 7) × (b ≤ r + 1)
+  pub coeff : n * n ≤ d
+  pub inter : n * n ≤ g
+  pub res : n * n ≤ e
+
+pub record Staged (after : Buffers) (g e : List ℤ) : Type 0 where
+  pub inter : g ≡ after .inter
+  pub res : e ≡ after .res

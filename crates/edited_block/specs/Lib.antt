@@ -1,0 +1,4 @@
+pub mod Columns
+pub mod Edit
+pub mod History
+pub mod Run

@@ -1,0 +1,284 @@
+// A transform block that is opened once and then changed one coefficient at a time (document 01: the held block).
+ghost use mathlib.Core.Path.{_≡_};
+ghost use Prim.Native.Nat.{_+_, _*_, _<_, _≤_};
+ghost use lib.Dec.{T};
+ghost use lib.ListN.{length, set};
+ghost use Rattle.h265.specs.Range.{isSize};
+ghost use Rattle.refusal.specs.Outcome.{accepted, refused, answer};
+ghost use Rattle.edited_block.specs.Columns.{columnCount};
+ghost use Rattle.edited_block.specs.Edit.{dstRefused, blockLadder, zeroBlock, openedBuffers, opened, editedBuffers, withColumns, edited, buffers, Opens, Edits, BlockAsk, Staged};
+use refusal::Answer;
+use refusal::Refusal;
+use transform_1d::Kind;
+
+// What an opening fixes, and how many columns are in use. The buffers stay with the caller.
+pub struct EditedBlock {
+    pub kind: Kind,
+    pub size: usize,
+    pub depth: u8,
+    pub extended: bool,
+    pub columns: usize,
+}
+
+// What an opening answers, or an edit that takes the record by value, with the record afterwards.
+pub struct Opened {
+    pub answer: Answer,
+    pub block: EditedBlock,
+}
+
+// What an edit answers, with the column count afterwards.
+pub struct Edited {
+    pub answer: Answer,
+    pub columns: usize,
+}
+
+// One past the last column that has a coefficient other than zero, or 0: from the last column leftwards, to the first such one.
+fn column_count(coeff: &[i32], n: usize) -> usize
+    requires { ⌜ T (isSize n) × (n * n ≤ length (now coeff)) ⌝ }
+    ensures { λ r. ⌜ r ≡ columnCount n (now (coeff .entry)) ⌝ }
+{
+    let mut c = n;
+    'scan: loop {
+        if c == 0 {
+            break 'scan 0;
+        }
+        let mut k = 0;
+        while k < n {
+            let at = k * n + (c - 1);
+            if coeff[at] != 0 {
+                break 'scan c;
+            }
+            k += 1;
+        }
+        c -= 1;
+    }
+}
+
+// Row 4: the DST has four points.
+fn dst_refused(kind: Kind, n: usize) -> bool
+    ensures { λ r. ⌜ r ≡ dstRefused kind n ⌝ }
+{
+    match kind {
+        Kind::Dct => false,
+        Kind::Dst => n != 4,
+    }
+}
+
+// The refusals that an opening and an edit share.
+fn block_refusal(
+    kind: Kind,
+    n: usize,
+    bit_depth: u8,
+    coeff: usize,
+    inter: usize,
+    residual: usize,
+) -> Answer
+    ensures { λ r. ⌜ answer r ≡ blockLadder (refused tt) (accepted tt) kind n «bit_depth» coeff inter residual ⌝ }
+{
+    if refusal::size_refused(n) {
+        return Answer::Refused(Refusal::SizeInvalid);
+    }
+    if refusal::depth_refused(bit_depth) {
+        return Answer::Refused(Refusal::DepthInvalid);
+    }
+    if dst_refused(kind, n) {
+        return Answer::Refused(Refusal::DstSizeInvalid);
+    }
+    let cells = n * n;
+    if coeff < cells {
+        return Answer::Refused(Refusal::InputTooShort);
+    }
+    if inter < cells {
+        return Answer::Refused(Refusal::OutputTooShort);
+    }
+    if residual < cells {
+        return Answer::Refused(Refusal::OutputTooShort);
+    }
+    Answer::Done
+}
+
+fn zero_block() -> EditedBlock
+    ensures { λ r. ⌜ r ≡ zeroBlock ⌝ }
+{
+    EditedBlock {
+        kind: Kind::Dct,
+        size: 0,
+        depth: 0,
+        extended: false,
+        columns: 0,
+    }
+}
+
+// Both stages of an opening, over all columns.
+fn open_stages(
+    kind: Kind,
+    n: usize,
+    bit_depth: u8,
+    range: u32,
+    coeff: &[i32],
+    inter: &mut [i32],
+    residual: &mut [i32],
+)
+    requires { ⌜ BlockAsk kind n «bit_depth» range (length (now coeff)) (length (now inter)) (length (now residual)) ⌝ }
+    ensures { λ _. ⌜ Staged (openedBuffers kind n «bit_depth» range (buffers (now (coeff .entry)) (now (inter .entry)) (now (residual .entry)))) (now (inter .exit)) (now (residual .exit)) ⌝ }
+{
+    stages_wide::intermediate_of(kind, n, range, coeff, inter);
+    stages_wide::residual_of(kind, n, bit_depth, range, inter, residual);
+}
+
+// Opens a block on lent coefficients, which it leaves, and writes its intermediate and its residual.
+pub fn open_block(
+    kind: Kind,
+    n: usize,
+    bit_depth: u8,
+    extended_precision: bool,
+    coeff: &[i32],
+    inter: &mut [i32],
+    residual: &mut [i32],
+) -> Opened
+    ensures { λ r. ⌜ Opens (opened kind n «bit_depth» «extended_precision» (buffers (now (coeff .entry)) (now (inter .entry)) (now (residual .entry)))) (r .answer) (r .block) (now (inter .exit)) (now (residual .exit)) ⌝ }
+{
+    let checked = block_refusal(kind, n, bit_depth, coeff.len(), inter.len(), residual.len());
+    if let Answer::Refused(why) = checked {
+        return Opened {
+            answer: Answer::Refused(why),
+            block: zero_block(),
+        };
+    }
+    let range = coefficients::transform_range(bit_depth, extended_precision);
+    let first = coefficients::first_outside(coeff, n, n, range);
+    if first < n * n {
+        return Opened {
+            answer: Answer::Refused(Refusal::CoefficientOutside(first)),
+            block: zero_block(),
+        };
+    }
+    open_stages(kind, n, bit_depth, range, coeff, inter, residual);
+    Opened {
+        answer: Answer::Done,
+        block: EditedBlock {
+            kind,
+            size: n,
+            depth: bit_depth,
+            extended: extended_precision,
+            columns: column_count(coeff, n),
+        },
+    }
+}
+
+// An accepted edit: the value set, the intermediate's column computed anew, and the residual.
+fn edit_stages(
+    kind: Kind,
+    n: usize,
+    bit_depth: u8,
+    range: u32,
+    coeff: &mut [i32],
+    inter: &mut [i32],
+    residual: &mut [i32],
+    row: usize,
+    column: usize,
+    value: i32,
+)
+    requires { ⌜ BlockAsk kind n «bit_depth» range (length (now coeff)) (length (now inter)) (length (now residual)) × (row < n) × (column < n) ⌝ }
+    ensures { λ _. ⌜ (now (coeff .exit) ≡ set (now (coeff .entry)) (row * n + column) value) × Staged (editedBuffers kind n «bit_depth» range (buffers (now (coeff .entry)) (now (inter .entry)) (now (residual .entry))) row column value) (now (inter .exit)) (now (residual .exit)) ⌝ }
+{
+    coeff[row * n + column] = value;
+    stages_wide::intermediate_column(kind, n, range, coeff, column, inter);
+    stages_wide::residual_of(kind, n, bit_depth, range, inter, residual);
+}
+
+// One edit of a block whose record is given by value; the new column count is in the answer.
+pub fn edit_core(
+    block: EditedBlock,
+    coeff: &mut [i32],
+    inter: &mut [i32],
+    residual: &mut [i32],
+    row: usize,
+    column: usize,
+    value: i32,
+) -> Edited
+    ensures { λ r. ⌜ Edits (edited block (buffers (now (coeff .entry)) (now (inter .entry)) (now (residual .entry))) row column value) (r .answer) (withColumns block (r .columns)) (now (coeff .exit)) (now (inter .exit)) (now (residual .exit)) ⌝ }
+{
+    let kind = block.kind;
+    let n = block.size;
+    let bit_depth = block.depth;
+    let extended_precision = block.extended;
+    let columns = block.columns;
+    let checked = block_refusal(kind, n, bit_depth, coeff.len(), inter.len(), residual.len());
+    if let Answer::Refused(why) = checked {
+        return Edited {
+            answer: Answer::Refused(why),
+            columns,
+        };
+    }
+    if n <= row {
+        return Edited {
+            answer: Answer::Refused(Refusal::PlaceOutside),
+            columns,
+        };
+    }
+    if n <= column {
+        return Edited {
+            answer: Answer::Refused(Refusal::PlaceOutside),
+            columns,
+        };
+    }
+    let range = coefficients::transform_range(bit_depth, extended_precision);
+    if coefficients::is_outside(value, range) {
+        return Edited {
+            answer: Answer::Refused(Refusal::CoefficientOutside(row * n + column)),
+            columns,
+        };
+    }
+    edit_stages(
+        kind,
+        n,
+        bit_depth,
+        range,
+        coeff,
+        inter,
+        residual,
+        row,
+        column,
+        value,
+    );
+    Edited {
+        answer: Answer::Done,
+        columns: column_count(coeff, n),
+    }
+}
+
+// One edit of an open block: sets the value, and writes the column count, the intermediate and the residual. A refused edit changes nothing.
+pub fn edit(
+    block: &mut EditedBlock,
+    coeff: &mut [i32],
+    inter: &mut [i32],
+    residual: &mut [i32],
+    row: usize,
+    column: usize,
+    value: i32,
+) -> Answer
+    ensures { λ r. ⌜ Edits (edited (now (block .entry)) (buffers (now (coeff .entry)) (now (inter .entry)) (now (residual .entry))) row column value) r (now (block .exit)) (now (coeff .exit)) (now (inter .exit)) (now (residual .exit)) ⌝ }
+{
+    let b = *block;
+    let e = edit_core(b, coeff, inter, residual, row, column, value);
+    block.columns = e.columns;
+    e.answer
+}
+
+// The same edit of a record that is given by value and handed back.
+pub fn edit_by_value(
+    block: EditedBlock,
+    coeff: &mut [i32],
+    inter: &mut [i32],
+    residual: &mut [i32],
+    row: usize,
+    column: usize,
+    value: i32,
+) -> Opened
+    ensures { λ r. ⌜ Edits (edited block (buffers (now (coeff .entry)) (now (inter .entry)) (now (residual .entry))) row column value) (r .answer) (r .block) (now (coeff .exit)) (now (inter .exit)) (now (residual .exit)) ⌝ }
+{
+    let mut b = block;
+    let answer = edit(&mut b, coeff, inter, residual, row, column, value);
+    Opened { answer, block: b }
+}
