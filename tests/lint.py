@@ -11,6 +11,9 @@ INTERNAL = {"integers", "coefficients", "transform_1d", "stages", "stages_wide",
 # each function calls one entry point and cites its definition, so that entry point's edits stand for it too
 WRAPPERS = {"c_api"}
 
+# in halves, so that the rule does not find itself
+MARKS = re.compile(r"\b(" + "|".join(("TO" "DO", "FIX" "ME", "X" "XX")) + r")\b")
+
 found = []
 
 
@@ -71,9 +74,9 @@ def text_rules(files):
             continue
         for number, line in enumerate(text.split("\n"), 1):
             where = f"{path}:{number}"
-            if path.parts[0] != "tests" and re.search(r"(^|[^A-Za-z0-9_.])/(work|farm|tmp|root|home|opt|Users)/[A-Za-z]", line):
+            if re.search(r"(^|[^A-Za-z0-9_.])/(work|farm|tmp|root|home|opt|Users)/[A-Za-z]", line):
                 say("a path of one machine", where)
-            if path.parts[0] != "tests" and re.search(r"\b(TODO|FIXME|XXX)\b", line):
+            if MARKS.search(line):
                 say("a left-over mark", where)
             if "specs" in path.parts and ".proofs." in line and path.suffix == ".antt":
                 say("proofs cited inside specs/", where)

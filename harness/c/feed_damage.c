@@ -126,8 +126,9 @@ int main(int count, char **words) {
         waitpid(pid, &status, 0);
         if (status != 0) fail("not ended with status 0", run);
         ssize_t wrote = pread(out, text, sizeof text - 1, 0);
-        text[wrote < 0 ? 0 : wrote] = 0;
-        if (!well_formed(text)) fail("text that is not rows and a last line", run);
+        if (wrote < 0) fail("no text to read", run);
+        text[wrote] = 0;
+        if (strlen(text) != (size_t)wrote || !well_formed(text)) fail("text that is not rows and a last line", run);
         refused += strstr(text, "refused") != 0;
     }
     printf("feed_damage: %llu feeds, %llu refused, every text well formed\n", (unsigned long long)runs, (unsigned long long)refused);
