@@ -1,2 +1,3 @@
 -- Laws of the records that C gets.
 pub mod AnswersLaws
+pub mod EditsLaws

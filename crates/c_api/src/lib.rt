@@ -1,9 +1,13 @@
 // The library for C and Rust: every entry point under the prefix residual_, with numbers and slices as arguments and one record of numbers as answer. include/residual.h declares the same for C.
 mod answers;
+mod edits;
 mod levels;
 mod quantities;
 mod transforms;
 
+pub use edits::residual_edit;
+pub use edits::residual_open_and_edit;
+pub use edits::residual_open_block;
 pub use levels::residual_dequantize_into_scalar_i16;
 pub use levels::residual_dequantize_into_scalar_i32;
 pub use levels::residual_dequantize_scaled_into_scalar_i16;
@@ -69,4 +73,29 @@ pub struct TransformSkipAnswered {
     pub clip_max: i64,
     pub tr_add: i32,
     pub tr_shift: i32,
+}
+
+// An answer with the record of an edited block; `dst` is its kind.
+#[repr(C)]
+pub struct BlockAnswered {
+    pub number: u32,
+    pub place: usize,
+    pub dst: bool,
+    pub size: usize,
+    pub depth: u8,
+    pub extended: bool,
+    pub columns: usize,
+}
+
+// The same, with how many edits were given to the block.
+#[repr(C)]
+pub struct ListAnswered {
+    pub number: u32,
+    pub place: usize,
+    pub dst: bool,
+    pub size: usize,
+    pub depth: u8,
+    pub extended: bool,
+    pub columns: usize,
+    pub edits: usize,
 }

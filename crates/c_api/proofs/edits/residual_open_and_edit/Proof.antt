@@ -1,0 +1,55 @@
+-- `c_api::edits::residual_open_and_edit` meets its contract: the record holds what `edited_list::open_and_edit` handed back, and the buffers are what it left.
+use mathlib.Core.Path.{_∙_}
+use borrow.Author.Needs.{needs}
+use Rattle.c_api.proofs.edits.residual_open_and_edit.Statement.{statement}
+use Rattle.c_api.proofs.edits.residual_open_and_edit.Tie as tie
+
+kind-of-requires : tie.Need-kind-of-requires
+kind-of-requires c κs = search needs
+
+open-and-edit-requires : tie.Need-open-and-edit-requires
+open-and-edit-requires c κs = search needs
+
+block-answered-requires : tie.Need-block-answered-requires
+block-answered-requires c κs = search needs
+
+same-length : tie.Need-same-length
+same-length c = search needs
+
+same-length-2 : tie.Need-same-length-2
+same-length-2 c = search needs
+
+same-length-3 : tie.Need-same-length-3
+same-length-3 c = search needs
+
+same-length-4 : tie.Need-same-length-4
+same-length-4 c = search needs
+
+same-length-5 : tie.Need-same-length-5
+same-length-5 c = search needs
+
+returns : tie.Need-returns
+returns c =
+    let told = c .block-answered .ensures in
+    let l = rw (c .before .before .before .before .before .before .before .before .before .before .before .before .before .before .before .kind-of .ensures) at (c .before .before .before .before .before .before .before .before .before .open-and-edit .ensures) in
+    record {
+      answered = record { answered = told .answered ∙ l .answered; block-is = told .block-is ∙ l .block };
+      edits = l .edits;
+      buffers = l .buffers;
+      numbers-are = l .numbers-are;
+      places-are = l .places-are;
+    }
+
+pub residual-open-and-edit-spec : {M : Type 1} → statement M
+residual-open-and-edit-spec =
+    tie.close
+    (tie.spec
+    kind-of-requires
+    open-and-edit-requires
+    block-answered-requires
+    same-length
+    same-length-2
+    same-length-3
+    same-length-4
+    same-length-5
+    returns)
