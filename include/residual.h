@@ -56,6 +56,28 @@ typedef struct {
     int32_t tr_shift;
 } residual_transform_skip_answered;
 
+/* The record of an edited block, zeros where an opening was refused. */
+typedef struct {
+    uint32_t number;
+    size_t place;
+    bool dst;
+    size_t size;
+    uint8_t depth;
+    bool extended;
+    size_t columns;
+} residual_block_answered;
+
+typedef struct {
+    uint32_t number;
+    size_t place;
+    bool dst;
+    size_t size;
+    uint8_t depth;
+    bool extended;
+    size_t columns;
+    size_t edits;
+} residual_list_answered;
+
 /* Quantities: the range R, what QP' is above QP, QP', and the numbers by which a block is scaled. */
 residual_number_answered residual_max_log2_transform_dynamic_range(uint8_t bit_depth, bool extended_precision);
 residual_number_answered residual_qp_bd_offset(uint8_t bit_depth);
@@ -95,6 +117,17 @@ residual_answered residual_inv_transform_into_scalar16(const int16_t *coeff, siz
 residual_answered residual_inv_transform_dst_into_scalar(const int32_t *coeff, size_t coeff_len, uint8_t bit_depth, int32_t *out, size_t out_len);
 residual_answered residual_inv_transform_dst_into_scalar_extended(const int32_t *coeff, size_t coeff_len, uint8_t bit_depth, int32_t *out, size_t out_len);
 residual_answered residual_inv_transform_dst_into_scalar16(const int16_t *coeff, size_t coeff_len, uint8_t bit_depth, int16_t *out, size_t out_len);
+
+/* Edited blocks. An opening takes the coefficients and writes intermediate and residual; an edit puts one value at a row and column and brings both up to date.
+ * The record that a call hands back goes into the next edit by its parts; an edit that is refused hands back the record it was given.
+ * A list of edits is as long as the shortest of rows, columns, values, numbers and places; the answer to edit i goes to numbers[i] and places[i]. */
+residual_block_answered residual_open_block(bool dst, size_t n, uint8_t bit_depth, bool extended_precision, const int32_t *coeff, size_t coeff_len,
+    int32_t *inter, size_t inter_len, int32_t *residual, size_t residual_len);
+residual_block_answered residual_edit(bool dst, size_t n, uint8_t bit_depth, bool extended_precision, size_t columns, int32_t *coeff, size_t coeff_len,
+    int32_t *inter, size_t inter_len, int32_t *residual, size_t residual_len, size_t row, size_t column, int32_t value);
+residual_list_answered residual_open_and_edit(bool dst, size_t n, uint8_t bit_depth, bool extended_precision, int32_t *coeff, size_t coeff_len,
+    int32_t *inter, size_t inter_len, int32_t *residual, size_t residual_len, const size_t *rows, size_t rows_len, const size_t *columns, size_t columns_len,
+    const int32_t *values, size_t values_len, uint8_t *numbers, size_t numbers_len, size_t *places, size_t places_len);
 
 #ifdef __cplusplus
 }

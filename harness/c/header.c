@@ -117,6 +117,26 @@ static void transforms(void) {
 }
 #endif
 
+#ifdef has_edits
+/* Index 0 alone, set to 63 by an edit of a block of zeros: 1 everywhere. Then row 4 is refused. */
+static void edits(void) {
+    int32_t coeff[16] = {0}, inter[16], residual[17] = {[16] = 7};
+    residual_block_answered b = residual_open_block(false, 4, 8, false, coeff, 16, inter, 16, residual, 17);
+    expect(b.number == 0 && !b.dst && b.size == 4 && b.depth == 8 && !b.extended && b.columns == 0 && residual[15] == 0, "open_block");
+    b = residual_edit(b.dst, b.size, b.depth, b.extended, b.columns, coeff, 16, inter, 16, residual, 17, 0, 0, 63);
+    bool same = b.number == 0 && b.place == 0 && b.columns == 1 && coeff[0] == 63 && residual[16] == 7;
+    for (int i = 0; i < 16; i++) same = same && residual[i] == 1;
+    expect(same, "edit");
+    size_t rows[2] = {4, 0}, columns[2] = {0, 0}, places[2] = {9, 9};
+    int32_t values[2] = {1, 0};
+    uint8_t numbers[2] = {9, 9};
+    residual_list_answered l = residual_open_and_edit(false, 4, 8, false, coeff, 16, inter, 16, residual, 17, rows, 2, columns, 2, values, 2, numbers, 2, places, 2);
+    same = l.number == 0 && l.columns == 0 && l.edits == 2 && numbers[0] == 8 && places[0] == 0 && numbers[1] == 0 && places[1] == 0;
+    for (int i = 0; i < 16; i++) same = same && residual[i] == 0 && coeff[i] == 0;
+    expect(same && residual[16] == 7, "open_and_edit");
+}
+#endif
+
 int main(void) {
     quantities();
 #ifdef has_scaling
@@ -124,6 +144,9 @@ int main(void) {
 #endif
 #ifdef has_transform
     transforms();
+#endif
+#ifdef has_edits
+    edits();
 #endif
     printf("header: %d calls, %d failed\n", called, failed);
     return failed != 0;

@@ -149,3 +149,58 @@ pub mod transform {
     dst!(inv_transform_dst_into_scalar_extended, residual_inv_transform_dst_into_scalar_extended, i32);
     dst!(inv_transform_dst_into_scalar16, residual_inv_transform_dst_into_scalar16, i16);
 }
+
+#[cfg(has_edits)]
+pub mod edits {
+    #[repr(C)]
+    #[derive(Clone, Copy, PartialEq, Eq, Debug, Default)]
+    pub struct BlockAnswered {
+        pub number: u32,
+        pub place: usize,
+        pub dst: bool,
+        pub size: usize,
+        pub depth: u8,
+        pub extended: bool,
+        pub columns: usize,
+    }
+
+    #[repr(C)]
+    #[derive(Clone, Copy, PartialEq, Eq, Debug, Default)]
+    pub struct ListAnswered {
+        pub block: BlockAnswered,
+        pub edits: usize,
+    }
+
+    unsafe extern "C" {
+        fn residual_open_block(dst: bool, n: usize, bit_depth: u8, extended_precision: bool, coeff: *const i32, coeff_len: usize, inter: *mut i32, inter_len: usize, residual: *mut i32, residual_len: usize) -> BlockAnswered;
+        fn residual_edit(dst: bool, n: usize, bit_depth: u8, extended_precision: bool, columns: usize, coeff: *mut i32, coeff_len: usize, inter: *mut i32, inter_len: usize, residual: *mut i32, residual_len: usize, row: usize, column: usize, value: i32) -> BlockAnswered;
+        fn residual_open_and_edit(
+            dst: bool, n: usize, bit_depth: u8, extended_precision: bool, coeff: *mut i32, coeff_len: usize, inter: *mut i32, inter_len: usize, residual: *mut i32, residual_len: usize,
+            rows: *const usize, rows_len: usize, columns: *const usize, columns_len: usize, values: *const i32, values_len: usize, numbers: *mut u8, numbers_len: usize, places: *mut usize, places_len: usize,
+        ) -> ListAnswered;
+    }
+
+    pub fn open_block(dst: bool, n: usize, bit_depth: u8, extended_precision: bool, coeff: &[i32], inter: &mut [i32], residual: &mut [i32]) -> BlockAnswered {
+        unsafe { residual_open_block(dst, n, bit_depth, extended_precision, coeff.as_ptr(), coeff.len(), inter.as_mut_ptr(), inter.len(), residual.as_mut_ptr(), residual.len()) }
+    }
+
+    pub fn edit(dst: bool, n: usize, bit_depth: u8, extended_precision: bool, columns: usize, coeff: &mut [i32], inter: &mut [i32], residual: &mut [i32], row: usize, column: usize, value: i32) -> BlockAnswered {
+        unsafe {
+            residual_edit(
+                dst, n, bit_depth, extended_precision, columns, coeff.as_mut_ptr(), coeff.len(), inter.as_mut_ptr(), inter.len(), residual.as_mut_ptr(), residual.len(), row, column, value,
+            )
+        }
+    }
+
+    pub fn open_and_edit(
+        dst: bool, n: usize, bit_depth: u8, extended_precision: bool, coeff: &mut [i32], inter: &mut [i32], residual: &mut [i32], rows: &[usize], columns: &[usize], values: &[i32],
+        numbers: &mut [u8], places: &mut [usize],
+    ) -> ListAnswered {
+        unsafe {
+            residual_open_and_edit(
+                dst, n, bit_depth, extended_precision, coeff.as_mut_ptr(), coeff.len(), inter.as_mut_ptr(), inter.len(), residual.as_mut_ptr(), residual.len(), rows.as_ptr(), rows.len(),
+                columns.as_ptr(), columns.len(), values.as_ptr(), values.len(), numbers.as_mut_ptr(), numbers.len(), places.as_mut_ptr(), places.len(),
+            )
+        }
+    }
+}

@@ -108,7 +108,6 @@ pub fn list(random: &mut Random, len: usize) -> Vec<u8> {
         .collect()
 }
 
-
 pub fn odd_size(random: &mut Random) -> usize {
     random.pick(&[0, 1, 2, 3, 5, 6, 7, 9, 12, 15, 17, 24, 31, 33, 64, 128, 256, 4_294_967_300, usize::MAX])
 }
@@ -146,6 +145,11 @@ impl<E: Element> Lent<E> {
 
     pub fn lend(&mut self) -> &mut [E] {
         &mut self.all[AROUND..AROUND + self.len]
+    }
+
+    /// From now on only so many elements are lent, if there were more.
+    pub fn shorten(&mut self, len: usize) {
+        self.len = self.len.min(len);
     }
 
     pub fn seen(&self) -> &[E] {

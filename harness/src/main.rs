@@ -1,7 +1,9 @@
 //! Compares the archive of the crate c_api with the Rust that was ported, on every exported function.
-#![cfg_attr(not(all(has_scaling, has_transform)), allow(dead_code, unused_mut))]
+#![cfg_attr(not(all(has_scaling, has_transform, has_edits)), allow(dead_code, unused_mut))]
 mod archive;
 mod blocks;
+#[cfg(has_edits)]
+mod edits;
 mod parameters;
 mod random;
 mod record;
@@ -52,12 +54,18 @@ fn differential(arguments: &Arguments) -> bool {
     {
         planned += transform::FUNCTIONS;
     }
+    #[cfg(has_edits)]
+    {
+        planned += edits::FUNCTIONS;
+    }
     let mut tally = tally::Tally::new(planned);
     parameters::compare(&mut tally, arguments.seed, arguments.cases);
     #[cfg(has_scaling)]
     scaling::compare(&mut tally, arguments.seed, arguments.cases);
     #[cfg(has_transform)]
     transform::compare(&mut tally, arguments.seed, arguments.cases);
+    #[cfg(has_edits)]
+    edits::compare(&mut tally, arguments.seed, arguments.cases);
     println!("seed {}, {} random cases a function", arguments.seed, arguments.cases);
     tally.finish()
 }

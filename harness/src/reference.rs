@@ -88,17 +88,21 @@ pub fn matrix(n: usize, dst: bool) -> Vec<i128> {
     t
 }
 
-/// A residual, and whether a sum of either stage, with its rounding, leaves 32 bits.
+/// Both stages of a block, and whether a sum of either, with its rounding, leaves 32 bits.
 pub struct Residual {
+    pub intermediate: Vec<i64>,
     pub values: Vec<i64>,
     pub past_32_bits: bool,
 }
 
+fn fits(sum: i128) -> bool {
+    i32::try_from(sum).is_ok()
+}
+
 pub fn residual(t: &[i128], coeff: &[i64], n: usize, bit_depth: u8, r: u32, columns: usize) -> Residual {
     let (lo, hi) = (-(1i128 << r), (1i128 << r) - 1);
-    let fits = |sum: i128| i32::try_from(sum).is_ok();
     let mut past_32_bits = false;
-    let mut intermediate = vec![0i128; n * n];
+    let mut intermediate = vec![0i64; n * n];
     for c in 0..columns.min(n) {
         for m in 0..n {
             let mut sum = 0;
@@ -106,23 +110,34 @@ pub fn residual(t: &[i128], coeff: &[i64], n: usize, bit_depth: u8, r: u32, colu
                 sum += t[k * n + m] * i128::from(coeff[k * n + c]);
             }
             past_32_bits |= !fits(sum) || !fits(sum + 64);
-            intermediate[m * n + c] = ((sum + 64) >> 7).clamp(lo, hi);
+            intermediate[m * n + c] = ((sum + 64) >> 7).clamp(lo, hi) as i64;
         }
     }
+    let (values, past) = rounded_rows(t, &intermediate, n, bit_depth, r);
+    Residual { intermediate, values, past_32_bits: past_32_bits || past }
+}
+
+/// Stage two over any intermediate.
+pub fn stage_two(t: &[i128], intermediate: &[i64], n: usize, bit_depth: u8, r: u32) -> Vec<i64> {
+    rounded_rows(t, intermediate, n, bit_depth, r).0
+}
+
+fn rounded_rows(t: &[i128], intermediate: &[i64], n: usize, bit_depth: u8, r: u32) -> (Vec<i64>, bool) {
     let s2 = r + 5 - u32::from(bit_depth);
     let half = 1i128 << (s2 - 1);
+    let mut past_32_bits = false;
     let mut values = vec![0i64; n * n];
     for m in 0..n {
         for j in 0..n {
             let mut sum = 0;
             for c in 0..n {
-                sum += t[c * n + j] * intermediate[m * n + c];
+                sum += t[c * n + j] * i128::from(intermediate[m * n + c]);
             }
             past_32_bits |= !fits(sum) || !fits(sum + half);
             values[m * n + j] = ((sum + half) >> s2) as i64;
         }
     }
-    Residual { values, past_32_bits }
+    (values, past_32_bits)
 }
 
 /// Where the oracle's 32-bit sums can overflow: docs/DIFFERENCES.md, first entry.
