@@ -5,15 +5,19 @@
 --   fits-ask             what the functions below the refusals rely on
 --   open-refused, open-outside, open-done   what an opening hands back, case by case
 --   edit-refused, edit-place, edit-outside, edit-done   what an edit hands back, case by case
+--   refresh-refused, refresh-done   the same of stage two alone
 use mathlib.Core.Path.{_≡_, refl, sym, ap, _∙_}
 use mathlib.Core.Bool.{Bool, true, false, _||_, cond}
+use mathlib.Core.List.{List}
 use Prim.Native.Nat.{ℕ, _+_, _*_, _≤_, _<_}
 use native.Mathlib.Omega.{arith}
 use borrow.Author.Tests.{lt-ltb, le-ltb, lt-leb, eqb-true, not-false}
 use lib.Dec.{eqb, leb}
 use lib.IntN.{ℤ}
 use lib.ListN.{length}
+use Rattle.integers.specs.Lists.{overwrite}
 use Rattle.h265.specs.Range.{outsideRange}
+use Rattle.h265.specs.Transform.{rowOrder}
 use Rattle.h265.proofs.RangeLaws.{transformRange-least, transformRange-most, transformRange-depth}
 use Rattle.refusal.specs.declared.Answer.the-variants.{Done, Refused}
 use Rattle.refusal.specs.declared.Refusal.{Refusal}
@@ -21,13 +25,14 @@ use Rattle.refusal.specs.declared.Refusal.the-variants.{SizeInvalid, DepthInval
 use Rattle.refusal.specs.Refusal.{number}
 use Rattle.refusal.specs.Condition.{sizeRefused, depthRefused, blockRefused}
 use Rattle.refusal.specs.Outcome.{Outcome, accepted, refused, answer}
+use Rattle.refusal.specs.Written.{left, wrote}
 use Rattle.refusal.proofs.ConditionLaws.{size-accepted, depth-accepted}
 use Rattle.coefficients.specs.Outside.{firstOutside}
 use Rattle.transform_1d.specs.declared.Kind.{Kind}
 use Rattle.transform_1d.specs.declared.Kind.the-variants.{Dct, Dst}
 use Rattle.edited_block.specs.declared.EditedBlock.{EditedBlock}
 use Rattle.edited_block.specs.Columns.{columnCount}
-use Rattle.edited_block.specs.Edit.{Buffers, Left, zeroBlock, dstRefused, blockLadder, stopped, opened, openedBuffers, withColumns, edited, editedBuffers, Opens, Edits, BlockAsk}
+use Rattle.edited_block.specs.Edit.{Buffers, Left, buffers, zeroBlock, dstRefused, residualOf, blockLadder, stopped, opened, openedBuffers, withColumns, edited, editedBuffers, refreshed, Opens, Edits, BlockAsk}
 use Rattle.edited_block.specs.History.{Opening, rangeOf}
 use Rattle.edited_block.specs.Run.{openedAs, blockOf}
 use Rattle.edited_block.proofs.OpeningLaws.{Fits, coeff-long, inter-long, res-long, opened-is}
@@ -58,10 +63,10 @@ dst-four Dct n f q = cc
 dst-four Dst n f q = eqb-true n 4 (not-false (eqb n 4) f)
 
 -- one condition of a ladder that is refused with r
-rung : (block : EditedBlock) (lent : Buffers) (r : Refusal) (t : Bool) (f : Refusal) (x : Outcome (Unit {0})) (y : Left) → refused tt r ≡ cond t (refused tt f) x
-    → (refused tt r ≡ x → y ≡ stopped block lent r) → cond t (stopped block lent f) y ≡ stopped block lent r
-rung block lent r true f x y p k = ap (λ (o : Outcome (Unit {0})). record { answer = o; block = block; buffers = lent }) (sym p)
-rung block lent r false f x y p k = k p
+rung : {A : Type 0} (make : Outcome (Unit {0}) → A) (r : Refusal) (t : Bool) (f : Refusal) (x : Outcome (Unit {0})) (y : A) → refused tt r ≡ cond t (refused tt f) x
+    → (refused tt r ≡ x → y ≡ make (refused tt r)) → cond t (make (refused tt f)) y ≡ make (refused tt r)
+rung make r true f x y p k = ap make (sym p)
+rung make r false f x y p k = k p
 
 -- the ladder of an opening, or of an edit of its block, on lent buffers
 abbrev pub ladder : {A : Type 0} → Opening → Buffers → (Refusal → A) → A → A
@@ -82,17 +87,17 @@ module _ (o : Opening) (lent : Buffers) where
   unfolding blockLadder
   ladder-go stop go f = rw (f .size, f .depth, f .dst, f .coeff, f .work)
 
-  pub ladder-refused : (block : EditedBlock) (r : Refusal) (go : Left) → answer (Refused r) ≡ ladder o lent (refused tt) (accepted tt)
-      → ladder o lent (stopped block lent) go ≡ stopped block lent r
+  pub ladder-refused : {A : Type 0} (make : Outcome (Unit {0}) → A) (r : Refusal) (go : A) → answer (Refused r) ≡ ladder o lent (refused tt) (accepted tt)
+      → ladder o lent (λ (e : Refusal). make (refused tt e)) go ≡ make (refused tt r)
   unfolding blockLadder
-  ladder-refused block r go p =
-      rung block lent r (sizeRefused (o .size)) SizeInvalid _ _ p
-      (λ p₁. rung block lent r (depthRefused (o .depth)) DepthInvalid _ _ p₁
-      (λ p₂. rung block lent r (dstRefused (o .kind) (o .size)) DstSizeInvalid _ _ p₂
-      (λ p₃. rung block lent r (blockRefused (o .size) (length (lent .coeff))) InputTooShort _ _ p₃
-      (λ p₄. rung block lent r (blockRefused (o .size) (length (lent .inter)) || blockRefused (o .size) (length (lent .res))) OutputTooShort _ _ p₄ never))))
+  ladder-refused {A} make r go p =
+      rung make r (sizeRefused (o .size)) SizeInvalid _ _ p
+      (λ p₁. rung make r (depthRefused (o .depth)) DepthInvalid _ _ p₁
+      (λ p₂. rung make r (dstRefused (o .kind) (o .size)) DstSizeInvalid _ _ p₂
+      (λ p₃. rung make r (blockRefused (o .size) (length (lent .coeff))) InputTooShort _ _ p₃
+      (λ p₄. rung make r (blockRefused (o .size) (length (lent .inter)) || blockRefused (o .size) (length (lent .res))) OutputTooShort _ _ p₄ never))))
     where
-      never : answer (Refused r) ≡ answer Done → go ≡ stopped block lent r
+      never : answer (Refused r) ≡ answer Done → go ≡ make (refused tt r)
       never q = absurd (let z : number r ≡ 0 = ap (λ (a : Outcome (Unit {0})). a .number) q in let b : ⊥ = omega (arith, number-least r) in b)
 
   pub fits-ask : Fits o lent → BlockAsk (o .kind) (o .size) (o .depth) (rangeOf o) (length (lent .coeff)) (length (lent .inter)) (length (lent .res))
@@ -116,7 +121,7 @@ module _ (o : Opening) (lent : Buffers) where
   -- ---- an opening
   pub open-refused : (r : Refusal) → answer (Refused r) ≡ ladder o lent (refused tt) (accepted tt) → openedAs o lent ≡ stopped zeroBlock lent r
   unfolding openedAs opened
-  open-refused r p = ladder-refused zeroBlock r _ p
+  open-refused r p = ladder-refused (λ a. record { answer = a; block = zeroBlock; buffers = lent }) r _ p
 
   pub open-outside : Fits o lent → (first : ℕ) → first ≡ firstOutside (rangeOf o) (o .size) (o .size) (lent .coeff) → first < o .size * o .size
       → openedAs o lent ≡ stopped zeroBlock lent (CoefficientOutside first)
@@ -137,7 +142,7 @@ openingOf block = record { kind = block .kind; size = block .size; depth = block
 module _ (block : EditedBlock) (lent : Buffers) (row column : ℕ) (value : ℤ) where
   pub edit-refused : (r : Refusal) → answer (Refused r) ≡ ladder (openingOf block) lent (refused tt) (accepted tt) → edited block lent row column value ≡ stopped block lent r
   unfolding edited
-  edit-refused r p = ladder-refused (openingOf block) lent block r _ p
+  edit-refused r p = ladder-refused (openingOf block) lent (λ a. record { answer = a; block = block; buffers = lent }) r _ p
 
   pub edit-place : Fits (openingOf block) lent → leb (block .size) row || leb (block .size) column ≡ true → edited block lent row column value ≡ stopped block lent PlaceOutside
   unfolding edited
@@ -156,3 +161,14 @@ module _ (block : EditedBlock) (lent : Buffers) (row column : ℕ) (value : ℤ)
 
   pub edits-stopped : (r : Refusal) → edited block lent row column value ≡ stopped block lent r → Edits (edited block lent row column value) (Refused r) block (lent .coeff) (lent .inter) (lent .res)
   edits-stopped r p = rw p (record { answered = refl; block = refl; coeff = refl; inter = refl; res = refl })
+
+-- ---- stage two alone
+module _ (o : Opening) (g e : List ℤ) where
+  pub refresh-refused : (r : Refusal) → answer (Refused r) ≡ ladder o (buffers g e e) (refused tt) (accepted tt) → refreshed (o .kind) (o .size) (o .depth) (o .extended) g e ≡ left e r
+  unfolding refreshed
+  refresh-refused r p = ladder-refused o (buffers g e e) (λ a. record { answer = a; out = e }) r _ p
+
+  pub refresh-done : Fits o (buffers g e e)
+      → refreshed (o .kind) (o .size) (o .depth) (o .extended) g e ≡ wrote (overwrite (o .size * o .size) (rowOrder (o .size) (residualOf (o .kind) (o .size) (o .depth) (rangeOf o) g)) e)
+  unfolding refreshed
+  refresh-done f = ladder-go o (buffers g e e) _ _ f

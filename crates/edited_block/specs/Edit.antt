@@ -7,6 +7,7 @@
 --                             range, since a caller may have spoiled the buffers
 --   opened                    the opening
 --   edited                    one edit
+--   refreshed                 the residual of an intermediate: stage two alone
 --   Opens, Edits              a call's answer, record and buffers are what `opened` or `edited` says
 use mathlib.Core.Path.{_≡_}
 use mathlib.Core.Bool.{Bool, false, not, _&&_, _||_, cond}
@@ -23,6 +24,7 @@ use Rattle.refusal.specs.declared.Refusal.{Refusal}
 use Rattle.refusal.specs.declared.Refusal.the-variants.{SizeInvalid, DepthInvalid, DstSizeInvalid, InputTooShort, OutputTooShort, PlaceOutside, CoefficientOutside}
 use Rattle.refusal.specs.Condition.{sizeRefused, depthRefused, blockRefused}
 use Rattle.refusal.specs.Outcome.{Outcome, accepted, refused, answer}
+use Rattle.refusal.specs.Written.{Written, left, wrote}
 use Rattle.transform_1d.specs.declared.Kind.{Kind}
 use Rattle.transform_1d.specs.declared.Kind.the-variants.{Dct, Dst}
 use Rattle.transform_1d.specs.MatrixOf.{matrixOf}
@@ -108,6 +110,13 @@ edited block lent row column value =
     (cond (outsideRange r value) (stopped block lent (CoefficientOutside (row * n + column)))
     (record { answer = accepted tt; block = withColumns block (columnCount n (after .coeff)); buffers = after })))
     (block .kind) n b (length (lent .coeff)) (length (lent .inter)) (length (lent .res))
+
+-- stage two alone; the intermediate is the input of row 6
+unfoldable pub refreshed : Kind → ℕ → ℕ → Bool → List ℤ → List ℤ → Written
+refreshed kind n b x g e =
+    blockLadder (left e)
+    (wrote (overwrite (n * n) (rowOrder n (residualOf kind n b (transformRange b x) g)) e))
+    kind n b (length g) (length e) (length e)
 
 abbrev pub buffers : List ℤ → List ℤ → List ℤ → Buffers
 buffers d g e = record { coeff = d; inter = g; res = e }

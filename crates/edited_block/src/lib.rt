@@ -5,8 +5,9 @@ ghost use lib.Dec.{T};
 ghost use lib.ListN.{length, set};
 ghost use Rattle.h265.specs.Range.{isSize};
 ghost use Rattle.refusal.specs.Outcome.{accepted, refused, answer};
+ghost use Rattle.refusal.specs.Written.{Writes};
 ghost use Rattle.edited_block.specs.Columns.{columnCount};
-ghost use Rattle.edited_block.specs.Edit.{dstRefused, blockLadder, zeroBlock, openedBuffers, opened, editedBuffers, withColumns, edited, buffers, Opens, Edits, BlockAsk, Staged};
+ghost use Rattle.edited_block.specs.Edit.{dstRefused, blockLadder, zeroBlock, openedBuffers, opened, editedBuffers, withColumns, edited, refreshed, buffers, Opens, Edits, BlockAsk, Staged};
 use refusal::Answer;
 use refusal::Refusal;
 use transform_1d::Kind;
@@ -281,4 +282,31 @@ pub fn edit_by_value(
     let mut b = block;
     let answer = edit(&mut b, coeff, inter, residual, row, column, value);
     Opened { answer, block: b }
+}
+
+// The residual of an intermediate: stage two alone, for a caller whose residual is out of date.
+pub fn refresh_residual(
+    kind: Kind,
+    n: usize,
+    bit_depth: u8,
+    extended_precision: bool,
+    inter: &[i32],
+    residual: &mut [i32],
+) -> Answer
+    ensures { λ r. ⌜ Writes r (now (residual .exit)) (refreshed kind n «bit_depth» «extended_precision» (now (inter .entry)) (now (residual .entry))) ⌝ }
+{
+    let checked = block_refusal(
+        kind,
+        n,
+        bit_depth,
+        inter.len(),
+        residual.len(),
+        residual.len(),
+    );
+    if let Answer::Refused(why) = checked {
+        return Answer::Refused(why);
+    }
+    let range = coefficients::transform_range(bit_depth, extended_precision);
+    stages_wide::residual_of(kind, n, bit_depth, range, inter, residual);
+    Answer::Done
 }
