@@ -1,5 +1,6 @@
 -- Laws of what one record does.
 --   effect-blocks    it counts one block at most
+--   effect-offset    where it is accepted, the offset moves past its kind and its body
 --   effect-whole     where it is accepted, its body is whole
 use mathlib.Core.Path.{_≡_, refl}
 use mathlib.Core.Bool.{Bool, true, false, cond}
@@ -16,43 +17,50 @@ use Rattle.feed.specs.declared.Kind.{Kind}
 use Rattle.feed.specs.declared.Kind.the-variants.{Parameters, List as ListKind, NoList, Levels, Unknown}
 use Rattle.feed.specs.declared.Given.{Given}
 use Rattle.feed.specs.declared.Given.the-variants.{Nothing, These}
-use Rattle.feed.specs.Format.{kindOf, recordLength}
+use Rattle.feed.specs.Format.{kindOf, bodyLength, recordLength}
 use Rattle.feed.specs.Block.{dstRefused}
 use Rattle.feed.specs.Record.{FeedState, Effect, unchanged, isUnknown, parameterRefused, parametersEffect, listEffect, noListEffect, levelsBy, levelsEffect, bodyEffect, recordEffect}
 
--- ---- the count
-record AtMost (k : ℕ) (o : Outcome Effect) : Type 0 where
-  bound : o .value .state .blocks ≤ k
+-- ---- count and offset
+record Moves (s : FeedState) (len : ℕ) (o : Outcome Effect) : Type 0 where
+  blocks : o .value .state .blocks ≤ s .blocks + 1
+  offset : o .number ≡ 0 → o .value .state .offset ≡ s .offset + 1 + len
 
-either : {k : ℕ} (t : Bool) {x y : Outcome Effect} → AtMost k x → AtMost k y → AtMost k (cond t x y)
+either : {s : FeedState} {len : ℕ} (t : Bool) {x y : Outcome Effect} → Moves s len x → Moves s len y → Moves s len (cond t x y)
 either true f g = f
 either false f g = g
 
-levels-blocks : (g : Given) (s : FeedState) (n : ℕ) (body : List ℕ) → AtMost (s .blocks + 1) (levelsBy g s n body)
+levels-moves : (g : Given) (s : FeedState) (n : ℕ) (body : List ℕ) → Moves s (bodyLength (Levels n)) (levelsBy g s n body)
 unfolding levelsBy
-levels-blocks Nothing s n body = record { bound = omega arith }
-levels-blocks (These p) s n body =
-    either (depthRefused (p .«bit_depth»)) (record { bound = omega arith })
-    (either (dstRefused (p .mode) n) (record { bound = omega arith }) (record { bound = omega arith }))
+levels-moves Nothing s n body = record { blocks = omega arith; offset = λ z. absurd (omega arith) }
+levels-moves (These p) s n body =
+    either (depthRefused (p .«bit_depth»)) (record { blocks = omega arith; offset = λ z. absurd (omega arith) })
+    (either (dstRefused (p .mode) n) (record { blocks = omega arith; offset = λ z. absurd (omega arith) })
+    (record { blocks = omega arith; offset = λ z. refl }))
 
-body-blocks : (kind : Kind) (s : FeedState) (body : List ℕ) → AtMost (s .blocks + 1) (bodyEffect kind s body)
+body-moves : (kind : Kind) (s : FeedState) (body : List ℕ) → Moves s (bodyLength kind) (bodyEffect kind s body)
 unfolding bodyEffect parametersEffect listEffect noListEffect levelsEffect
-body-blocks Parameters s body =
-    either (depthRefused (getD body 0 0)) (record { bound = omega arith })
-    (either (parameterRefused body) (record { bound = omega arith }) (record { bound = omega arith }))
-body-blocks ListKind s body = record { bound = omega arith }
-body-blocks NoList s body = record { bound = omega arith }
-body-blocks (Levels n) s body = levels-blocks (s .given) s n body
-body-blocks Unknown s body = record { bound = omega arith }
+body-moves Parameters s body =
+    either (depthRefused (getD body 0 0)) (record { blocks = omega arith; offset = λ z. absurd (omega arith) })
+    (either (parameterRefused body) (record { blocks = omega arith; offset = λ z. absurd (omega arith) })
+    (record { blocks = omega arith; offset = λ z. refl }))
+body-moves ListKind s body = record { blocks = omega arith; offset = λ z. refl }
+body-moves NoList s body = record { blocks = omega arith; offset = λ z. refl }
+body-moves (Levels n) s body = levels-moves (s .given) s n body
+body-moves Unknown s body = record { blocks = omega arith; offset = λ z. absurd (omega arith) }
 
-record-blocks : (s : FeedState) (k : ℕ) (body : List ℕ) → AtMost (s .blocks + 1) (recordEffect s k body)
-unfolding recordEffect
-record-blocks s k body =
-    either (isUnknown (kindOf k)) (record { bound = omega arith })
-    (either (ltb (length body) (recordLength k)) (record { bound = omega arith }) (body-blocks (kindOf k) s body))
+record-moves : (s : FeedState) (k : ℕ) (body : List ℕ) → Moves s (recordLength k) (recordEffect s k body)
+unfolding recordEffect recordLength
+record-moves s k body =
+    either (isUnknown (kindOf k)) (record { blocks = omega arith; offset = λ z. absurd (omega arith) })
+    (either (ltb (length body) (recordLength k)) (record { blocks = omega arith; offset = λ z. absurd (omega arith) })
+    (body-moves (kindOf k) s body))
 
 pub effect-blocks : (s : FeedState) (k : ℕ) (body : List ℕ) → recordEffect s k body .value .state .blocks ≤ s .blocks + 1
-effect-blocks s k body = record-blocks s k body .bound
+effect-blocks s k body = record-moves s k body .blocks
+
+pub effect-offset : (s : FeedState) (k : ℕ) (body : List ℕ) → recordEffect s k body .number ≡ 0 → recordEffect s k body .value .state .offset ≡ s .offset + 1 + recordLength k
+effect-offset s k body = record-moves s k body .offset
 
 -- ---- the length
 pub effect-whole : (s : FeedState) (k : ℕ) (body : List ℕ) → recordEffect s k body .number ≡ 0 → recordLength k ≤ length body

@@ -1,5 +1,5 @@
 -- Laws of states and of records without text.
---   capped-id                    a count that fits is held as it is
+--   capped-id, capped-offset     numbers that fit are held as they are; the same where the offset was limited already
 --   silent-kept, silent-moved    what a refused record, and an accepted one without text, hand back
 --   silent-takes                 a record without text leaves every buffer as it is
 --   lines-wrote                  what a line holds
@@ -22,17 +22,23 @@ use Rattle.feed.specs.declared.Taken.{Taken}
 use Rattle.feed.specs.Record.{FeedState, Effect, unchanged, levelsBy, levelsEffect}
 use Rattle.feed.specs.Answers.{stateOf, capped, Takes, Silent, blankLine, Lines}
 
-pub capped-id : (s : FeedState) → s .blocks ≤ 18446744073709551615 → capped s ≡ s
+abbrev at-offset : FeedState → ℕ → FeedState
+at-offset s o = record { given = s .given; list = s .list; blocks = s .blocks; offset = o }
+
+capped-offset : (s : FeedState) (o : ℕ) → s .blocks ≤ 18446744073709551615 → o ≡ min (s .offset) 18446744073709551615 → at-offset s o ≡ capped s
 unfolding capped
-capped-id s h = ap (λ (b : ℕ). let t : FeedState = record { given = s .given; list = s .list; blocks = b } in t) (let e : min (s .blocks) 18446744073709551615 ≡ s .blocks = omega arith in e)
+capped-offset s o h e = let b : min (s .blocks) 18446744073709551615 ≡ s .blocks = omega arith in rw (b, e) refl
 
-pub silent-kept : (s : State) (why : Refusal) (at : ℕ) → s .blocks ≤ 18446744073709551615
+pub capped-id : (s : FeedState) → s .blocks ≤ 18446744073709551615 → s .offset ≤ 18446744073709551615 → capped s ≡ s
+capped-id s h k = sym (capped-offset s (s .offset) h (omega arith))
+
+pub silent-kept : (s : State) (why : Refusal) (at : ℕ) → s .blocks ≤ 18446744073709551615 → s .offset ≤ 18446744073709551615
     → Silent (record { answer = Refused why; state = s; end = at }) at (refused (unchanged (stateOf s)) why)
-silent-kept s why at h = record { answered = refl; state = sym (capped-id (stateOf s) h); end = refl; none = refl }
+silent-kept s why at h k = record { answered = refl; state = sym (capped-id (stateOf s) h k); end = refl; none = refl }
 
-pub silent-moved : (s : State) (t : FeedState) (at : ℕ) → s .blocks ≤ 18446744073709551615 → stateOf s ≡ t
+pub silent-moved : (s : State) (t : FeedState) (at : ℕ) → t .blocks ≤ 18446744073709551615 → s .offset ≡ min (t .offset) 18446744073709551615 → stateOf s ≡ at-offset t (s .offset)
     → Silent (record { answer = Done; state = s; end = at }) at (accepted (record { text = []; state = t }))
-silent-moved s t at h e = record { answered = refl; state = rw (← e) (sym (capped-id (stateOf s) h)); end = refl; none = refl }
+silent-moved s t at h k e = record { answered = refl; state = e ∙ capped-offset t (s .offset) h k; end = refl; none = refl }
 
 pub silent-takes : {r : Taken} {at : ℕ} {o : Outcome Effect} (l : List ℕ) (room : ℕ) → Silent r at o → Takes r l at l o room
 silent-takes {r} {at} {o} l room q =

@@ -1,6 +1,6 @@
 -- What the functions of the feed hand back.
 --   stateOf s                   what a state of the code stands for; entries count while a list is in force
---   capped s                    a state as the code holds it: its counter stops at the largest 64-bit number
+--   capped s                    a state as the code holds it: blocks and offset stop at the largest 64-bit number, which no input reaches
 --   Room A                      too little room, decided before anything else; else an answer
 --   recordRoom len              the bytes that the text of a record with a body of len bytes may take: 12 for each level of four
 --   feedRoom len                those that the text of a feed of len bytes may take, its last line included
@@ -38,10 +38,11 @@ listIn true entries d = listed entries d
 listIn false entries d = flat
 
 abbrev pub stateOf : State → FeedState
-stateOf s = record { given = s .given; list = listIn (s .listed) (s .entries) (s .dc); blocks = s .blocks }
+stateOf s = record { given = s .given; list = listIn (s .listed) (s .entries) (s .dc); blocks = s .blocks; offset = s .offset }
 
 unfoldable pub capped : FeedState → FeedState
-capped s = record { given = s .given; list = s .list; blocks = min (s .blocks) 18446744073709551615 }
+capped s =
+    record { given = s .given; list = s .list; blocks = min (s .blocks) 18446744073709551615; offset = min (s .offset) 18446744073709551615 }
 
 pub data Room (A : Type 0) : Type 0 where
   tooLittle : Room A

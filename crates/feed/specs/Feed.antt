@@ -2,7 +2,7 @@
 --   refusedText number offset   `refused`, the number, and the byte offset of the refused record's kind
 --   blocksText n                `blocks`, and how many there were
 --   opening                     the state in which a feed begins
---   textFrom fuel s at bytes    the text of the bytes from the offset `at` on, which begin with a record's kind, in state s
+--   textFrom fuel s bytes       the text of the bytes from the state's offset on, which begin with a record's kind
 --   feedText bytes              the text of a whole feed
 use mathlib.Core.Bool.{cond}
 use mathlib.Core.List.{List, [], _∷_, _++_}
@@ -31,19 +31,19 @@ unfoldable pub blocksText : ℕ → List ℕ
 blocksText n = blocksWord ++ (unsignedText n ++ (lineEnd ∷ []))
 
 unfoldable pub opening : FeedState
-opening = record { given = Nothing; list = flat; blocks = 0 }
+opening = record { given = Nothing; list = flat; blocks = 0; offset = 0 }
 
 -- a record's text, then the rest; or, where it is refused, the line that says so, and nothing after it
 abbrev pub andThen : Outcome Effect → ℕ → List ℕ → List ℕ
 andThen o at rest = o .value .text ++ cond (eqb (o .number) 0) rest (refusedText (o .number) at)
 
-unfoldable pub textFrom : ℕ → FeedState → ℕ → List ℕ → List ℕ
-textFrom zero s at bytes = []
-textFrom (suc fuel) s at [] = blocksText (s .blocks)
-textFrom (suc fuel) s at (k ∷ bytes) =
-    andThen (recordEffect s k (take (recordLength k) bytes)) at
-    (textFrom fuel (recordEffect s k (take (recordLength k) bytes) .value .state) (at + 1 + recordLength k) (drop (recordLength k) bytes))
+unfoldable pub textFrom : ℕ → FeedState → List ℕ → List ℕ
+textFrom zero s bytes = []
+textFrom (suc fuel) s [] = blocksText (s .blocks)
+textFrom (suc fuel) s (k ∷ bytes) =
+    andThen (recordEffect s k (take (recordLength k) bytes)) (s .offset)
+    (textFrom fuel (recordEffect s k (take (recordLength k) bytes) .value .state) (drop (recordLength k) bytes))
 
 -- a record takes at least a byte, so there are no more records than bytes
 unfoldable pub feedText : List ℕ → List ℕ
-feedText bytes = textFrom (length bytes + 1) opening 0 bytes
+feedText bytes = textFrom (length bytes + 1) opening bytes

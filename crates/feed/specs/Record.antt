@@ -1,8 +1,9 @@
 -- What one record of a feed does. Document 01, "The feed program" and rows 2, 4 and 20 to 23 of its table.
 -- A record is examined in this order: its kind (20), the length of its body (21), parameters before levels (22), then its values, lowest number first.
---   FeedState                    the parameters, if they are given; the list in force; how many blocks there were
+--   FeedState                    the parameters, if they are given; the list in force; how many blocks there were; the byte offset of the next kind
 --   Effect                       the text that a record gives, and the state after it
---   counted s                    a state with one block more
+--   behind kind s                the offset behind a record of that kind: its kind's byte, then its body
+--   counted s n                  the state behind a block of size n: one block more
 --   unchanged s                  of a refused record: no text, the state as it was
 --   parametersEffect s body      kind 1
 --   listEffect s body            kind 2: 64 entries, then DC
@@ -26,13 +27,14 @@ use Rattle.feed.specs.declared.Kind.the-variants.{Parameters as Paramete
 use Rattle.feed.specs.declared.Parameters.{Parameters}
 use Rattle.feed.specs.declared.Given.{Given}
 use Rattle.feed.specs.declared.Given.the-variants.{Nothing, These}
-use Rattle.feed.specs.Format.{kindOf, recordLength, modeOf, levelsOf}
+use Rattle.feed.specs.Format.{kindOf, bodyLength, recordLength, modeOf, levelsOf}
 use Rattle.feed.specs.Block.{dstRefused, blockResidual}
 
 pub record FeedState : Type 0 where
   pub given : Given
   pub list : ScalingList
   pub blocks : ℕ
+  pub offset : ℕ
 
 pub record Effect : Type 0 where
   pub text : List ℕ
@@ -41,9 +43,11 @@ pub record Effect : Type 0 where
 abbrev pub unchanged : FeedState → Effect
 unchanged s = record { text = []; state = s }
 
--- one block more
-abbrev pub counted : FeedState → FeedState
-counted s = record { given = s .given; list = s .list; blocks = s .blocks + 1 }
+abbrev pub behind : Kind → FeedState → ℕ
+behind kind s = s .offset + 1 + bodyLength kind
+
+abbrev pub counted : FeedState → ℕ → FeedState
+counted s n = record { given = s .given; list = s .list; blocks = s .blocks + 1; offset = behind (Levels n) s }
 
 -- the parameters that four bytes stand for
 abbrev pub parametersOf : List ℕ → Parameters
@@ -63,14 +67,21 @@ unfoldable pub parametersEffect : FeedState → List ℕ → Outcome Effect
 parametersEffect s body =
     cond (depthRefused (getD body 0 0)) (refused (unchanged s) DepthInvalid)
     (cond (parameterRefused body) (refused (unchanged s) ParameterInvalid)
-    (accepted (record { text = []; state = record { given = These (parametersOf body); list = s .list; blocks = s .blocks } })))
+    (accepted (record {
+      text = [];
+      state = record { given = These (parametersOf body); list = s .list; blocks = s .blocks; offset = behind ParametersKind s };
+    })))
 
 unfoldable pub listEffect : FeedState → List ℕ → Outcome Effect
 listEffect s body =
-    accepted (record { text = []; state = record { given = s .given; list = listed (take 64 body) (getD body 64 0); blocks = s .blocks } })
+    accepted (record {
+      text = [];
+      state = record { given = s .given; list = listed (take 64 body) (getD body 64 0); blocks = s .blocks; offset = behind ListKind s };
+    })
 
 unfoldable pub noListEffect : FeedState → Outcome Effect
-noListEffect s = accepted (record { text = []; state = record { given = s .given; list = flat; blocks = s .blocks } })
+noListEffect s =
+    accepted (record { text = []; state = record { given = s .given; list = flat; blocks = s .blocks; offset = behind NoList s } })
 
 -- no feed leaves a depth that row 2 refuses; a state made by hand may have one
 unfoldable pub levelsBy : Given → FeedState → ℕ → List ℕ → Outcome Effect
@@ -80,7 +91,7 @@ levelsBy (These p) s n body =
     (cond (dstRefused (p .mode) n) (refused (unchanged s) DstSizeInvalid)
     (accepted (record {
       text = blockText n (blockResidual (s .list) p n (levelsOf n body));
-      state = counted s;
+      state = counted s n;
     })))
 
 unfoldable pub levelsEffect : FeedState → ℕ → List ℕ → Outcome Effect

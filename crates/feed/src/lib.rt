@@ -43,13 +43,15 @@ pub enum Given {
     These(Parameters),
 }
 
-// What a feed keeps between records. Entries and DC count while `listed` holds.
+// What a feed keeps between records. Entries and DC count while `listed` holds. The offset is that of the next record's kind, in
+// bytes from the feed's first.
 pub struct State {
     pub given: Given,
     pub listed: bool,
     pub entries: [u8; 64],
     pub dc: u8,
     pub blocks: u64,
+    pub offset: u64,
 }
 
 pub enum StepAnswer {

@@ -40,7 +40,7 @@ pub(crate) fn put_blocks(blocks: u64, out: &mut [u8], at: usize) -> usize
     put_last(blocks, out, word)
 }
 
-// The line of a refusal, with the byte offset of the refused record's kind.
+// The line of a refusal, with the byte offset of the refused record's kind, which the state after it holds.
 pub fn refusal_line(refusal: Refusal, offset: u64) -> Line
     ensures { λ r. ⌜ Lines r (refusedText (number refusal) offset) ⌝ }
 {

@@ -31,12 +31,12 @@ fn kept(s: State, why: Refusal, at: usize) -> Taken
     }
 }
 
-fn moved(s: State, at: usize) -> Taken
-    ensures { λ r. ⌜ r ≡ record { answer = Answer.Done; state = s; end = at } ⌝ }
+fn moved(next: State, at: usize) -> Taken
+    ensures { λ r. ⌜ r ≡ record { answer = Answer.Done; state = next; end = at } ⌝ }
 {
     Taken {
         answer: Answer::Done,
-        state: s,
+        state: next,
         end: at,
     }
 }
@@ -75,6 +75,17 @@ fn one_more(blocks: u64) -> u64
     }
 }
 
+// The offset behind a record with a body of this length; it stops before it would wrap.
+fn behind(offset: u64, length: usize) -> u64
+    ensures { λ r. ⌜ r ≡ min (offset + 1 + length) 18446744073709551615 ⌝ }
+{
+    if (length as u64) < u64::MAX - offset {
+        offset + 1 + length as u64
+    } else {
+        u64::MAX
+    }
+}
+
 fn take_parameters(s: State, body: &[u8], at: usize) -> Taken
     requires { ⌜ 4 ≤ length (now body) ⌝ }
     ensures { λ r. ⌜ Silent r at (parametersEffect (stateOf s) (now (body .entry))) ⌝ }
@@ -104,6 +115,7 @@ fn take_parameters(s: State, body: &[u8], at: usize) -> Taken
         entries,
         dc: s.dc,
         blocks: s.blocks,
+        offset: behind(s.offset, 4),
     };
     moved(next, at)
 }
@@ -120,6 +132,7 @@ fn take_list(s: State, body: &[u8], at: usize) -> Taken
         entries,
         dc: body[64],
         blocks: s.blocks,
+        offset: behind(s.offset, 65),
     };
     moved(next, at)
 }
@@ -135,12 +148,15 @@ fn take_no_list(s: State, at: usize) -> Taken
         entries,
         dc: s.dc,
         blocks: s.blocks,
+        offset: behind(s.offset, 0),
     };
     moved(next, at)
 }
 
-fn with_block(s: State) -> State
-    ensures { λ r. ⌜ stateOf r ≡ capped (counted (stateOf s)) ⌝ }
+// The state behind a block.
+fn with_block(s: State, n: usize) -> State
+    requires { ⌜ T (isSize n) ⌝ }
+    ensures { λ r. ⌜ stateOf r ≡ capped (counted (stateOf s) n) ⌝ }
 {
     let given = s.given;
     let entries = s.entries;
@@ -150,6 +166,7 @@ fn with_block(s: State) -> State
         entries,
         dc: s.dc,
         blocks: one_more(s.blocks),
+        offset: behind(s.offset, 4 * (n * n)),
     }
 }
 
@@ -171,7 +188,7 @@ fn take_block(s: State, p: Parameters, n: usize, body: &[u8], out: &mut [u8], at
     block::residual_of(s, p, n, body, &mut residual);
     let count = n * n;
     let end = text::put_block(&residual[..count], n, out, at);
-    moved(with_block(s), end)
+    moved(with_block(s, n), end)
 }
 
 fn take_levels(s: State, n: usize, body: &[u8], out: &mut [u8], at: usize) -> Taken

@@ -26,12 +26,13 @@ pub fn start() -> State
         entries: [0u8; 64],
         dc: 0,
         blocks: 0,
+        offset: 0,
     }
 }
 
 // One record: its kind, and as much of its body as there is. Its text goes to the start of `out`, which must have three bytes for
 // each byte of the body; else `NoRoom` is answered before anything else, and state and buffer are as given. A refused record too
-// leaves both as given.
+// leaves both as given, so the state's offset is then that of its kind.
 pub fn step(state: State, kind: u8, body: &[u8], out: &mut [u8]) -> Stepped
     ensures { λ r. ⌜ Steps r (now (out .entry)) (now (out .exit)) (stepping (stateOf state) kind (now (body .entry)) (length (now (out .entry)))) ⌝ }
 {
@@ -81,9 +82,9 @@ fn run_within(input: &[u8], out: &mut [u8]) -> usize
     ensures { λ r. ⌜ Wrote (now (out .entry)) 0 (feedText (now (input .entry))) (now (out .exit)) r × Counts r (now (out .exit)) ⌝ }
 {
     let mut state = start();
-    let mut at = 0;
     let mut end = 0;
-    while at < input.len() {
+    while (state.offset as usize) < input.len() {
+        let at = state.offset as usize;
         let kind = input[at];
         let from = at + 1;
         let stop = least(from + format::record_length(kind), input.len());
@@ -92,12 +93,11 @@ fn run_within(input: &[u8], out: &mut [u8]) -> usize
         let number = number_of(answer);
         let reached = taken.end;
         if number != 0 {
-            return lines::put_refused(number, at as u64, out, reached);
+            return lines::put_refused(number, state.offset, out, reached);
         }
         let next = taken.state;
         state = next;
         end = reached;
-        at = stop;
     }
     let blocks = state.blocks;
     lines::put_blocks(blocks, out, end)

@@ -9,20 +9,15 @@ use feed::StepAnswer;
 use libc::STDIN_FILENO;
 use libc::STDOUT_FILENO;
 
-// No input is this long; below it an offset cannot wrap.
-const LIMIT: u64 = 9223372036854775808;
-
 struct Progress {
     going: bool,
     state: State,
-    offset: u64,
 }
 
 fn stopped(state: State) -> Progress {
     Progress {
         going: false,
         state,
-        offset: 0,
     }
 }
 
@@ -44,13 +39,10 @@ fn write_line(line: Line)
 
 // One record: reads it and writes its text. A body is cut short where the input has ended; where one more read does not say so, a
 // read failed.
-fn turn(state: State, offset: u64) -> Progress {
+fn turn(state: State) -> Progress {
     let mut byte = [0u8; 1];
     let mut body = [0u8; 4096];
     let mut out = [0u8; 12288];
-    if offset >= LIMIT {
-        return stopped(state);
-    }
     let got = libc::read(STDIN_FILENO, &mut byte);
     if got < 0 {
         return stopped(state);
@@ -76,10 +68,9 @@ fn turn(state: State, offset: u64) -> Progress {
         StepAnswer::Done => Progress {
             going: io::write_all(STDOUT_FILENO, &out[..end]),
             state: next,
-            offset: offset + 1 + n as u64,
         },
         StepAnswer::Refused(why) => {
-            write_line(feed::refusal_line(why, offset));
+            write_line(feed::refusal_line(why, next.offset));
             stopped(next)
         }
         StepAnswer::NoRoom => stopped(next),
@@ -88,14 +79,12 @@ fn turn(state: State, offset: u64) -> Progress {
 
 fn main() {
     let mut state = feed::start();
-    let mut offset: u64 = 0;
     let mut going = true;
     let mut turns = u64::MAX;
     while turns > 0 && going {
-        let taken = turn(state, offset);
+        let taken = turn(state);
         let next = taken.state;
         state = next;
-        offset = taken.offset;
         going = taken.going;
         turns -= 1;
     }

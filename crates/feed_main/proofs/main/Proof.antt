@@ -5,10 +5,10 @@ use Rattle.feed_main.proofs.main.Statement.{statement}
 use Rattle.feed_main.proofs.main.Tie as tie
 
 abbrev Inv-loop : tie.InvT-loop
-Inv-loop state₀ offset₀ going₀ turns₀ state offset going turns = Unit {0}
+Inv-loop state₀ going₀ turns₀ state going turns = Unit {0}
 
 abbrev μ-loop : tie.MeasureT-loop
-μ-loop state₀ offset₀ going₀ turns₀ state offset going turns = turns
+μ-loop state₀ going₀ turns₀ state going turns = turns
 
 start-requires : tie.Need-start-requires Inv-loop μ-loop
 start-requires c κs = search needs

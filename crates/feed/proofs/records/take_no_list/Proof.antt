@@ -7,12 +7,15 @@ use Rattle.feed.proofs.StateLaws.{silent-moved}
 use Rattle.feed.proofs.records.take_no_list.Statement.{statement}
 use Rattle.feed.proofs.records.take_no_list.Tie as tie
 
+behind-requires : tie.Need-behind-requires
+behind-requires c κs = search needs
+
 moved-requires : tie.Need-moved-requires
 moved-requires c κs = search needs
 
 returns : tie.Need-returns
 unfolding noListEffect
-returns c = rw (c .moved .ensures) (silent-moved _ _ _ (omega arith) refl)
+returns c = rw (c .moved .ensures) (silent-moved _ _ _ (omega arith) (c .before .behind .ensures) refl)
 
 pub take-no-list-spec : {M : Type 1} → statement M
-take-no-list-spec = tie.close (tie.spec moved-requires returns)
+take-no-list-spec = tie.close (tie.spec behind-requires moved-requires returns)

@@ -52,15 +52,18 @@ shared-slice-read-t11 c = search needs
 mode-of-requires : tie.Need-mode-of-requires
 mode-of-requires c κs = search needs
 
+behind-requires : tie.Need-behind-requires
+behind-requires c κs = search needs
+
 moved-requires : tie.Need-moved-requires
 moved-requires c κs = search needs
 
 returns-4 : tie.Need-returns-4
 unfolding parametersEffect parameterRefused
 returns-4 c =
-    let e = c .before .before .before .before in
+    let e = c .before .before .before .before .before in
     rw (sym (e .before .before .before .depth-refused .ensures) ∙ e .before .before .if1 .left, le-ltb _ _ (e .before .if2 .left), le-ltb _ _ (e .if3 .left), c .moved .ensures)
-    (silent-moved _ _ _ (fits (e .before .before .before .before .before .before .before .before)) (rw (c .before .before .mode-of .ensures) refl))
+    (silent-moved _ _ _ (fits (e .before .before .before .before .before .before .before .before)) (c .before .behind .ensures) (rw (c .before .before .before .mode-of .ensures) refl))
 
 pub take-parameters-spec : {M : Type 1} → statement M
 take-parameters-spec =
@@ -78,5 +81,6 @@ take-parameters-spec =
     returns-3
     shared-slice-read-t11
     mode-of-requires
+    behind-requires
     moved-requires
     returns-4)

@@ -5,15 +5,15 @@ use native.Mathlib.Omega.{arith}
 use borrow.Author.Needs.{needs}
 use lib.ListN.{length, length-take, length-drop}
 use Rattle.text.proofs.WroteLaws.{left-last, counts}
-use Rattle.feed.proofs.FeedLaws.{Going, going-start, turn, going-refused, going-more, going-done}
+use Rattle.feed.proofs.FeedLaws.{Going, going-start, Turn, turn, going-refused, passed, going-more, going-done}
 use Rattle.feed.proofs.stream.run_within.Statement.{statement}
 use Rattle.feed.proofs.stream.run_within.Tie as tie
 
 abbrev Inv-loop : tie.InvT-loop
-Inv-loop input out₀ state₀ at₀ end₀ out state at end = Going input out₀ out state at end
+Inv-loop input out₀ state₀ end₀ out state end = Going input out₀ out state end
 
 abbrev μ-loop : tie.MeasureT-loop
-μ-loop input out₀ state₀ at₀ end₀ out state at end = length input - at
+μ-loop input out₀ state₀ end₀ out state end = length input - state .offset
 
 start-requires : tie.Need-start-requires Inv-loop μ-loop
 start-requires c κs = search needs
@@ -51,18 +51,24 @@ take-record-requires c κs =
     let g = i .before .loop .inv in
     rw (length-take, length-drop) (omega (arith, g .room, g .left .long, i .before .before .before .before .before .pre))
 
+-- what the record at the loop's offset did
+turned : (c : tie.After-take-record Inv-loop μ-loop)
+    → let q = c .before .before .before in let l = q .before .before .before .before .loop in Turn (q .before .before .before .before .before .before .before .before .args .input .now) (l .state) (q .least .result) (c .take-record .result) (l .out) (l .end) (c .take-record .last .1 .1 .1 .0)
+turned c =
+    let q = c .before .before .before in
+    let n = q .before in
+    let i = n .before .before in
+    turn _ (i .before .loop .state) (n .record-length .result) (q .least .result) (omega arith) (i .loop-test .taken) (n .record-length .ensures .0) (q .least .ensures) (c .take-record .ensures)
+
 number-of-requires : tie.Need-number-of-requires Inv-loop μ-loop
 number-of-requires c κs = search needs
 
 put-refused-requires : tie.Need-put-refused-requires Inv-loop μ-loop
 put-refused-requires c κs =
     let p = c .before .before .before .before .before in
-    let q = p .before .before .before in
-    let n = q .before in
-    let i = n .before .before in
-    let l = i .before .loop in
-    let s = i .before .before .before .before .before in
-    let t = turn (s .args .input .now) (l .state) (l .at) (n .record-length .result) (q .least .result) (i .loop-test .taken) (n .record-length .ensures .0) (q .least .ensures) (p .take-record .ensures) in
+    let l = p .before .before .before .before .before .before .before .loop in
+    let s = p .before .before .before .before .before .before .before .before .before .before .before in
+    let t = turned p in
     omega (arith, t .inside, t .stops, t .takes .text .bound, l .inv .room, l .inv .left .long, p .take-record .kept .1 .1 .1 .0, s .pre)
 
 same-length : tie.Need-same-length Inv-loop μ-loop
@@ -73,12 +79,9 @@ same-length c =
 returns : tie.Need-returns Inv-loop μ-loop
 returns c =
     let p = c .before .before .before .before .before .before .before .before in
-    let q = p .before .before .before in
-    let n = q .before in
-    let i = n .before .before in
-    let l = i .before .loop in
-    let s = i .before .before .before .before .before in
-    let t = turn (s .args .input .now) (l .state) (l .at) (n .record-length .result) (q .least .result) (i .loop-test .taken) (n .record-length .ensures .0) (q .least .ensures) (p .take-record .ensures) in
+    let l = p .before .before .before .before .before .before .before .loop in
+    let s = p .before .before .before .before .before .before .before .before .before .before .before in
+    let t = turned p in
     let m = c .before .before .before .before .before in
     let f = c .before .before .put-refused in (
       left-last (going-refused (l .inv) t (m .number-of .ensures) (c .before .before .before .before .if1 .taken)) (f .ensures .wrote),
@@ -86,19 +89,17 @@ returns c =
     )
 
 loop-less : tie.Need-loop-less Inv-loop μ-loop
-loop-less c = omega arith
+loop-less c =
+    let p = c .before .before .before .before .before in
+    let t = turned p in
+    omega (arith, t .inside, passed (p .before .before .before .before .before .before .before .loop .inv) t (c .before .before .number-of .ensures) (c .before .if1 .left) .next)
 
 loop-again : tie.Need-loop-again Inv-loop μ-loop
 loop-again c =
     let p = c .before .before .before .before .before in
-    let q = p .before .before .before in
-    let n = q .before in
-    let i = n .before .before in
-    let l = i .before .loop in
-    let s = i .before .before .before .before .before in
-    let t = turn (s .args .input .now) (l .state) (l .at) (n .record-length .result) (q .least .result) (i .loop-test .taken) (n .record-length .ensures .0) (q .least .ensures) (p .take-record .ensures) in
-    let m = c .before .before in
-    going-more (l .inv) t (omega arith) (m .number-of .ensures) (c .before .if1 .left)
+    let l = p .before .before .before .before .before .before .before .loop in
+    let t = turned p in
+    going-more (l .inv) t (passed (l .inv) t (c .before .before .number-of .ensures) (c .before .if1 .left))
 
 put-blocks-requires : tie.Need-put-blocks-requires Inv-loop μ-loop
 put-blocks-requires c κs = let g = c .before .before .loop .inv in omega (arith, g .left .long, g .room, g .within)

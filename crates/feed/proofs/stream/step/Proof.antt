@@ -26,7 +26,7 @@ unfolding stepping
 returns c =
     let a = c .before .before .before .args in
     rw (lt-ltb (length (a .out .now)) (3 * length (a .body .now)) (omega arith))
-    (record { answered = refl; state = sym (capped-id (stateOf (a .state)) (omega arith)); wrote = wrote-none _ 0; counts = counts 0 (a .out .now) (omega arith) })
+    (record { answered = refl; state = sym (capped-id (stateOf (a .state)) (omega arith) (omega arith)); wrote = wrote-none _ 0; counts = counts 0 (a .out .now) (omega arith) })
 
 take-record-requires : tie.Need-take-record-requires
 take-record-requires c κs = search needs
