@@ -2,7 +2,7 @@
 --   Going                          the invariant, with the fuel that is left
 --   going-start                    before the first record
 --   effectAt input s               what the record at the state's offset does
---   takes-at                       the part of the input that is handed over is the record's body, as much of it as there is
+--   Turn, turn                     the part of the input that is handed over is the record's body, as much of it as there is
 --   Passed, passed                 a record that is accepted, and where the next one stands
 --   going-refused, going-more      after a record that is refused, and after one that is not
 --   going-done                     after the last record
@@ -132,6 +132,7 @@ module _ {input l out out′ : List ℕ} {s : State} {stop end : ℕ} {r : Taken
     pub held : stateOf (r .state) ≡ effectAt input (stateOf s) .value .state
     pub next : r .state .offset ≡ nextAt input (stateOf s)
     pub inside : nextAt input (stateOf s) ≤ length input
+    pub few : r .state .blocks ≤ s .blocks + 1
 
   pub passed : {number : ℕ} → number ≡ answer (r .answer) .number → number ≡ 0 → Passed
   passed e z =
@@ -143,17 +144,22 @@ module _ {input l out out′ : List ℕ} {s : State} {stop end : ℕ} {r : Taken
       let few = effect-blocks (stateOf s) k body in
       let far = effect-offset (stateOf s) k body a in
       let h : stateOf (r .state) ≡ effectAt input (stateOf s) .value .state = t .takes .state ∙ capped-id _ (omega (arith, g .counted, t .inside, t .fits)) (omega (arith, t .inside, t .fits)) in
-      record { accepted = a; held = h; next = ap (λ (f : FeedState). f .offset) h ∙ far; inside = omega (arith, t .inside) }
+      record {
+        accepted = a;
+        held = h;
+        next = ap (λ (f : FeedState). f .offset) h ∙ far;
+        inside = omega (arith, t .inside);
+        few = omega (arith, ap (λ (f : FeedState). f .blocks) h);
+      }
 
   pub going-more : Passed → Going input l out′ (r .state) (r .end)
   going-more p =
-      let few = effect-blocks (stateOf s) (kindAt input (stateOf s)) (take (recordLength (kindAt input (stateOf s))) (drop (s .offset + 1) input)) in
       record {
         fuel = rest .rest;
         enough = omega (arith, g .enough, rest .one, p .next);
         within = omega (arith, p .next, p .inside);
         room = omega (arith, g .room, t .takes .text .bound, t .stops, p .next);
-        counted = omega (arith, g .counted, p .next, ap (λ (f : FeedState). f .blocks) (p .held));
+        counted = omega (arith, g .counted, p .next, p .few);
         left = left-from input (rest .rest) (p .next) (p .held) (rw (eq-eqb _ 0 (p .accepted)) at (rest .left));
       }
 
