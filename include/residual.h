@@ -128,6 +128,9 @@ residual_block_answered residual_edit(bool dst, size_t n, uint8_t bit_depth, boo
 residual_list_answered residual_open_and_edit(bool dst, size_t n, uint8_t bit_depth, bool extended_precision, int32_t *coeff, size_t coeff_len,
     int32_t *inter, size_t inter_len, int32_t *residual, size_t residual_len, const size_t *rows, size_t rows_len, const size_t *columns, size_t columns_len,
     const int32_t *values, size_t values_len, uint8_t *numbers, size_t numbers_len, size_t *places, size_t places_len);
+/* The residual of an intermediate alone. */
+residual_answered residual_refresh_residual(bool dst, size_t n, uint8_t bit_depth, bool extended_precision, const int32_t *inter, size_t inter_len,
+    int32_t *residual, size_t residual_len);
 
 #ifdef __cplusplus
 }

@@ -134,6 +134,9 @@ static void edits(void) {
     same = l.number == 0 && l.columns == 0 && l.edits == 2 && numbers[0] == 8 && places[0] == 0 && numbers[1] == 0 && places[1] == 0;
     for (int i = 0; i < 16; i++) same = same && residual[i] == 0 && coeff[i] == 0;
     expect(same && residual[16] == 7, "open_and_edit");
+    residual[3] = 9;
+    residual_answered a = residual_refresh_residual(false, 4, 8, false, inter, 16, residual, 17);
+    expect(a.number == 0 && a.place == 0 && residual[3] == 0 && residual[16] == 7, "refresh_residual");
 }
 #endif
 

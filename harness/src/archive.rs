@@ -152,6 +152,8 @@ pub mod transform {
 
 #[cfg(has_edits)]
 pub mod edits {
+    use super::Answered;
+
     #[repr(C)]
     #[derive(Clone, Copy, PartialEq, Eq, Debug, Default)]
     pub struct BlockAnswered {
@@ -178,6 +180,14 @@ pub mod edits {
             dst: bool, n: usize, bit_depth: u8, extended_precision: bool, coeff: *mut i32, coeff_len: usize, inter: *mut i32, inter_len: usize, residual: *mut i32, residual_len: usize,
             rows: *const usize, rows_len: usize, columns: *const usize, columns_len: usize, values: *const i32, values_len: usize, numbers: *mut u8, numbers_len: usize, places: *mut usize, places_len: usize,
         ) -> ListAnswered;
+    }
+
+    unsafe extern "C" {
+        fn residual_refresh_residual(dst: bool, n: usize, bit_depth: u8, extended_precision: bool, inter: *const i32, inter_len: usize, residual: *mut i32, residual_len: usize) -> Answered;
+    }
+
+    pub fn refresh_residual(dst: bool, n: usize, bit_depth: u8, extended_precision: bool, inter: &[i32], residual: &mut [i32]) -> Answered {
+        unsafe { residual_refresh_residual(dst, n, bit_depth, extended_precision, inter.as_ptr(), inter.len(), residual.as_mut_ptr(), residual.len()) }
     }
 
     pub fn open_block(dst: bool, n: usize, bit_depth: u8, extended_precision: bool, coeff: &[i32], inter: &mut [i32], residual: &mut [i32]) -> BlockAnswered {

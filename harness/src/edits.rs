@@ -2,13 +2,14 @@
 //! After each edit the coefficients are those of a list kept here, the intermediate is a plain stage one over them, and the residual is a fresh
 //! decode by the oracle, or by the plain sum where the oracle's sums can overflow. Then the same list goes through one call.
 //! Apart from that, single edits get records and buffers that no call left: short, spoiled, of a refused size or depth.
+use crate::archive::Answered;
 use crate::archive::edits::{self, BlockAnswered, ListAnswered};
 use crate::blocks::{self, Element, Lent, SHAPES};
 use crate::random::Random;
 use crate::reference;
 use crate::tally::Tally;
 
-pub const FUNCTIONS: usize = 3;
+pub const FUNCTIONS: usize = 4;
 
 /// Longest list of edits that is played.
 const LIST: usize = 60;
@@ -184,6 +185,29 @@ pub fn compare(tally: &mut Tally, seed: u64, cases: usize) {
     let matrices = Matrices::new();
     openings(tally, &matrices, seed, cases / 8);
     single_edits_and_lists(tally, &matrices, seed, cases / 40);
+    refreshes(tally, &matrices, seed, cases / 8);
+}
+
+/// Stage two alone, over intermediates with values past the range as well.
+fn refreshes(tally: &mut Tally, matrices: &Matrices, seed: u64, cases: usize) {
+    tally.begin("refresh_residual");
+    let mut random = Random::of(seed, "refresh_residual");
+    for _ in 0..cases {
+        let mut o = Opening::random(&mut random);
+        let mut ours = lent(&mut random, &o);
+        if random.one_in(4) {
+            damage(&mut random, &mut o, &mut ours);
+        }
+        let mut expected = ours.copy();
+        let room = ours.residual.seen().len();
+        let number = o.refusal(ours.inter.seen().len(), room, room);
+        if number == 0 {
+            let values = reference::stage_two(matrices.of(&o), &o.limited(ours.inter.seen()), o.n, o.bit_depth, o.range());
+            put(&mut expected.residual, values.into_iter());
+        }
+        let answered = edits::refresh_residual(o.dst, o.n, o.bit_depth, o.extended, ours.inter.seen(), ours.residual.lend());
+        tally.compared(answered.number, answered == Answered { number, place: 0 } && ours.same(&expected), || format!("{o:?}: {answered:?}, expected {number}"));
+    }
 }
 
 fn openings(tally: &mut Tally, matrices: &Matrices, seed: u64, cases: usize) {

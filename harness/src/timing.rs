@@ -151,6 +151,40 @@ fn all_work() -> Vec<Work> {
     list
 }
 
+/// An edit beside stage two of the same block, both ours: kind, size, and the two ranges.
+#[cfg(has_edits)]
+fn edit_work() -> Vec<Work> {
+    let mut list = Vec::new();
+    for (dst, n) in [(true, 4), (false, 4), (false, 8), (false, 16), (false, 32)] {
+        for (bit_depth, extended_precision) in [(8, false), (12, true)] {
+            let mut random = Random::of(1, "edit");
+            let mut coeff: Vec<i32> = blocks::block(&mut random, Shape::Full, n, n * n, -2000, 2000);
+            let (mut inter, mut residual, mut again) = (vec![0i32; n * n], vec![0i32; n * n], vec![0i32; n * n]);
+            let block = archive::edits::open_block(dst, n, bit_depth, extended_precision, &coeff, &mut inter, &mut residual);
+            let held = inter.clone();
+            let kind = if dst { "DST" } else { "DCT" };
+            let range = if extended_precision { " extended" } else { "" };
+            let mut value = 1;
+            list.push(Work {
+                label: format!("edit beside stage two, {kind} {n} depth {bit_depth}{range}"),
+                ours: Box::new(move || {
+                    value = 2000 - value;
+                    black_box(archive::edits::edit(dst, n, bit_depth, extended_precision, block.columns, &mut coeff, &mut inter, black_box(&mut residual), n / 2, n - 1, black_box(value)));
+                }),
+                rust: Box::new(move || {
+                    black_box(archive::edits::refresh_residual(dst, n, bit_depth, extended_precision, black_box(&held), black_box(&mut again)));
+                }),
+            });
+        }
+    }
+    list
+}
+
+#[cfg(not(has_edits))]
+fn edit_work() -> Vec<Work> {
+    Vec::new()
+}
+
 /// Nanoseconds of `repeats` calls.
 fn batch(work: &mut dyn FnMut(), repeats: u32) -> f64 {
     let start = Instant::now();
@@ -212,7 +246,7 @@ fn counted(label: &str, work: &mut dyn FnMut()) {
 /// Runs each work once on each side between two requests to callgrind.
 pub fn count_instructions() {
     counted("nothing", &mut || {});
-    for mut work in all_work() {
+    for mut work in all_work().into_iter().chain(edit_work()) {
         counted(&format!("ours {}", work.label), &mut work.ours);
         counted(&format!("rust {}", work.label), &mut work.rust);
     }
@@ -252,13 +286,18 @@ pub fn time(runs: u32) {
     let counts = instructions();
     let nothing = counts.get("nothing").copied().unwrap_or(0);
     let count = |side: &str, label: &str| counts.get(&format!("{side} {label}")).map(|c| c.saturating_sub(nothing));
-    println!("{:<70} {:>9} {:>9} {:>6} {:>9} {:>9} {:>6}", "function, size, block", "ours ns", "Rust ns", "ratio", "ours ins", "Rust ins", "ratio");
-    for mut work in all_work() {
-        let (ours, rust) = least(&mut work, runs);
-        print!("{:<70} {ours:>9.1} {rust:>9.1} {:>6.2}", work.label, ours / rust);
-        match (count("ours", &work.label), count("rust", &work.label)) {
-            (Some(ours), Some(rust)) => println!(" {ours:>9} {rust:>9} {:>6.2}", ours as f64 / rust as f64),
-            _ => println!(),
+    let table = |works: Vec<Work>, other: &str| {
+        let (time, instructions) = (format!("{other} ns"), format!("{other} ins"));
+        println!("{:<70} {:>9} {time:>12} {:>6} {:>9} {instructions:>13} {:>6}", "function, size, block", "ours ns", "ratio", "ours ins", "ratio");
+        for mut work in works {
+            let (ours, rust) = least(&mut work, runs);
+            print!("{:<70} {ours:>9.1} {rust:>12.1} {:>6.2}", work.label, ours / rust);
+            match (count("ours", &work.label), count("rust", &work.label)) {
+                (Some(ours), Some(rust)) => println!(" {ours:>9} {rust:>13} {:>6.2}", ours as f64 / rust as f64),
+                _ => println!(),
+            }
         }
-    }
+    };
+    table(all_work(), "Rust");
+    table(edit_work(), "stage two");
 }

@@ -2,9 +2,11 @@
 ghost use mathlib.Core.Path.{_≡_};
 ghost use lib.ListN.{length};
 ghost use Rattle.refusal.specs.Outcome.{answer as answerOutcome};
-ghost use Rattle.edited_block.specs.Edit.{buffers, isDst, opened, edited};
+ghost use Rattle.edited_block.specs.Edit.{buffers, isDst, opened, edited, refreshed};
 ghost use Rattle.edited_list.specs.Listed.{editCount, editsOf, openingOf};
+ghost use Rattle.c_api.specs.Blocks.{Writes};
 ghost use Rattle.c_api.specs.Edits.{kindOf, blockGiven, BlockIs, Opens, Edits, Lists};
+use crate::Answered;
 use crate::BlockAnswered;
 use crate::ListAnswered;
 use crate::answers;
@@ -145,4 +147,27 @@ pub extern "C" fn residual_open_and_edit(
         columns: b.columns,
         edits: l.edits,
     }
+}
+
+// The residual of an intermediate: stage two alone.
+#[no_mangle]
+pub extern "C" fn residual_refresh_residual(
+    dst: bool,
+    n: usize,
+    bit_depth: u8,
+    extended_precision: bool,
+    inter: &[i32],
+    residual: &mut [i32],
+) -> Answered
+    ensures { λ r. ⌜ Writes r (now (residual .exit)) (refreshed (kindOf dst) n «bit_depth» «extended_precision» (now (inter .entry)) (now (residual .entry))) ⌝ }
+{
+    let answer = edited_block::refresh_residual(
+        kind_of(dst),
+        n,
+        bit_depth,
+        extended_precision,
+        inter,
+        residual,
+    );
+    answers::answered(answer)
 }

@@ -8,6 +8,7 @@ mod transforms;
 pub use edits::residual_edit;
 pub use edits::residual_open_and_edit;
 pub use edits::residual_open_block;
+pub use edits::residual_refresh_residual;
 pub use levels::residual_dequantize_into_scalar_i16;
 pub use levels::residual_dequantize_into_scalar_i32;
 pub use levels::residual_dequantize_scaled_into_scalar_i16;
