@@ -1,16 +1,18 @@
 // A transform block that is opened once and then changed one coefficient at a time (document 01: the held block).
 ghost use mathlib.Core.Path.{_≡_};
 ghost use Prim.Native.Nat.{_+_, _*_, _<_, _≤_};
-ghost use lib.Dec.{T};
 ghost use lib.ListN.{length, set};
-ghost use Rattle.h265.specs.Range.{isSize};
-ghost use Rattle.refusal.specs.Outcome.{accepted, refused, answer};
 ghost use Rattle.refusal.specs.Written.{Writes};
-ghost use Rattle.edited_block.specs.Columns.{columnCount};
-ghost use Rattle.edited_block.specs.Edit.{dstRefused, blockLadder, zeroBlock, openedBuffers, opened, editedBuffers, withColumns, edited, refreshed, buffers, Opens, Edits, BlockAsk, Staged};
+ghost use Rattle.edited_block.specs.Edit.{zeroBlock, openedBuffers, opened, editedBuffers, withColumns, edited, refreshed, buffers, Opens, Edits, BlockAsk, Staged};
 use refusal::Answer;
 use refusal::Refusal;
 use transform_1d::Kind;
+
+mod columns;
+mod refuse;
+
+use columns::column_count;
+use refuse::block_refusal;
 
 // What an opening fixes, and how many columns are in use. The buffers stay with the caller.
 pub struct EditedBlock {
@@ -31,71 +33,6 @@ pub struct Opened {
 pub struct Edited {
     pub answer: Answer,
     pub columns: usize,
-}
-
-// One past the last column that has a coefficient other than zero, or 0: from the last column leftwards, to the first such one.
-fn column_count(coeff: &[i32], n: usize) -> usize
-    requires { ⌜ T (isSize n) × (n * n ≤ length (now coeff)) ⌝ }
-    ensures { λ r. ⌜ r ≡ columnCount n (now (coeff .entry)) ⌝ }
-{
-    let mut c = n;
-    'scan: loop {
-        if c == 0 {
-            break 'scan 0;
-        }
-        let mut k = 0;
-        while k < n {
-            let at = k * n + (c - 1);
-            if coeff[at] != 0 {
-                break 'scan c;
-            }
-            k += 1;
-        }
-        c -= 1;
-    }
-}
-
-// Row 4: the DST has four points.
-fn dst_refused(kind: Kind, n: usize) -> bool
-    ensures { λ r. ⌜ r ≡ dstRefused kind n ⌝ }
-{
-    match kind {
-        Kind::Dct => false,
-        Kind::Dst => n != 4,
-    }
-}
-
-// The refusals that an opening and an edit share.
-fn block_refusal(
-    kind: Kind,
-    n: usize,
-    bit_depth: u8,
-    coeff: usize,
-    inter: usize,
-    residual: usize,
-) -> Answer
-    ensures { λ r. ⌜ answer r ≡ blockLadder (refused tt) (accepted tt) kind n «bit_depth» coeff inter residual ⌝ }
-{
-    if refusal::size_refused(n) {
-        return Answer::Refused(Refusal::SizeInvalid);
-    }
-    if refusal::depth_refused(bit_depth) {
-        return Answer::Refused(Refusal::DepthInvalid);
-    }
-    if dst_refused(kind, n) {
-        return Answer::Refused(Refusal::DstSizeInvalid);
-    }
-    let cells = n * n;
-    if coeff < cells {
-        return Answer::Refused(Refusal::InputTooShort);
-    }
-    if inter < cells {
-        return Answer::Refused(Refusal::OutputTooShort);
-    }
-    if residual < cells {
-        return Answer::Refused(Refusal::OutputTooShort);
-    }
-    Answer::Done
 }
 
 fn zero_block() -> EditedBlock

@@ -1,4 +1,4 @@
--- `edited_block::block_refusal` meets its contract: each test is the next condition of the ladder.
+-- `edited_block::refuse::block_refusal` meets its contract: each test is the next condition of the ladder.
 use mathlib.Core.Path.{_≡_, sym, _∙_}
 use mathlib.Core.Bool.{false}
 use Prim.Native.Nat.{ℕ, _*_, _≤_}
@@ -12,8 +12,8 @@ use Rattle.h265.proofs.RangeLaws.{size-square}
 use Rattle.refusal.specs.Condition.{sizeRefused, depthRefused, blockRefused}
 use Rattle.refusal.proofs.ConditionLaws.{size-accepted}
 use Rattle.edited_block.specs.Edit.{dstRefused, blockLadder}
-use Rattle.edited_block.proofs.block_refusal.Statement.{statement}
-use Rattle.edited_block.proofs.block_refusal.Tie as tie
+use Rattle.edited_block.proofs.refuse.block_refusal.Statement.{statement}
+use Rattle.edited_block.proofs.refuse.block_refusal.Tie as tie
 
 size-refused-requires : tie.Need-size-refused-requires
 size-refused-requires c κs = search needs

@@ -1,8 +1,8 @@
--- `edited_block::dst_refused` meets its contract: by the kind.
+-- `edited_block::refuse::dst_refused` meets its contract: by the kind.
 use borrow.Author.Needs.{needs}
 use Rattle.edited_block.specs.Edit.{dstRefused}
-use Rattle.edited_block.proofs.dst_refused.Statement.{statement}
-use Rattle.edited_block.proofs.dst_refused.Tie as tie
+use Rattle.edited_block.proofs.refuse.dst_refused.Statement.{statement}
+use Rattle.edited_block.proofs.refuse.dst_refused.Tie as tie
 
 enum-told : tie.Need-enum-told
 enum-told c = search needs

@@ -1,4 +1,4 @@
--- `edited_block::column_count` meets its contract. The scan's invariant: columns from c on have zeros only; down a column: the rows before k do.
+-- `edited_block::columns::column_count` meets its contract. The scan's invariant: columns from c on have zeros only; down a column: the rows before k do.
 use mathlib.Core.Path.{_≡_, refl, sym, ap, _∙_}
 use Prim.Native.Nat.{ℕ, suc, _+_, _-_, _*_, _≤_, _<_}
 use native.Mathlib.Nat.{mul-le-mul}
@@ -16,8 +16,8 @@ use Rattle.h265.specs.Range.{isSize}
 use Rattle.h265.proofs.RangeLaws.{size-bound, size-square}
 use Rattle.edited_block.specs.Columns.{lastWhere, columnUsed, columnCount}
 use Rattle.edited_block.proofs.ColumnsLaws.{ZeroRows, zero-row, other-row, count-used, count-unused}
-use Rattle.edited_block.proofs.column_count.Statement.{statement}
-use Rattle.edited_block.proofs.column_count.Tie as tie
+use Rattle.edited_block.proofs.columns.column_count.Statement.{statement}
+use Rattle.edited_block.proofs.columns.column_count.Tie as tie
 
 abbrev Inv-loop : tie.InvT-loop
 Inv-loop coeff n c k₀ k = (k ≤ n) × ZeroRows n coeff (c - 1) k
