@@ -21,7 +21,8 @@ struct Work {
     rust: Box<dyn FnMut()>,
 }
 
-const SHAPES: [(&str, Shape); 3] = [("dense", Shape::Full), ("quarter", Shape::Quarter), ("dc", Shape::Dc)];
+/// A shape, and how large its coefficients are: of the size that a picture gives, or any in the range of extended precision.
+const SHAPES: [(&str, Shape, bool); 4] = [("dense", Shape::Full, false), ("quarter", Shape::Quarter, false), ("dc", Shape::Dc, false), ("dense, full range", Shape::Full, true)];
 
 fn numbers(list: &mut Vec<Work>) {
     let mut add = |label: &str, ours: Box<dyn FnMut()>, rust: Box<dyn FnMut()>| list.push(Work { label: label.to_string(), ours, rust });
@@ -101,9 +102,13 @@ fn transforms<E: Element>(list: &mut Vec<Work>, transform: &'static transform::T
     let sizes: &[usize] = if transform.dst { &[4] } else { &reference::SIZES };
     let bit_depth = if transform.extended { 12 } else { 8 };
     for &n in sizes {
-        for (shape_name, shape) in SHAPES {
+        for (shape_name, shape, full) in SHAPES {
+            if full && !transform.extended {
+                continue;
+            }
             let mut random = Random::of(1, transform.name);
-            let coeff: Vec<E> = blocks::block(&mut random, shape, n, n * n, -2000, 2000);
+            let most = if full { (1i64 << reference::range(bit_depth, transform.extended)) - 1 } else { 2000 };
+            let coeff: Vec<E> = blocks::block(&mut random, shape, n, n * n, -most, most);
             // the caller's column count, as a decoder knows it
             let nx = match shape {
                 Shape::Full => n,
