@@ -1,0 +1,240 @@
+// Lists of edits at the border of every row. A line holds what was asked, then the opening's number and place, the record handed back, how many
+// edits were given, coefficients, intermediate, residual, and the numbers and places of the answers: 7 and 77 stand where no call may write.
+use crate::lines;
+use crate::settings;
+use crate::settings::Setting;
+use libc::STDOUT_FILENO;
+
+fn wide(x: u8) -> u64 {
+    x as u64
+}
+
+fn put_numbers(xs: &[u8]) {
+    lines::put_bar();
+    let mut i = 0;
+    while i < xs.len() {
+        lines::put(wide(xs[i]));
+        i += 1;
+    }
+}
+
+fn long(x: usize) -> u64 {
+    x as u64
+}
+
+fn put_places(xs: &[usize]) {
+    lines::put_bar();
+    let mut i = 0;
+    while i < xs.len() {
+        lines::put(long(xs[i]));
+        i += 1;
+    }
+}
+
+// One call with its line.
+fn list(
+    setting: Setting,
+    coeff: &mut [i32],
+    inter: &mut [i32],
+    residual: &mut [i32],
+    rows: &[usize],
+    columns: &[usize],
+    values: &[i32],
+    numbers: &mut [u8],
+    places: &mut [usize],
+) {
+    lines::put_setting(setting);
+    let kind = setting.kind;
+    let listed = edited_list::open_and_edit(
+        kind,
+        setting.n,
+        setting.bit_depth,
+        setting.extended,
+        coeff,
+        inter,
+        residual,
+        rows,
+        columns,
+        values,
+        numbers,
+        places,
+    );
+    let answer = listed.answer;
+    lines::put_answer(answer);
+    lines::put_bar();
+    lines::put_record(listed.block);
+    lines::put_bar();
+    lines::put(listed.edits as u64);
+    lines::put_buffers(coeff, inter, residual);
+    put_numbers(numbers);
+    put_places(places);
+    lines::put_end();
+}
+
+// Four edits: an accepted one, one refused with 8, one refused with 9, and the first one's column emptied again. The answers have a place more.
+fn four(name: &[u8], setting: Setting, coeff: &mut [i32], inter: &mut [i32], residual: &mut [i32]) {
+    io::write_all(STDOUT_FILENO, name);
+    let rows = [0usize, 4, 1, 0];
+    let columns = [3usize, 0, 2, 3];
+    let values = [64i32, 5, 4194304, 0];
+    let mut numbers = [77u8; 5];
+    let mut places = [77usize; 5];
+    list(
+        setting,
+        coeff,
+        inter,
+        residual,
+        &rows,
+        &columns,
+        &values,
+        &mut numbers,
+        &mut places,
+    );
+}
+
+fn one(setting: Setting, at: usize, value: i32) {
+    let mut coeff = lines::only(at, value);
+    let mut inter = [7i32; 18];
+    let mut residual = [7i32; 18];
+    four(b"list", setting, &mut coeff, &mut inter, &mut residual);
+}
+
+// Buffers of 15 places, with a coefficient outside.
+fn short() {
+    let mut coeff = lines::only(5, 32768);
+    let mut inter = [7i32; 18];
+    let mut residual = [7i32; 18];
+    let mut few = [32768i32; 15];
+    let mut few_inter = [7i32; 15];
+    let mut few_residual = [7i32; 15];
+    let usual = settings::usual();
+    four(
+        b"list short input",
+        usual,
+        &mut few,
+        &mut inter,
+        &mut residual,
+    );
+    four(
+        b"list short intermediate",
+        usual,
+        &mut coeff,
+        &mut few_inter,
+        &mut residual,
+    );
+    four(
+        b"list short residual",
+        usual,
+        &mut coeff,
+        &mut inter,
+        &mut few_residual,
+    );
+    four(
+        b"list all short",
+        usual,
+        &mut few,
+        &mut few_inter,
+        &mut few_residual,
+    );
+}
+
+// Document 01's three values one after the other on a block of zeros, as far as the slices reach.
+fn three(
+    name: &[u8],
+    rows: &[usize],
+    columns: &[usize],
+    values: &[i32],
+    numbers: &mut [u8],
+    places: &mut [usize],
+) {
+    io::write_all(STDOUT_FILENO, name);
+    let mut coeff = lines::only(0, 0);
+    let mut inter = [7i32; 18];
+    let mut residual = [7i32; 18];
+    list(
+        settings::usual(),
+        &mut coeff,
+        &mut inter,
+        &mut residual,
+        rows,
+        columns,
+        values,
+        numbers,
+        places,
+    );
+}
+
+// The list is as long as the shortest of its slices.
+fn few_edits() {
+    let rows = [0usize; 3];
+    let columns = [0usize; 3];
+    let values = [62i32, 63, -64];
+    let no_rows = [0usize; 0];
+    let one_value = [62i32; 1];
+    let mut numbers = [77u8; 3];
+    let mut places = [77usize; 3];
+    three(
+        b"list empty",
+        &no_rows,
+        &columns,
+        &values,
+        &mut numbers,
+        &mut places,
+    );
+    three(
+        b"list of one value",
+        &rows,
+        &columns,
+        &one_value,
+        &mut numbers,
+        &mut places,
+    );
+    three(
+        b"list of three",
+        &rows,
+        &columns,
+        &values,
+        &mut numbers,
+        &mut places,
+    );
+}
+
+fn few_answers() {
+    let rows = [0usize; 3];
+    let columns = [0usize; 3];
+    let values = [62i32, 63, -64];
+    let mut two_numbers = [77u8; 2];
+    let mut places = [77usize; 3];
+    three(
+        b"list of two numbers",
+        &rows,
+        &columns,
+        &values,
+        &mut two_numbers,
+        &mut places,
+    );
+    let mut numbers = [77u8; 3];
+    let mut one_place = [77usize; 1];
+    three(
+        b"list of one place",
+        &rows,
+        &columns,
+        &values,
+        &mut numbers,
+        &mut one_place,
+    );
+}
+
+pub fn borders() {
+    one(settings::usual(), 0, 63);
+    one(settings::dst(4, 16, true), 0, 63);
+    one(settings::dct(12, 8, false), 0, 63);
+    one(settings::dct(4, 7, false), 0, 63);
+    one(settings::dct(4, 17, false), 0, 63);
+    one(settings::dst(8, 8, false), 0, 63);
+    one(settings::usual(), 5, 32768);
+    one(settings::usual(), 5, -32769);
+    short();
+    few_edits();
+    few_answers();
+}
