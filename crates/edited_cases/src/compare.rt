@@ -166,14 +166,15 @@ pub fn is_decoded(setting: Setting, coeff: &[i32], residual: &[i32]) -> bool {
     lines::answer_number(answer) == 0 && same(&out, residual)
 }
 
-// Whether record and intermediate are those of a fresh opening on the coefficients.
+// Whether record and intermediate are those of a fresh opening on the coefficients, whose own residual is to be a decode.
 pub fn is_opened(setting: Setting, block: EditedBlock, coeff: &[i32], inter: &[i32]) -> bool {
     let mut out = [7i32; 1040];
     let mut residual = [7i32; 1040];
     let opened = settings::open(setting, coeff, &mut out, &mut residual);
     let answer = opened.answer;
     let record = same_record(opened.block, block);
-    lines::answer_number(answer) == 0 && record && same(&out, inter)
+    let decoded = is_decoded(setting, coeff, &residual);
+    lines::answer_number(answer) == 0 && record && decoded && same(&out, inter)
 }
 
 // Whether two lists of edits were answered alike.

@@ -8,6 +8,7 @@ mod lists;
 mod openings;
 mod replay;
 mod settings;
+mod tally;
 
 fn main() {
     replay::every_setting();

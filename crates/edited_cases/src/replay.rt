@@ -9,26 +9,13 @@ use crate::drawn::Edits;
 use crate::lines;
 use crate::settings;
 use crate::settings::Setting;
+use crate::tally;
+use crate::tally::Tally;
+use crate::tally::Turned;
 use edited_block::EditedBlock;
 use edited_list::Listed;
 use libc::STDOUT_FILENO;
 use transform_1d::Kind;
-
-// What one edit gave, and whether all of it was as it should be.
-struct Turned {
-    block: EditedBlock,
-    told: Told,
-    right: bool,
-}
-
-// How many edits were accepted, refused with 8 and with 9, left fewer columns in use, and were not as they should be.
-struct Tally {
-    accepted: u64,
-    place_outside: u64,
-    value_outside: u64,
-    fewer_columns: u64,
-    differences: u64,
-}
 
 struct Played {
     tally: Tally,
@@ -68,33 +55,6 @@ fn turn(
     }
 }
 
-// No list is long enough to wrap a count.
-fn counted(count: u64, one: bool) -> u64 {
-    std::num::wrapping_add_u64(count, one as u64)
-}
-
-fn tallied(tally: Tally, columns: usize, turned: Turned) -> Tally {
-    let told = turned.told;
-    let block = turned.block;
-    Tally {
-        accepted: counted(tally.accepted, told.number == 0),
-        place_outside: counted(tally.place_outside, told.number == 8),
-        value_outside: counted(tally.value_outside, told.number == 9),
-        fewer_columns: counted(tally.fewer_columns, block.columns < columns),
-        differences: counted(tally.differences, !turned.right),
-    }
-}
-
-fn no_tally() -> Tally {
-    Tally {
-        accepted: 0,
-        place_outside: 0,
-        value_outside: 0,
-        fewer_columns: 0,
-        differences: 0,
-    }
-}
-
 // All edits, each with record and buffers as the one before left them.
 fn play(
     setting: Setting,
@@ -108,7 +68,7 @@ fn play(
     let mut numbers = [77u8; 100];
     let mut places = [77usize; 100];
     let mut block = opened;
-    let mut tally = no_tally();
+    let mut tally = tally::no_tally();
     let mut i: usize = 0;
     while i < 100 {
         let edit = drawn::edit_at(edits, i);
@@ -116,7 +76,7 @@ fn play(
         let told = turned.told;
         numbers[i] = told.number;
         places[i] = told.place;
-        let more = tallied(tally, block.columns, turned);
+        let more = tally::tallied(tally, block.columns, turned);
         tally = more;
         let after = turned.block;
         block = after;
@@ -128,22 +88,6 @@ fn play(
         numbers,
         places,
     }
-}
-
-fn put_tally(setting: Setting, tally: Tally) {
-    io::write_all(STDOUT_FILENO, b"random edits");
-    lines::put_setting(setting);
-    io::write_all(STDOUT_FILENO, b" | accepted");
-    lines::put(tally.accepted);
-    io::write_all(STDOUT_FILENO, b" | refused with 8");
-    lines::put(tally.place_outside);
-    io::write_all(STDOUT_FILENO, b" | refused with 9");
-    lines::put(tally.value_outside);
-    io::write_all(STDOUT_FILENO, b" | fewer columns");
-    lines::put(tally.fewer_columns);
-    io::write_all(STDOUT_FILENO, b" | differences");
-    lines::put(tally.differences);
-    lines::put_end();
 }
 
 fn put_list(setting: Setting, edits: usize, right: bool) {
@@ -226,7 +170,7 @@ fn try_setting(setting: Setting) {
         &mut residual,
         &mut kept,
     );
-    put_tally(setting, played.tally);
+    tally::put_tally(setting, played.tally);
     play_list(setting, edits, played, &coeff, &inter, &residual);
 }
 
