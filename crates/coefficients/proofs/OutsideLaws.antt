@@ -1,24 +1,73 @@
--- The search for a coefficient outside the range, row by row.
+-- The search for a coefficient outside the range: all at once, and row by row.
+--   reaches-mag           a number reaches its size
+--   AllReach, allReach-…  bits gathered from the first coefficients: the invariant of a loop that gathers them
+--   none-flat             a block that has none in any column
 --   firstOutside-inside   what a search that found none says of each place
 --   outsideAt-row       the test at row k and column c
 --   none-part, none-row   a part of a row without one, and a whole row
 use mathlib.Core.Path.{_≡_, refl, sym, ap, ap₂, _∙_}
-use mathlib.Core.Bool.{Bool, true, false, _&&_}
+use mathlib.Core.Bool.{Bool, true, false, _&&_, _||_}
 use mathlib.Core.List.{List}
 use mathlib.Core.Logic.{⊎-elim}
-use Prim.Native.Nat.{ℕ, zero, suc, _+_, _*_, _-_, _/_, _%_, min, _≤_, _<_}
-use native.Mathlib.Nat.{suc-mul, lt-of-lt-of-le}
+use Prim.Native.Nat.{ℕ, zero, suc, _+_, _*_, _-_, _/_, _%_, _^_, min, _≤_, _<_}
+use native.Mathlib.Nat.{not-suc-le-zero, suc-mul, lt-of-lt-of-le}
 use native.Mathlib.Numerals.{add-one}
-use native.Mathlib.Decide.{decLt}
+use native.Mathlib.Decide.{ℕ-discrete, decLt}
 use native.Mathlib.Omega.{arith}
 use borrow.Author.Tests.{lt-ltb, le-ltb}
 use lib.Arith.{digits-mod, digits-lt}
 use lib.Dec.{ltb}
-use lib.IntN.{ℤ, pos}
+use lib.Bits.{bitAnd, bitOr, and-le-l, and-le-r, or-add-and}
+use lib.IntN.{ℤ, pos, negsuc, negℤ, _-ℤ_}
 use lib.ListN.{getD}
+use lib.Pow.{pow-pos}
+use lib.Signed.{ltZ, mag}
+use Rattle.integers.proofs.LinearLaws.{parts-add, parts-neg, le-out}
+use Rattle.integers.proofs.MachineLaws.{ltZ-of-le}
 use Rattle.integers.proofs.SearchLaws.{None, First, firstWhere-first}
-use Rattle.h265.specs.Range.{outsideRange}
-use Rattle.coefficients.specs.Outside.{outsideAt, firstOutside}
+use Rattle.h265.specs.Range.{coeffMin, coeffMax, outsideRange}
+use Rattle.coefficients.specs.Outside.{outsideAt, firstOutside, Reaches}
+
+-- ---- all at once
+between : (r : ℕ) (z : ℤ) → ltZ z (coeffMin r) ≡ false → ltZ (coeffMax r) z ≡ false → outsideRange r z ≡ false
+unfolding outsideRange
+between r z e f = rw (e, f)
+
+pub reaches-mag : (z : ℤ) → Reaches z (mag z)
+unfolding coeffMin coeffMax
+reaches-mag (pos n) =
+    record {
+      inside = λ r h.
+          between r (pos n) (ltZ-of-le (le-out (negℤ (pos (2 ^ r))) (pos n) (omega (arith, parts-neg (pos (2 ^ r))))))
+          (ltZ-of-le (le-out (pos n) (pos (2 ^ r) -ℤ pos 1) (omega (arith, parts-add (pos (2 ^ r)) (negℤ (pos 1))))));
+    }
+reaches-mag (negsuc n) =
+    record {
+      inside = λ r h.
+          between r (negsuc n) (ltZ-of-le (le-out (negℤ (pos (2 ^ r))) (negsuc n) (omega (arith, parts-neg (pos (2 ^ r))))))
+          (ltZ-of-le (le-out (negsuc n) (pos (2 ^ r) -ℤ pos 1) (omega (arith, parts-add (pos (2 ^ r)) (negℤ (pos 1)), pow-pos r))));
+    }
+
+reaches-left : {z : ℤ} (a b : ℕ) → Reaches z a → Reaches z (bitOr a b)
+reaches-left a b f = record { inside = λ r h. f .inside r (omega (arith, or-add-and a b, and-le-r a b)) }
+
+reaches-right : {z : ℤ} (a b : ℕ) → Reaches z b → Reaches z (bitOr a b)
+reaches-right a b f = record { inside = λ r h. f .inside r (omega (arith, or-add-and a b, and-le-l a b)) }
+
+pub record AllReach (xs : List ℤ) (k bits : ℕ) : Type 0 where
+  pub at : (i : ℕ) → i < k → Reaches (getD xs i (pos 0)) bits
+
+pub allReach-zero : {xs : List ℤ} {bits : ℕ} → AllReach xs 0 bits
+allReach-zero = record { at = λ i h. absurd (not-suc-le-zero h) }
+
+pub allReach-suc : {xs : List ℤ} {k : ℕ} (bits b : ℕ) → AllReach xs k bits → Reaches (getD xs k (pos 0)) b → AllReach xs (k + 1) (bitOr bits b)
+allReach-suc {xs} {k} bits b f g =
+    record {
+      at = λ i h.
+          elim (ℕ-discrete i k) [ yes q ↦ rw q (reaches-right bits b g) | no q ↦ reaches-left bits b (f .at i (omega arith)) ];
+    }
+
+-- ---- row by row
 
 module _ (r n nx : ℕ) (xs : List ℤ) where
   -- a column that is read
@@ -30,6 +79,15 @@ module _ (r n nx : ℕ) (xs : List ℤ) where
   outsideAt-past : (i : ℕ) → nx ≤ i % n → outsideAt r n nx xs i ≡ false
   unfolding outsideAt
   outsideAt-past i h = rw (le-ltb (i % n) nx h)
+
+  -- where every column is inside, so are those that are read
+  pub none-flat : (k : ℕ) → ((i : ℕ) → i < k → outsideRange r (getD xs i (pos 0)) ≡ false) → None (outsideAt r n nx xs) k
+  unfolding outsideAt
+  none-flat k h = record { at = λ i l. rw (h i l) (and-false (ltb (i % n) nx)) }
+    where
+      and-false : (b : Bool) → b && false ≡ false
+      and-false true = refl
+      and-false false = refl
 
   -- a row up to a column
   pub none-part : (k d : ℕ) → d ≤ nx → nx ≤ n → None (outsideAt r n nx xs) (k * n)

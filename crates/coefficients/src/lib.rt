@@ -1,13 +1,13 @@
 // The range of coefficients, and where a block has one outside it. Internal: the crates above call these and meet what they require.
 ghost use mathlib.Core.Path.{_≡_};
 ghost use mathlib.Core.Bool.{true, false};
-ghost use Prim.Native.Nat.{_+_, _*_, _≤_};
+ghost use Prim.Native.Nat.{ℕ, _+_, _*_, _<_, _≤_};
 ghost use lib.Dec.{T};
 ghost use lib.IntN.{pos};
 ghost use lib.ListN.{getD, length};
 ghost use Rattle.integers.specs.Search.{firstWhere};
 ghost use Rattle.h265.specs.Range.{isSize, transformRange, outsideRange};
-ghost use Rattle.coefficients.specs.Outside.{firstOutside};
+ghost use Rattle.coefficients.specs.Outside.{Reaches, firstOutside};
 
 // R: coefficients lie in -2^R .. 2^R - 1.
 pub fn transform_range(bit_depth: u8, extended_precision: bool) -> u32
@@ -49,8 +49,32 @@ fn row_outside(coeff: &[i32], base: usize, nx: usize, range: u32) -> usize
     c
 }
 
-// The first coefficient in row order that lies outside the range, among the first nx columns, and n² where there is none.
-pub fn first_outside(coeff: &[i32], n: usize, nx: usize, range: u32) -> usize
+// The size of x, counted from 0 for x ≥ 0 and from -1 below: x lies in the range where this is below 2^R.
+fn reach(x: i32) -> u32
+    ensures { λ m. ⌜ Reaches x m ⌝ }
+{
+    if x < 0 {
+        return (-1 - x) as u32;
+    }
+    x as u32
+}
+
+// Whether the first len coefficients all lie in the range. One pass with no way out, so that the compiler takes several at a time.
+fn all_inside(coeff: &[i32], len: usize, range: u32) -> bool
+    requires { ⌜ (len ≤ length (now coeff)) × (range ≤ 22) ⌝ }
+    ensures { λ r. ⌜ (r ≡ true → (i : ℕ) → i < len → outsideRange range (getD (now (coeff .entry)) i (pos 0)) ≡ false) ⌝ }
+{
+    let mut bits: u32 = 0;
+    let mut i: usize = 0;
+    while i < len {
+        bits = bits | reach(coeff[i]);
+        i += 1;
+    }
+    bits < (1u32 << range)
+}
+
+// What `first_outside` looks for, row by row.
+fn rows_outside(coeff: &[i32], n: usize, nx: usize, range: u32) -> usize
     requires { ⌜ T (isSize n) × (nx ≤ n) × (n * n ≤ length (now coeff)) × (range ≤ 22) ⌝ }
     ensures { λ r. ⌜ r ≡ firstOutside range n nx (now (coeff .entry)) ⌝ }
 {
@@ -63,4 +87,16 @@ pub fn first_outside(coeff: &[i32], n: usize, nx: usize, range: u32) -> usize
         k += 1;
     }
     n * n
+}
+
+// The first coefficient in row order that lies outside the range, among the first nx columns, and n² where there is none.
+// A pass over all columns passes an ordinary block; columns from nx on may hold anything, so that where it stops, the rows decide.
+pub fn first_outside(coeff: &[i32], n: usize, nx: usize, range: u32) -> usize
+    requires { ⌜ T (isSize n) × (nx ≤ n) × (n * n ≤ length (now coeff)) × (range ≤ 22) ⌝ }
+    ensures { λ r. ⌜ r ≡ firstOutside range n nx (now (coeff .entry)) ⌝ }
+{
+    if all_inside(coeff, n * n, range) {
+        return n * n;
+    }
+    rows_outside(coeff, n, nx, range)
 }
