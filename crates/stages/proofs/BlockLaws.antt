@@ -2,19 +2,21 @@
 --   transformLine-short     a line whose data are zero from k on
 --   Source                  a holds the coefficients of the columns read; rows from ny on are zero
 --   source-self, -narrow    the coefficients themselves; their narrowed copy
+--   Enough, enough-…        groups of four that hold all columns read
+--   Unfolds, unfolds-…      where the intermediate's rows keep their outputs: in order, or folded at 16 and 32 points
 --   source-pass             stage one meets what a pass asks
 --   pass-two                so does stage two, over what stage one stored
 --   intermediate-past       columns from the count on are zero
 --   block-residual          what stage two stores is the residual
 --   block-fits              with a shift of 11 or 12 it fits 16 bits
-use mathlib.Core.Path.{_≡_, refl, sym, ap, _∙_, subst}
+use mathlib.Core.Path.{_≡_, refl, sym, ap, ap₂, _∙_, subst}
 use mathlib.Core.List.{List}
-use Prim.Native.Nat.{ℕ, zero, suc, _+_, _*_, _/_, _≤_, _<_}
-use native.Mathlib.Nat.{add-comm, mul-le-mul-right, mul-suc}
+use Prim.Native.Nat.{ℕ, zero, suc, _+_, _-_, _*_, _/_, _≤_, _<_}
+use native.Mathlib.Nat.{zero-add, add-comm, mul-le-mul-right, mul-suc}
 use native.Mathlib.Decide.{ℕ-discrete, decLt}
 use native.Mathlib.Omega.{arith}
 use borrow.Author.Tests.{lt-ltb, le-ltb}
-use lib.Dec.{T}
+use lib.Arith.{digits-lt}
 use lib.IntN.{ℤ, pos, negsuc, _+ℤ_, _*ℤ_, *ℤ-zero}
 use lib.ListN.{length, getD, replicate, length-replicate}
 use lib.Signed.{shrZ, _≤ℤ_}
@@ -28,15 +30,18 @@ use Rattle.integers.proofs.LinearLaws.{posPart, negPart, parts-add-le}
 use Rattle.integers.proofs.OrderLaws.{Floor, shr-floor}
 use Rattle.integers.proofs.BoundLaws.{within-in}
 use Rattle.integers.proofs.ClipLaws.{clip3-within}
-use Rattle.integers.proofs.SumLaws.{sum-short, sum-none}
+use Rattle.integers.proofs.SumLaws.{sum-cong, sum-short, sum-none}
 use Rattle.h265.specs.Range.{coeffMin, coeffMax, clipCoeff}
-use Rattle.h265.specs.Matrix.{absSum}
+use Rattle.h265.specs.Matrix.{transMatrix, absSum}
 use Rattle.h265.specs.Transform.{transformLine, blockAt, rowOrder, columnsRead, stageOneSum, stageOneValue, intermediate, stageTwoSum, stageTwo}
-use Rattle.transform_1d.specs.Lanes.{laneMatrix, lineSum}
-use Rattle.transform_1d.specs.Rows.{Filled}
+use Rattle.transform_1d.specs.Lanes.{mirrored, laneMatrix, lineSum}
+use Rattle.transform_1d.specs.Rows.{Placed, Filled}
+use Rattle.transform_1d.proofs.KernelLaws.{laneMatrix-low, laneMatrix-high}
 use Rattle.transform_1d.proofs.RowsLaws.{row-unique, filled-overwrite}
-use Rattle.transform_1d.proofs.MatrixLaws.{transformLine-cong, transformLine-within, Laid}
-use Rattle.stages.specs.Passes.{shiftedResidual, RowsUsed, PassAsk, columnValue, rowValue}
+use Rattle.transform_1d.proofs.MatrixLaws.{transformLine-cong, transformLine-within, transMatrix-mirror-16, Laid}
+use Rattle.stages.specs.Passes.{shiftedResidual, RowsUsed, PassAsk, columnValue, rowValue, folded, foldedLane}
+use Rattle.stages.proofs.FinishLaws.{clip-fits}
+use Rattle.stages.proofs.PassesLaws.{folded-inside}
 
 pub transformLine-short : (t : ℕ → ℕ → ℤ) (n k : ℕ) (y : ℕ → ℤ) (m : ℕ) → k ≤ n → ((i : ℕ) → k ≤ i → i < n → y i ≡ pos 0)
     → transformLine t n y m ≡ transformLine t k y m
@@ -85,19 +90,72 @@ pub record Source (n nx ny : ℕ) (coeff a : List ℤ) : Type 0 where
 pub source-self : {n nx ny : ℕ} {coeff : List ℤ} → nx ≤ n → n * n ≤ length coeff → RowsUsed coeff n nx ny → Source n nx ny coeff coeff
 source-self h l u = record { columns = h; long = l; used = u; same = λ k c a b. refl }
 
-pub source-narrow : {n nx ny : ℕ} {coeff a : List ℤ} → nx ≤ n → RowsUsed coeff n nx ny
-    → Filled n nx (blockAt n coeff) ny (replicate (n * n) (pos 0)) a → Source n nx ny coeff a
-unfolding blockAt
-source-narrow {n} {nx} {ny} {coeff} {a} h u f =
+pub source-narrow : {n nx ny : ℕ} {coeff a : List ℤ} → nx ≤ n → ((k c : ℕ) → k < n → c < nx → SFits w16 (getD coeff (k * n + c) (pos 0)))
+    → RowsUsed coeff n nx ny → Placed 0 (ny * n) (λ j. clipCoeff 15 (getD coeff j (pos 0))) (replicate (n * n) (pos 0)) a → Source n nx ny coeff a
+source-narrow {n} {nx} {ny} {coeff} {a} h fits u p =
     record {
       columns = h;
-      long = omega (arith, f .long, length-replicate (n * n) (pos 0));
+      long = omega (arith, p .long, length-replicate (n * n) (pos 0));
       used = u;
       same = λ k c l m.
           elim (decLt k ny) [
-            | yes y ↦ f .done k c y m
-            | no d ↦ f .kept (k * n + c) (λ r b p q e. d (subst (λ (i : ℕ). i < ny) (sym (row-unique n k r c b (omega arith) (omega arith) e)) p))
+            | yes y ↦ ap (λ (i : ℕ). getD a i (pos 0)) (sym (zero-add (k * n + c))) ∙ p .done (k * n + c) (digits-lt {q = k} {m = ny} {r = c} {c = n} y (omega arith)) ∙ clip-fits (fits k c l m)
+            | no d ↦ p .kept (k * n + c) (λ j b e. absurd (let x : ⊥ = omega (arith, mul-le-mul-right n (let z : ny ≤ k = omega arith in z)) in x))
                 ∙ zeros-getD (n * n) (k * n + c) ∙ sym (u .zero k c (omega arith) l m)
+          ];
+    }
+
+-- ---- groups of four columns that hold the columns read
+pub record Enough (n nx g : ℕ) : Type 0 where
+  pub few : 4 * g ≤ n
+  pub all : nx ≤ 4 * g
+
+pub enough-columns : (n nx : ℕ) → nx ≤ n → n ≡ 4 * (n / 4) → Enough n nx ((nx + 3) / 4)
+enough-columns n nx h e = record { few = omega arith; all = omega arith }
+
+pub enough-four : {nx : ℕ} → nx ≤ 4 → Enough 4 nx 1
+enough-four h = record { few = omega arith; all = omega arith }
+
+-- ---- where the intermediate's rows keep their outputs: output m of a line stands at place m, in lane `lane (place m)`
+pub record Unfolds (t : ℕ → ℕ → ℤ) (n : ℕ) (xs : List ℤ) (place lane : ℕ → ℕ) : Type 0 where
+  pub inside : (m : ℕ) → m < n → place m < n
+  pub reads : (k m : ℕ) → k < n → m < n → laneMatrix xs k (lane (place m)) ≡ t k m
+
+pub unfolds-plain : {t : ℕ → ℕ → ℤ} {n : ℕ} {xs : List ℤ} → Laid t n xs → Unfolds t n xs (λ m. m) (λ p. p)
+unfolds-plain T = record { inside = λ m h. h; reads = T .reads }
+
+folded-low : (n m : ℕ) → m < n / 2 → foldedLane n (folded n m) ≡ m
+unfolding folded foldedLane
+folded-low n m h = rw (lt-ltb m (n / 2) h, lt-ltb m (n / 2) h)
+
+folded-high : (n m : ℕ) → n ≡ 2 * (n / 2) → n ≤ 32 → m < n → n / 2 ≤ m → foldedLane n (folded n m) ≡ 32 - n + m
+unfolding folded foldedLane
+folded-high n m e l h k =
+    rw (le-ltb m (n / 2) k, le-ltb (n + n / 2 - 1 - m) (n / 2) (omega arith)) (let f : 31 + n / 2 - (n + n / 2 - 1 - m) ≡ 32 - n + m = omega arith in f)
+
+pub unfolds-16 : {xs : List ℤ} → Laid (transMatrix 16) 16 xs → Unfolds (transMatrix 16) 16 xs (folded 16) (foldedLane 16)
+unfolds-16 {xs} T =
+    record {
+      inside = folded-inside 16;
+      reads = λ k m hk hm.
+          elim (decLt m 8) [
+            | yes y ↦ ap (laneMatrix xs k) (folded-low 16 m y) ∙ T .reads k m hk hm
+            | no d ↦ ap (laneMatrix xs k) (folded-high 16 m refl (omega arith) hm (omega arith) ∙ (let e : 32 - 16 + m ≡ 31 - (15 - m) = omega arith in e))
+                ∙ laneMatrix-high xs k (15 - m) (omega arith)
+                ∙ ap (mirrored k) (sym (laneMatrix-low xs k (15 - m) (omega arith)) ∙ T .reads k (15 - m) hk (omega arith))
+                ∙ sym (transMatrix-mirror-16 k (15 - m) hk (omega arith))
+                ∙ ap (transMatrix 16 k) (let e : 15 - (15 - m) ≡ m = omega arith in e)
+          ];
+    }
+
+pub unfolds-32 : {xs : List ℤ} → Laid (transMatrix 32) 32 xs → Unfolds (transMatrix 32) 32 xs (folded 32) (foldedLane 32)
+unfolds-32 {xs} T =
+    record {
+      inside = folded-inside 32;
+      reads = λ k m hk hm.
+          elim (decLt m 16) [
+            | yes y ↦ ap (laneMatrix xs k) (folded-low 32 m y) ∙ T .reads k m hk hm
+            | no d ↦ ap (laneMatrix xs k) (folded-high 32 m refl (omega arith) hm (omega arith) ∙ (let e : 32 - 32 + m ≡ m = omega arith in e)) ∙ T .reads k m hk hm
           ];
     }
 
@@ -118,30 +176,34 @@ module _ {t : ℕ → ℕ → ℤ} {n : ℕ} {xs : List ℤ} (T : Laid t n xs) {
   unfolding columnsRead blockAt
   read-below k c l h b = rw (lt-ltb c nx b) (src .used .zero k c l h b)
 
-  line-one : (c m : ℕ) → c < nx → m < n → lineSum xs a c n ((ny + 3) / 4) m ≡ stageOneSum t n read m c
-  unfolding stageOneSum
-  line-one c m h l =
+  -- a lane that reads column m of the matrix gives output m
+  line-one : (c m lane : ℕ) → c < nx → ((k : ℕ) → k < n → laneMatrix xs k lane ≡ t k m)
+      → lineSum xs a c n ((ny + 3) / 4) lane ≡ stageOneSum t n read m c
+  unfolding stageOneSum transformLine
+  line-one c m lane h r =
       let few : 4 * ((ny + 3) / 4) ≤ n = omega (arith, src .used .most, T .fours) in
-      transformLine-cong (laneMatrix xs) t (4 * ((ny + 3) / 4)) (λ k. getD a (c + k * n) (pos 0)) (λ k. read k c) m
-      (λ k b. T .reads k m (omega arith) l) (λ k b. read-in k c (omega arith) h)
+      sum-cong (4 * ((ny + 3) / 4)) (λ k. laneMatrix xs k lane *ℤ getD a (c + k * n) (pos 0)) (λ k. t k m *ℤ read k c)
+      (λ k b. ap₂ _*ℤ_ (r k (omega arith)) (read-in k c (omega arith) h))
       ∙ sym (transformLine-short t n (4 * ((ny + 3) / 4)) (λ k. read k c) m few (λ k b d. read-below k c (omega arith) d h))
 
-  -- ---- stage two
-  module _ {d : List ℤ} (f : Filled n n (columnValue xs a n ((ny + 3) / 4)) nx (replicate (n * n) (pos 0)) d) where
-    inter-at : (m c : ℕ) → m < n → c < n → getD d (m + c * n) (pos 0) ≡ intermediate t n 15 read m c
+  -- ---- stage two, in g groups of columns
+  module _ {place lane : ℕ → ℕ} (F : Unfolds t n xs place lane) {d : List ℤ}
+      (f : Filled n n (λ c p. columnValue xs a n ((ny + 3) / 4) c (lane p)) nx (replicate (n * n) (pos 0)) d)
+      {g : ℕ} (G : Enough n nx g) where
+    inter-at : (m c : ℕ) → m < n → c < n → getD d (place m + c * n) (pos 0) ≡ intermediate t n 15 read m c
     unfolding intermediate stageOneValue
     inter-at m c hm hc =
-        ap (λ (i : ℕ). getD d i (pos 0)) (add-comm m (c * n))
+        ap (λ (i : ℕ). getD d i (pos 0)) (add-comm (place m) (c * n))
         ∙ elim (decLt c nx) [
-          | yes y ↦ f .done c m y hm ∙ ap (λ (z : ℤ). clipCoeff 15 (roundShift z 7)) (line-one c m y hm)
-          | no b ↦ f .kept (c * n + m) (λ r j p q e. b (subst (λ (i : ℕ). i < nx) (sym (row-unique n c r m j hm q e)) p))
-              ∙ zeros-getD (n * n) (c * n + m) ∙ sym (intermediate-past t n nx (blockAt n coeff) m c (omega arith))
+          | yes y ↦ f .done c (place m) y (F .inside m hm) ∙ ap (λ (z : ℤ). clipCoeff 15 (roundShift z 7)) (line-one c m (lane (place m)) y (λ k b. F .reads k m b hm))
+          | no b ↦ f .kept (c * n + place m) (λ r j p q e. b (subst (λ (i : ℕ). i < nx) (sym (row-unique n c r (place m) j (F .inside m hm) q e)) p))
+              ∙ zeros-getD (n * n) (c * n + place m) ∙ sym (intermediate-past t n nx (blockAt n coeff) m c (omega arith))
         ]
 
-    pub pass-two : {o : ℕ} → n * n ≤ o → PassAsk n xs d n ((nx + 3) / 4) o
+    pub pass-two : {o : ℕ} → n * n ≤ o → PassAsk n xs d n g o
     pass-two h =
         record {
-          few = omega (arith, src .columns, T .fours);
+          few = G .few;
           table = T .long;
           small = T .small;
           source = omega (arith, f .long, length-replicate (n * n) (pos 0));
@@ -149,22 +211,21 @@ module _ {t : ℕ → ℕ → ℤ} {n : ℕ} {xs : List ℤ} (T : Laid t n xs) {
           room = h;
         }
 
-    line-two : (m j : ℕ) → m < n → j < n → lineSum xs d m n ((nx + 3) / 4) j ≡ stageTwoSum t n (intermediate t n 15 read) m j
+    line-two : (m j : ℕ) → m < n → j < n → lineSum xs d (place m) n g j ≡ stageTwoSum t n (intermediate t n 15 read) m j
     unfolding stageTwoSum
     line-two m j hm hj =
-        let few : 4 * ((nx + 3) / 4) ≤ n = omega (arith, src .columns, T .fours) in
-        transformLine-cong (laneMatrix xs) t (4 * ((nx + 3) / 4)) (λ c. getD d (m + c * n) (pos 0)) (λ c. intermediate t n 15 read m c) j
-        (λ c b. T .reads c j (omega arith) hj) (λ c b. inter-at m c hm (omega arith))
-        ∙ sym (transformLine-short t n (4 * ((nx + 3) / 4)) (λ c. intermediate t n 15 read m c) j few (λ c b e. intermediate-past t n nx (blockAt n coeff) m c (omega arith)))
+        transformLine-cong (laneMatrix xs) t (4 * g) (λ c. getD d (place m + c * n) (pos 0)) (λ c. intermediate t n 15 read m c) j
+        (λ c b. T .reads c j (omega (arith, G .few)) hj) (λ c b. inter-at m c hm (omega (arith, G .few)))
+        ∙ sym (transformLine-short t n (4 * g) (λ c. intermediate t n 15 read m c) j (G .few) (λ c b e. intermediate-past t n nx (blockAt n coeff) m c (omega (arith, G .all))))
 
-    pub block-residual : (s : ℕ) {out r : List ℤ} → n * n ≤ length out → Filled n n (rowValue xs d n ((nx + 3) / 4) s) n out r
+    pub block-residual : (s : ℕ) {out r : List ℤ} → n * n ≤ length out → Filled n n (λ m j. rowValue xs d n g s (place m) j) n out r
         → r ≡ overwrite (n * n) (rowOrder n (shiftedResidual t n s nx coeff)) out
     unfolding shiftedResidual stageTwo
     block-residual s l p =
         filled-overwrite n (T .some) (filled-cong (λ m j hm hj. ap (λ (z : ℤ). roundShift z s) (line-two m j hm hj)) p) l
 
     pub block-fits : (s : ℕ) → 11 ≤ s → s ≤ 12 → ((m : ℕ) → m < n → absSum t n m ≤ℤ pos 1862)
-        → (m j : ℕ) → m < n → j < n → SFits w16 (rowValue xs d n ((nx + 3) / 4) s m j)
+        → (m j : ℕ) → m < n → j < n → SFits w16 (rowValue xs d n g s (place m) j)
     unfolding stageTwoSum intermediate
     block-fits s h l b m j hm hj =
         subst (λ (z : ℤ). SFits w16 (roundShift z s)) (sym (line-two m j hm hj))

@@ -1,7 +1,8 @@
 -- Laws of rounding, of the limit to 16 bits, and of the sums of a line.
 --   clip-over, -under, -inside   the three cases of the limit to 16 bits
---   laneOutput-low               outputs 0 to 15 are the sums of both halves
---   halves-within                the sum of both halves has room
+--   clip-fits                    what fits 16 bits is not changed by the limit
+--   laneOutput-low, -high        outputs 0 to 15 are the sums of both halves, 31 to 16 their differences
+--   halves-within, -apart        the sum of both halves has room, and so has their difference
 --   Mirrored, mirrored-…         the loop that turns the sums of outputs 16 to 31 into those of outputs 0 to 15
 use mathlib.Core.Path.{_≡_, ap, ap₂, _∙_}
 use mathlib.Core.List.{List}
@@ -18,8 +19,8 @@ use lib.Signed.{ltZ, _≤ℤ_}
 use mir.Syntax.{w16}
 use mir.Val.{SFits}
 use Rattle.integers.specs.Within.{Within}
-use Rattle.integers.proofs.LinearLaws.{le-in, split, ring, diff-ext}
-use Rattle.integers.proofs.MachineLaws.{ltZ-true, ltZ-false}
+use Rattle.integers.proofs.LinearLaws.{le-in, le-out, split, ring, diff-ext}
+use Rattle.integers.proofs.MachineLaws.{ltZ-true, ltZ-false, ltZ-of-le}
 use Rattle.integers.proofs.BoundLaws.{within-add, within-neg, within-eq}
 use Rattle.integers.proofs.OrderLaws.{≤ℤ-trans, <ℤ-≤ℤ}
 use Rattle.integers.proofs.ClipLaws.{clip3-low, clip3-high, clip3-id}
@@ -47,12 +48,33 @@ module _ (z : ℤ) where
       by-sign (pos n) a b = record { sfits = omega (arith, le-in b) }
       by-sign (negsuc n) a b = record { sfits = omega (arith, le-in a) }
 
+pub clip-fits : {z : ℤ} → SFits w16 z → clipCoeff 15 z ≡ z
+clip-fits {z} f = clip-inside z (ltZ-of-le (above z f)) (ltZ-of-le (below z f))
+  where
+    above : (z : ℤ) → SFits w16 z → z ≤ℤ pos 32767
+    above (pos n) f = le-out (pos n) (pos 32767) (omega (arith, f .sfits))
+    above (negsuc n) f = le-out (negsuc n) (pos 32767) (omega arith)
+
+    below : (z : ℤ) → SFits w16 z → negsuc 32767 ≤ℤ z
+    below (pos n) f = le-out (negsuc 32767) (pos n) (omega arith)
+    below (negsuc n) f = le-out (negsuc 32767) (negsuc n) (omega (arith, f .sfits))
+
 pub laneOutput-low : (z : List ℤ) (j : ℕ) → j < 16 → getD z j (pos 0) +ℤ getD z (16 + j) (pos 0) ≡ laneOutput z j
 unfolding laneOutput
 laneOutput-low z j h = rw (lt-ltb j 16 h)
 
+pub laneOutput-high : (z : List ℤ) (j : ℕ) → j < 16 → getD z j (pos 0) -ℤ getD z (16 + j) (pos 0) ≡ laneOutput z (31 - j)
+unfolding laneOutput
+laneOutput-high z j h =
+    let a : j ≡ 31 - (31 - j) = omega arith in
+    let b : 16 + j ≡ 47 - (31 - j) = omega arith in
+    rw (le-ltb (31 - j) 16 (omega arith)) (ap₂ (λ (p q : ℕ). getD z p (pos 0) -ℤ getD z q (pos 0)) a b)
+
 pub halves-within : {z : List ℤ} → Halves z → (j : ℕ) → j < 16 → Within (2 ^ 27) (getD z j (pos 0) +ℤ getD z (16 + j) (pos 0))
 halves-within h j l = within-add (h .at j (omega arith)) (h .at (16 + j) (omega arith))
+
+pub halves-apart : {z : List ℤ} → Halves z → (j : ℕ) → j < 16 → Within (2 ^ 27) (getD z j (pos 0) -ℤ getD z (16 + j) (pos 0))
+halves-apart h j l = within-add (h .at j (omega arith)) (within-neg (h .at (16 + j) (omega arith)))
 
 -- ---- the mirrored sums
 pub zero-sub : (x : ℤ) → pos 0 -ℤ x ≡ negℤ x

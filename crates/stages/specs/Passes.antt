@@ -6,9 +6,14 @@
 --   PassAsk           what a pass over lines of n points asks: it reads columns of x and writes rows of d
 --   columnValue       the intermediate at row m and column c, from a line over column c
 --   rowValue          the residual at row m and column j, from a line over row m
+--   folded n m        where output m of n stands in a folded row: the right half in reverse
+--   foldedLane n p    the output of a line, as `laneOutput` counts them, that stands at place p of a folded row
+--   foldedColumn, foldedRow   `columnValue` and `rowValue` where the intermediate stands folded
 use mathlib.Core.Path.{_≡_}
+use mathlib.Core.Bool.{cond}
 use mathlib.Core.List.{List}
-use Prim.Native.Nat.{ℕ, _+_, _*_, _^_, _<_, _≤_}
+use Prim.Native.Nat.{ℕ, _+_, _-_, _*_, _/_, _^_, _<_, _≤_}
+use lib.Dec.{ltb}
 use lib.IntN.{ℤ, pos}
 use lib.ListN.{getD, length}
 use mir.Syntax.{w16}
@@ -50,3 +55,15 @@ columnValue t x n groups c m = clipCoeff 15 (roundShift (lineSum t x c n groups 
 
 abbrev pub rowValue : List ℤ → List ℤ → ℕ → ℕ → ℕ → ℕ → ℕ → ℤ
 rowValue t x n groups s m j = roundShift (lineSum t x m n groups j) s
+
+unfoldable pub folded : ℕ → ℕ → ℕ
+folded n m = cond (ltb m (n / 2)) m (n + n / 2 - 1 - m)
+
+unfoldable pub foldedLane : ℕ → ℕ → ℕ
+foldedLane n p = cond (ltb p (n / 2)) p (31 + n / 2 - p)
+
+abbrev pub foldedColumn : List ℤ → List ℤ → ℕ → ℕ → ℕ → ℕ → ℤ
+foldedColumn t x n groups c p = columnValue t x n groups c (foldedLane n p)
+
+abbrev pub foldedRow : List ℤ → List ℤ → ℕ → ℕ → ℕ → ℕ → ℕ → ℤ
+foldedRow t x n groups s m j = rowValue t x n groups s (folded n m) j

@@ -34,10 +34,9 @@ pub fn dct_4(coeff: &[i32], nx: usize, s: u32, out: &mut [i32])
     let t = lanes_4();
     let mut a = [0i16; 16];
     let mut d = [0i16; 16];
-    let ny = rows_used(coeff, 4, nx);
-    narrow(coeff, 4, nx, ny, &mut a[..]);
-    columns_4(&t[..], &a[..], nx, (ny + 3) / 4, &mut d[..]);
-    rows_4(&t[..], &d[..], (nx + 3) / 4, s, out);
+    narrow(coeff, 16, &mut a[..]);
+    columns_4(&t[..], &a[..], nx, 1, &mut d[..]);
+    rows_4(&t[..], &d[..], 1, s, out);
 }
 
 // The 4-point DST in both directions.
@@ -48,10 +47,9 @@ pub fn dst_4(coeff: &[i32], nx: usize, s: u32, out: &mut [i32])
     let t = lanes_dst();
     let mut a = [0i16; 16];
     let mut d = [0i16; 16];
-    let ny = rows_used(coeff, 4, nx);
-    narrow(coeff, 4, nx, ny, &mut a[..]);
-    columns_4(&t[..], &a[..], nx, (ny + 3) / 4, &mut d[..]);
-    rows_4(&t[..], &d[..], (nx + 3) / 4, s, out);
+    narrow(coeff, 16, &mut a[..]);
+    columns_4(&t[..], &a[..], nx, 1, &mut d[..]);
+    rows_4(&t[..], &d[..], 1, s, out);
 }
 
 // The 8-point DCT in both directions.
@@ -62,8 +60,8 @@ pub fn dct_8(coeff: &[i32], nx: usize, s: u32, out: &mut [i32])
     let t = lanes_8();
     let mut a = [0i16; 64];
     let mut d = [0i16; 64];
-    let ny = rows_used(coeff, 8, nx);
-    narrow(coeff, 8, nx, ny, &mut a[..]);
+    let ny = rows_used(coeff, 8, nx, 4);
+    narrow(coeff, ny * 8, &mut a[..]);
     columns_8(&t[..], &a[..], nx, (ny + 3) / 4, &mut d[..]);
     rows_8(&t[..], &d[..], (nx + 3) / 4, s, out);
 }
@@ -76,8 +74,8 @@ pub fn dct_16(coeff: &[i32], nx: usize, s: u32, out: &mut [i32])
     let t = lanes_16();
     let mut a = [0i16; 256];
     let mut d = [0i16; 256];
-    let ny = rows_used(coeff, 16, nx);
-    narrow(coeff, 16, nx, ny, &mut a[..]);
+    let ny = rows_used(coeff, 16, nx, 4);
+    narrow(coeff, ny * 16, &mut a[..]);
     columns_16(&t[..], &a[..], nx, (ny + 3) / 4, &mut d[..]);
     rows_16(&t[..], &d[..], (nx + 3) / 4, s, out);
 }
@@ -90,8 +88,8 @@ pub fn dct_32(coeff: &[i32], nx: usize, s: u32, out: &mut [i32])
     let t = lanes_32();
     let mut a = [0i16; 1024];
     let mut d = [0i16; 1024];
-    let ny = rows_used(coeff, 32, nx);
-    narrow(coeff, 32, nx, ny, &mut a[..]);
+    let ny = rows_used(coeff, 32, nx, 4);
+    narrow(coeff, ny * 32, &mut a[..]);
     columns_32(&t[..], &a[..], nx, (ny + 3) / 4, &mut d[..]);
     rows_32(&t[..], &d[..], (nx + 3) / 4, s, out);
 }

@@ -31,9 +31,8 @@ pub fn dct16_4(coeff: &[i16], nx: usize, s: u32, out: &mut [i16])
 {
     let t = lanes_4();
     let mut d = [0i16; 16];
-    let ny = rows_used16(coeff, 4, nx);
-    columns_4(&t[..], coeff, nx, (ny + 3) / 4, &mut d[..]);
-    rows16_4(&t[..], &d[..], (nx + 3) / 4, s, out);
+    columns_4(&t[..], coeff, nx, 1, &mut d[..]);
+    rows16_4(&t[..], &d[..], 1, s, out);
 }
 
 // The 4-point DST in both directions, 16 bits wide.
@@ -43,9 +42,8 @@ pub fn dst16_4(coeff: &[i16], nx: usize, s: u32, out: &mut [i16])
 {
     let t = lanes_dst();
     let mut d = [0i16; 16];
-    let ny = rows_used16(coeff, 4, nx);
-    columns_4(&t[..], coeff, nx, (ny + 3) / 4, &mut d[..]);
-    rows16_4(&t[..], &d[..], (nx + 3) / 4, s, out);
+    columns_4(&t[..], coeff, nx, 1, &mut d[..]);
+    rows16_4(&t[..], &d[..], 1, s, out);
 }
 
 // The 8-point DCT in both directions, 16 bits wide.
@@ -55,7 +53,7 @@ pub fn dct16_8(coeff: &[i16], nx: usize, s: u32, out: &mut [i16])
 {
     let t = lanes_8();
     let mut d = [0i16; 64];
-    let ny = rows_used16(coeff, 8, nx);
+    let ny = rows_used16(coeff, 8, nx, 4);
     columns_8(&t[..], coeff, nx, (ny + 3) / 4, &mut d[..]);
     rows16_8(&t[..], &d[..], (nx + 3) / 4, s, out);
 }
@@ -67,7 +65,7 @@ pub fn dct16_16(coeff: &[i16], nx: usize, s: u32, out: &mut [i16])
 {
     let t = lanes_16();
     let mut d = [0i16; 256];
-    let ny = rows_used16(coeff, 16, nx);
+    let ny = rows_used16(coeff, 16, nx, 4);
     columns_16(&t[..], coeff, nx, (ny + 3) / 4, &mut d[..]);
     rows16_16(&t[..], &d[..], (nx + 3) / 4, s, out);
 }
@@ -79,7 +77,7 @@ pub fn dct16_32(coeff: &[i16], nx: usize, s: u32, out: &mut [i16])
 {
     let t = lanes_32();
     let mut d = [0i16; 1024];
-    let ny = rows_used16(coeff, 32, nx);
+    let ny = rows_used16(coeff, 32, nx, 4);
     columns_32(&t[..], coeff, nx, (ny + 3) / 4, &mut d[..]);
     rows16_32(&t[..], &d[..], (nx + 3) / 4, s, out);
 }

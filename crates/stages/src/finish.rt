@@ -1,6 +1,6 @@
 // Rounding and storing of a line's outputs.
 ghost use mathlib.Core.Path.{_≡_};
-ghost use Prim.Native.Nat.{ℕ, _+_, _<_, _≤_, _^_};
+ghost use Prim.Native.Nat.{ℕ, _+_, _-_, _<_, _≤_, _^_};
 ghost use lib.IntN.{pos};
 ghost use lib.ListN.{length, getD};
 ghost use mir.Syntax.{w16};
@@ -11,7 +11,7 @@ ghost use Rattle.integers.specs.Within.{Within};
 ghost use Rattle.h265.specs.Range.{clipCoeff};
 ghost use Rattle.transform_1d.specs.Lanes.{laneOutput};
 ghost use Rattle.transform_1d.specs.Rows.{Placed};
-ghost use Rattle.stages.specs.Passes.{Halves};
+ghost use Rattle.stages.specs.Passes.{Halves, folded};
 
 // (x + 64) >> 7, limited to 16 bits: a value of the intermediate.
 pub fn clipped(x: i32) -> i16
@@ -37,6 +37,17 @@ pub fn rounded(x: i32, s: u32) -> i32
     (x + (half as i32)) >> s
 }
 
+// Where output m of n stands in a folded row: the right half in reverse.
+pub fn folded(n: usize, m: usize) -> usize
+    requires { ⌜ (m < n) × (n ≤ 32) ⌝ }
+    ensures { λ r. ⌜ r ≡ folded n m ⌝ }
+{
+    if m < n / 2 {
+        return m;
+    }
+    n + n / 2 - 1 - m
+}
+
 // The sums of outputs 16 to 31 of a 32-point line, in the places of outputs 0 to 15.
 pub fn mirror(z: [i32; 32]) -> [i32; 32]
     requires { ⌜ Halves z ⌝ }
@@ -60,6 +71,18 @@ pub fn put_clipped(z: [i32; 32], w: usize, d: &mut [i16], at: usize)
     let mut j: usize = 0;
     while j < w {
         d[at + j] = clipped(z[j] + z[16 + j]);
+        j += 1;
+    }
+}
+
+// Outputs 31, 30, .. of a line, w of them, as values of the intermediate, from place at on: the differences of the half sums.
+pub fn put_differences(z: [i32; 32], w: usize, d: &mut [i16], at: usize)
+    requires { ⌜ Halves z × (w ≤ 16) × (at + w ≤ length (now d)) ⌝ }
+    ensures { λ _. ⌜ Placed at w (λ j. clipCoeff 15 (roundShift (laneOutput z (31 - j)) 7)) (now (d .entry)) (now (d .exit)) ⌝ }
+{
+    let mut j: usize = 0;
+    while j < w {
+        d[at + j] = clipped(z[j] - z[16 + j]);
         j += 1;
     }
 }

@@ -41,7 +41,7 @@ fn dct_plain(coeff: &[i32], n: usize, nx: usize, s: u32, out: &mut [i32])
     ensures { λ _. ⌜ now (out .exit) ≡ overwrite (n * n) (rowOrder n (shiftedResidual (transMatrix n) n s nx (now (coeff .entry)))) (now (out .entry)) ⌝ }
 {
     if nx == 1 {
-        if rows_used(coeff, n, 1) <= 1 {
+        if rows_used(coeff, n, 1, 1) <= 1 {
             blocks::dc_fill(coeff, n, s, out);
             return;
         }
@@ -87,7 +87,7 @@ fn dct_plain16(coeff: &[i16], n: usize, nx: usize, s: u32, out: &mut [i16])
     ensures { λ _. ⌜ now (out .exit) ≡ overwrite (n * n) (rowOrder n (shiftedResidual (transMatrix n) n s nx (now (coeff .entry)))) (now (out .entry)) ⌝ }
 {
     if nx == 1 {
-        if rows_used16(coeff, n, 1) <= 1 {
+        if rows_used16(coeff, n, 1, 1) <= 1 {
             blocks16::dc_fill16(coeff, n, s, out);
             return;
         }

@@ -2,7 +2,7 @@
 --   transformLine-within     |line| ≤ (sum of the absolute entries) × B, for data of at most B in size
 --   transformLine-cong       lines over matrices and data that agree
 --   transMatrix-absSum, dstMatrix-absSum   247, 479, 940, 1862 for n = 4, 8, 16, 32, and 242
---   transMatrix-mirror       the right half of the 32-point matrix mirrors the left
+--   transMatrix-mirror-16, -32   the right half of a matrix mirrors the left
 --   Laid, laid, laid-32      all that a block needs of a layout: length, small entries, the matrix that it reads back as
 use mathlib.Core.Path.{_≡_, refl, sym, ap, ap₂, subst}
 use mathlib.Core.List.{List}
@@ -105,20 +105,26 @@ pub dstMatrix-absSum : (m : ℕ) → m < 4 → absSum dstMatrix 4 m ≤ℤ pos 2
 unfolding allBelow absSum sum dstMatrix dstEntries
 dstMatrix-absSum = absSum-of dstMatrix 4 242 tt
 
-abbrev mirrors : ℕ → ℕ → Bool
-mirrors k j =
-    leZ (transMatrix 32 k (31 - j)) (mirrored k (transMatrix 32 k j)) && leZ (mirrored k (transMatrix 32 k j)) (transMatrix 32 k (31 - j))
+module _ (n : ℕ) where
+  abbrev mirrors : ℕ → ℕ → Bool
+  mirrors k j =
+      leZ (transMatrix n k (n - 1 - j)) (mirrored k (transMatrix n k j)) && leZ (mirrored k (transMatrix n k j)) (transMatrix n k (n - 1 - j))
 
-mirrors-hold : T (allBelow 32 (λ k. allBelow 16 (mirrors k)))
+  mirror-of : T (allBelow n (λ k. allBelow (n / 2) (mirrors k)))
+      → (k j : ℕ) → k < n → j < n / 2 → transMatrix n k (n - 1 - j) ≡ mirrored k (transMatrix n k j)
+  mirror-of h k j hk hj =
+      let x : ℤ = transMatrix n k (n - 1 - j) in
+      let y : ℤ = mirrored k (transMatrix n k j) in
+      let b = and-yes (leZ x y) (leZ y x) (allBelow-at (n / 2) (mirrors k) (allBelow-at n (λ k. allBelow (n / 2) (mirrors k)) h k hk) j hj) in
+      ≤ℤ-antisym {x = x} {y = y} (record { le = b .0 }) (record { le = b .1 })
+
+pub transMatrix-mirror-16 : (k j : ℕ) → k < 16 → j < 8 → transMatrix 16 k (15 - j) ≡ mirrored k (transMatrix 16 k j)
 unfolding allBelow mirrored transMatrix transMatrix32 foldedEntry foldedAngle folding foldingValues
-mirrors-hold = tt
+transMatrix-mirror-16 = mirror-of 16 tt
 
-pub transMatrix-mirror : (k j : ℕ) → k < 32 → j < 16 → transMatrix 32 k (31 - j) ≡ mirrored k (transMatrix 32 k j)
-transMatrix-mirror k j hk hj =
-    let x : ℤ = transMatrix 32 k (31 - j) in
-    let y : ℤ = mirrored k (transMatrix 32 k j) in
-    let b = and-yes (leZ x y) (leZ y x) (allBelow-at 16 (mirrors k) (allBelow-at 32 (λ k. allBelow 16 (mirrors k)) mirrors-hold k hk) j hj) in
-    ≤ℤ-antisym {x = x} {y = y} (record { le = b .0 }) (record { le = b .1 })
+pub transMatrix-mirror-32 : (k j : ℕ) → k < 32 → j < 16 → transMatrix 32 k (31 - j) ≡ mirrored k (transMatrix 32 k j)
+unfolding allBelow mirrored transMatrix transMatrix32 foldedEntry foldedAngle folding foldingValues
+transMatrix-mirror-32 = mirror-of 32 tt
 
 -- ---- a layout as a block uses it
 pub record Laid (t : ℕ → ℕ → ℤ) (n : ℕ) (xs : List ℤ) : Type 0 where
@@ -139,4 +145,4 @@ pub laid : (t : ℕ → ℕ → ℤ) (n : ℕ) {xs : List ℤ} → xs ≡ lanes 
 laid t n e w s f m = laid-mirrored t n e w s f (omega arith) (λ k j a b c d. absurd (let x : ⊥ = omega arith in x))
 
 pub laid-32 : {xs : List ℤ} → xs ≡ lanes (transMatrix 32) 32 → Laid (transMatrix 32) 32 xs
-laid-32 e = laid-mirrored (transMatrix 32) 32 e (transMatrix-within 32) (omega arith) refl (omega arith) (λ k j a b c d. transMatrix-mirror k j a c)
+laid-32 e = laid-mirrored (transMatrix 32) 32 e (transMatrix-within 32) (omega arith) refl (omega arith) (λ k j a b c d. transMatrix-mirror-32 k j a c)

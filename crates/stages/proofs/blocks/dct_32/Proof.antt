@@ -1,8 +1,9 @@
 -- `stages::blocks::dct_32` meets its contract: stage two over what stage one stored from the narrowed coefficients is the residual.
+use mathlib.Core.Path.{refl}
 use native.Mathlib.Omega.{arith}
 use Rattle.h265.specs.Matrix.{transMatrix}
 use Rattle.transform_1d.proofs.MatrixLaws.{Laid, laid-32}
-use Rattle.stages.proofs.BlockLaws.{source-narrow, source-pass, pass-two, block-residual}
+use Rattle.stages.proofs.BlockLaws.{source-narrow, enough-columns, unfolds-32, source-pass, pass-two, block-residual}
 use borrow.Author.Needs.{needs}
 use Rattle.stages.proofs.blocks.dct_32.Statement.{statement}
 use Rattle.stages.proofs.blocks.dct_32.Tie as tie
@@ -12,6 +13,9 @@ lanes-32-requires c κs = search needs
 
 rows-used-requires : tie.Need-rows-used-requires
 rows-used-requires c κs = search needs
+
+mul-narrow : tie.Need-mul-narrow
+mul-narrow c = search needs
 
 slice-aggregate-narrow : tie.Need-slice-aggregate-narrow
 slice-aggregate-narrow c = search needs
@@ -36,7 +40,7 @@ module _ (c : tie.After-d) where
   layout = laid-32 (c .before .before .before .before .before .before .before .lanes-32 .ensures)
 
 columns-32-requires : tie.Need-columns-32-requires
-columns-32-requires c κs = source-pass (layout c) (source-narrow (c .before .before .before .before .before .before .before .before .pre .columns) (c .before .before .before .before .before .before .rows-used .ensures) (c .before .before .before .before .narrow .ensures)) (omega arith)
+columns-32-requires c κs = source-pass (layout c) (source-narrow {n = 32} (c .before .before .before .before .before .before .before .before .pre .columns) (c .before .before .before .before .before .before .before .before .pre .fits) (c .before .before .before .before .before .before .rows-used .ensures) (c .before .before .before .before .narrow .ensures)) (omega arith)
 
 slice-aggregate-rows-32 : tie.Need-slice-aggregate-rows-32
 slice-aggregate-rows-32 c = search needs
@@ -48,15 +52,18 @@ add-rows-32 : tie.Need-add-rows-32
 add-rows-32 c = search needs
 
 rows-32-requires : tie.Need-rows-32-requires
-rows-32-requires c κs =
-    (pass-two (layout (c .before .before .before .before .before)) (source-narrow (c .before .before .before .before .before .before .before .before .before .before .before .before .before .pre .columns) (c .before .before .before .before .before .before .before .before .before .before .before .rows-used .ensures) (c .before .before .before .before .before .before .before .before .before .narrow .ensures)) (c .before .before .before .before .columns-32 .ensures) (c .before .before .before .before .before .before .before .before .before .before .before .before .before .pre .room), c .before .before .before .before .before .before .before .before .before .before .before .before .before .pre .least, c .before .before .before .before .before .before .before .before .before .before .before .before .before .pre .most)
+rows-32-requires c κs = (
+  pass-two (layout (c .before .before .before .before .before)) (source-narrow {n = 32} (c .before .before .before .before .before .before .before .before .before .before .before .before .before .pre .columns) (c .before .before .before .before .before .before .before .before .before .before .before .before .before .pre .fits) (c .before .before .before .before .before .before .before .before .before .before .before .rows-used .ensures) (c .before .before .before .before .before .before .before .before .before .narrow .ensures)) (unfolds-32 (layout (c .before .before .before .before .before))) (c .before .before .before .before .columns-32 .ensures) (enough-columns 32 _ (c .before .before .before .before .before .before .before .before .before .before .before .before .before .pre .columns) refl) (c .before .before .before .before .before .before .before .before .before .before .before .before .before .pre .room),
+  c .before .before .before .before .before .before .before .before .before .before .before .before .before .pre .least,
+  c .before .before .before .before .before .before .before .before .before .before .before .before .before .pre .most,
+)
 
 same-length : tie.Need-same-length
 same-length c = search needs
 
 returns : tie.Need-returns
 returns c =
-    block-residual (layout (c .before .before .before .before .before .before .before)) (source-narrow (c .before .before .before .before .before .before .before .before .before .before .before .before .before .before .before .pre .columns) (c .before .before .before .before .before .before .before .before .before .before .before .before .before .rows-used .ensures) (c .before .before .before .before .before .before .before .before .before .before .before .narrow .ensures)) (c .before .before .before .before .before .before .columns-32 .ensures) _ (c .before .before .before .before .before .before .before .before .before .before .before .before .before .before .before .pre .room) (c .before .rows-32 .ensures)
+    block-residual (layout (c .before .before .before .before .before .before .before)) (source-narrow {n = 32} (c .before .before .before .before .before .before .before .before .before .before .before .before .before .before .before .pre .columns) (c .before .before .before .before .before .before .before .before .before .before .before .before .before .before .before .pre .fits) (c .before .before .before .before .before .before .before .before .before .before .before .before .before .rows-used .ensures) (c .before .before .before .before .before .before .before .before .before .before .before .narrow .ensures)) (unfolds-32 (layout (c .before .before .before .before .before .before .before))) (c .before .before .before .before .before .before .columns-32 .ensures) (enough-columns 32 _ (c .before .before .before .before .before .before .before .before .before .before .before .before .before .before .before .pre .columns) refl) _ (c .before .before .before .before .before .before .before .before .before .before .before .before .before .before .before .pre .room) (c .before .rows-32 .ensures)
 
 pub dct-32-spec : {M : Type 1} → statement M
 dct-32-spec =
@@ -64,6 +71,7 @@ dct-32-spec =
     (tie.spec
     lanes-32-requires
     rows-used-requires
+    mul-narrow
     slice-aggregate-narrow
     narrow-requires
     slice-aggregate-columns-32

@@ -4,7 +4,7 @@ use native.Mathlib.Omega.{arith}
 use Rattle.h265.specs.Matrix.{transMatrix}
 use Rattle.transform_1d.proofs.LanesLaws.{transMatrix-within}
 use Rattle.transform_1d.proofs.MatrixLaws.{Laid, laid}
-use Rattle.stages.proofs.BlockLaws.{source-narrow, source-pass, pass-two, block-residual}
+use Rattle.stages.proofs.BlockLaws.{source-narrow, enough-columns, unfolds-plain, source-pass, pass-two, block-residual}
 use borrow.Author.Needs.{needs}
 use Rattle.stages.proofs.blocks.dct_8.Statement.{statement}
 use Rattle.stages.proofs.blocks.dct_8.Tie as tie
@@ -14,6 +14,9 @@ lanes-8-requires c κs = search needs
 
 rows-used-requires : tie.Need-rows-used-requires
 rows-used-requires c κs = search needs
+
+mul-narrow : tie.Need-mul-narrow
+mul-narrow c = search needs
 
 slice-aggregate-narrow : tie.Need-slice-aggregate-narrow
 slice-aggregate-narrow c = search needs
@@ -38,7 +41,7 @@ module _ (c : tie.After-d) where
   layout = laid (transMatrix 8) 8 (c .before .before .before .before .before .before .before .lanes-8 .ensures) (transMatrix-within 8) (omega arith) refl (omega arith)
 
 columns-8-requires : tie.Need-columns-8-requires
-columns-8-requires c κs = source-pass (layout c) (source-narrow (c .before .before .before .before .before .before .before .before .pre .columns) (c .before .before .before .before .before .before .rows-used .ensures) (c .before .before .before .before .narrow .ensures)) (omega arith)
+columns-8-requires c κs = source-pass (layout c) (source-narrow {n = 8} (c .before .before .before .before .before .before .before .before .pre .columns) (c .before .before .before .before .before .before .before .before .pre .fits) (c .before .before .before .before .before .before .rows-used .ensures) (c .before .before .before .before .narrow .ensures)) (omega arith)
 
 slice-aggregate-rows-8 : tie.Need-slice-aggregate-rows-8
 slice-aggregate-rows-8 c = search needs
@@ -50,15 +53,18 @@ add-rows-8 : tie.Need-add-rows-8
 add-rows-8 c = search needs
 
 rows-8-requires : tie.Need-rows-8-requires
-rows-8-requires c κs =
-    (pass-two (layout (c .before .before .before .before .before)) (source-narrow (c .before .before .before .before .before .before .before .before .before .before .before .before .before .pre .columns) (c .before .before .before .before .before .before .before .before .before .before .before .rows-used .ensures) (c .before .before .before .before .before .before .before .before .before .narrow .ensures)) (c .before .before .before .before .columns-8 .ensures) (c .before .before .before .before .before .before .before .before .before .before .before .before .before .pre .room), c .before .before .before .before .before .before .before .before .before .before .before .before .before .pre .least, c .before .before .before .before .before .before .before .before .before .before .before .before .before .pre .most)
+rows-8-requires c κs = (
+  pass-two (layout (c .before .before .before .before .before)) (source-narrow {n = 8} (c .before .before .before .before .before .before .before .before .before .before .before .before .before .pre .columns) (c .before .before .before .before .before .before .before .before .before .before .before .before .before .pre .fits) (c .before .before .before .before .before .before .before .before .before .before .before .rows-used .ensures) (c .before .before .before .before .before .before .before .before .before .narrow .ensures)) (unfolds-plain (layout (c .before .before .before .before .before))) (c .before .before .before .before .columns-8 .ensures) (enough-columns 8 _ (c .before .before .before .before .before .before .before .before .before .before .before .before .before .pre .columns) refl) (c .before .before .before .before .before .before .before .before .before .before .before .before .before .pre .room),
+  c .before .before .before .before .before .before .before .before .before .before .before .before .before .pre .least,
+  c .before .before .before .before .before .before .before .before .before .before .before .before .before .pre .most,
+)
 
 same-length : tie.Need-same-length
 same-length c = search needs
 
 returns : tie.Need-returns
 returns c =
-    block-residual (layout (c .before .before .before .before .before .before .before)) (source-narrow (c .before .before .before .before .before .before .before .before .before .before .before .before .before .before .before .pre .columns) (c .before .before .before .before .before .before .before .before .before .before .before .before .before .rows-used .ensures) (c .before .before .before .before .before .before .before .before .before .before .before .narrow .ensures)) (c .before .before .before .before .before .before .columns-8 .ensures) _ (c .before .before .before .before .before .before .before .before .before .before .before .before .before .before .before .pre .room) (c .before .rows-8 .ensures)
+    block-residual (layout (c .before .before .before .before .before .before .before)) (source-narrow {n = 8} (c .before .before .before .before .before .before .before .before .before .before .before .before .before .before .before .pre .columns) (c .before .before .before .before .before .before .before .before .before .before .before .before .before .before .before .pre .fits) (c .before .before .before .before .before .before .before .before .before .before .before .before .before .rows-used .ensures) (c .before .before .before .before .before .before .before .before .before .before .before .narrow .ensures)) (unfolds-plain (layout (c .before .before .before .before .before .before .before))) (c .before .before .before .before .before .before .columns-8 .ensures) (enough-columns 8 _ (c .before .before .before .before .before .before .before .before .before .before .before .before .before .before .before .pre .columns) refl) _ (c .before .before .before .before .before .before .before .before .before .before .before .before .before .before .before .pre .room) (c .before .rows-8 .ensures)
 
 pub dct-8-spec : {M : Type 1} → statement M
 dct-8-spec =
@@ -66,6 +72,7 @@ dct-8-spec =
     (tie.spec
     lanes-8-requires
     rows-used-requires
+    mul-narrow
     slice-aggregate-narrow
     narrow-requires
     slice-aggregate-columns-8

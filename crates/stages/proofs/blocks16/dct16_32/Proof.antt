@@ -1,9 +1,10 @@
 -- `stages::blocks16::dct16_32` meets its contract: stage two over what stage one stored is the residual, and a sum of at most 1862 × 2^15
 -- fits 16 bits once it is shifted by 11 or 12.
+use mathlib.Core.Path.{refl}
 use native.Mathlib.Omega.{arith}
 use Rattle.h265.specs.Matrix.{transMatrix}
 use Rattle.transform_1d.proofs.MatrixLaws.{Laid, laid-32, transMatrix-absSum-32}
-use Rattle.stages.proofs.BlockLaws.{source-self, source-pass, pass-two, block-residual, block-fits}
+use Rattle.stages.proofs.BlockLaws.{source-self, enough-columns, unfolds-32, source-pass, pass-two, block-residual, block-fits}
 use borrow.Author.Needs.{needs}
 use Rattle.stages.proofs.blocks16.dct16_32.Statement.{statement}
 use Rattle.stages.proofs.blocks16.dct16_32.Tie as tie
@@ -41,10 +42,10 @@ add-rows16-32 c = search needs
 
 rows16-32-requires : tie.Need-rows16-32-requires
 rows16-32-requires c κs = (
-  pass-two (layout (c .before .before .before .before .before)) (source-self (c .before .before .before .before .before .before .before .before .before .pre .0 .columns) (c .before .before .before .before .before .before .before .before .before .pre .0 .long) (c .before .before .before .before .before .before .before .rows-used16 .ensures)) (c .before .before .before .before .columns-32 .ensures) (c .before .before .before .before .before .before .before .before .before .pre .0 .room),
+  pass-two (layout (c .before .before .before .before .before)) (source-self (c .before .before .before .before .before .before .before .before .before .pre .0 .columns) (c .before .before .before .before .before .before .before .before .before .pre .0 .long) (c .before .before .before .before .before .before .before .rows-used16 .ensures)) (unfolds-32 (layout (c .before .before .before .before .before))) (c .before .before .before .before .columns-32 .ensures) (enough-columns 32 _ (c .before .before .before .before .before .before .before .before .before .pre .0 .columns) refl) (c .before .before .before .before .before .before .before .before .before .pre .0 .room),
   c .before .before .before .before .before .before .before .before .before .pre .0 .least,
   c .before .before .before .before .before .before .before .before .before .pre .0 .most,
-  block-fits (layout (c .before .before .before .before .before)) (source-self (c .before .before .before .before .before .before .before .before .before .pre .0 .columns) (c .before .before .before .before .before .before .before .before .before .pre .0 .long) (c .before .before .before .before .before .before .before .rows-used16 .ensures)) (c .before .before .before .before .columns-32 .ensures) _ (c .before .before .before .before .before .before .before .before .before .pre .1) (c .before .before .before .before .before .before .before .before .before .pre .0 .most) transMatrix-absSum-32,
+  block-fits (layout (c .before .before .before .before .before)) (source-self (c .before .before .before .before .before .before .before .before .before .pre .0 .columns) (c .before .before .before .before .before .before .before .before .before .pre .0 .long) (c .before .before .before .before .before .before .before .rows-used16 .ensures)) (unfolds-32 (layout (c .before .before .before .before .before))) (c .before .before .before .before .columns-32 .ensures) (enough-columns 32 _ (c .before .before .before .before .before .before .before .before .before .pre .0 .columns) refl) _ (c .before .before .before .before .before .before .before .before .before .pre .1) (c .before .before .before .before .before .before .before .before .before .pre .0 .most) transMatrix-absSum-32,
 )
 
 same-length : tie.Need-same-length
@@ -52,7 +53,7 @@ same-length c = search needs
 
 returns : tie.Need-returns
 returns c =
-    block-residual (layout (c .before .before .before .before .before .before .before)) (source-self (c .before .before .before .before .before .before .before .before .before .before .before .pre .0 .columns) (c .before .before .before .before .before .before .before .before .before .before .before .pre .0 .long) (c .before .before .before .before .before .before .before .before .before .rows-used16 .ensures)) (c .before .before .before .before .before .before .columns-32 .ensures) _ (c .before .before .before .before .before .before .before .before .before .before .before .pre .0 .room) (c .before .rows16-32 .ensures)
+    block-residual (layout (c .before .before .before .before .before .before .before)) (source-self (c .before .before .before .before .before .before .before .before .before .before .before .pre .0 .columns) (c .before .before .before .before .before .before .before .before .before .before .before .pre .0 .long) (c .before .before .before .before .before .before .before .before .before .rows-used16 .ensures)) (unfolds-32 (layout (c .before .before .before .before .before .before .before))) (c .before .before .before .before .before .before .columns-32 .ensures) (enough-columns 32 _ (c .before .before .before .before .before .before .before .before .before .before .before .pre .0 .columns) refl) _ (c .before .before .before .before .before .before .before .before .before .before .before .pre .0 .room) (c .before .rows16-32 .ensures)
 
 pub dct16-32-spec : {M : Type 1} → statement M
 dct16-32-spec =

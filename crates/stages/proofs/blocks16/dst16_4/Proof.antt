@@ -7,7 +7,8 @@ use Rattle.integers.proofs.OrderLaws.{≤ℤ-trans}
 use Rattle.h265.specs.Matrix.{dstMatrix}
 use Rattle.transform_1d.proofs.LanesLaws.{dstMatrix-within}
 use Rattle.transform_1d.proofs.MatrixLaws.{Laid, laid, dstMatrix-absSum}
-use Rattle.stages.proofs.BlockLaws.{source-self, source-pass, pass-two, block-residual, block-fits}
+use Rattle.stages.proofs.ScanLaws.{rowsUsed-all}
+use Rattle.stages.proofs.BlockLaws.{source-self, enough-four, unfolds-plain, source-pass, pass-two, block-residual, block-fits}
 use borrow.Author.Needs.{needs}
 use Rattle.stages.proofs.blocks16.dst16_4.Statement.{statement}
 use Rattle.stages.proofs.blocks16.dst16_4.Tie as tie
@@ -15,24 +16,18 @@ use Rattle.stages.proofs.blocks16.dst16_4.Tie as tie
 lanes-dst-requires : tie.Need-lanes-dst-requires
 lanes-dst-requires c κs = search needs
 
-rows-used16-requires : tie.Need-rows-used16-requires
-rows-used16-requires c κs = search needs
-
 slice-aggregate-columns-4 : tie.Need-slice-aggregate-columns-4
 slice-aggregate-columns-4 c = search needs
-
-add-columns-4 : tie.Need-add-columns-4
-add-columns-4 c = search needs
 
 slice-aggregate-columns-4-2 : tie.Need-slice-aggregate-columns-4-2
 slice-aggregate-columns-4-2 c = search needs
 
 module _ (c : tie.After-d) where
-  layout : Laid dstMatrix 4 (c .before .before .before .lanes-dst .result)
-  layout = laid dstMatrix 4 (c .before .before .before .lanes-dst .ensures) dstMatrix-within (omega arith) refl (omega arith)
+  layout : Laid dstMatrix 4 (c .before .before .lanes-dst .result)
+  layout = laid dstMatrix 4 (c .before .before .lanes-dst .ensures) dstMatrix-within (omega arith) refl (omega arith)
 
 columns-4-requires : tie.Need-columns-4-requires
-columns-4-requires c κs = source-pass (layout c) (source-self (c .before .before .before .before .pre .0 .columns) (c .before .before .before .before .pre .0 .long) (c .before .before .rows-used16 .ensures)) (omega arith)
+columns-4-requires c κs = source-pass (layout c) (source-self {ny = 4} {coeff = c .before .before .before .args .coeff .now} (c .before .before .before .pre .0 .columns) (c .before .before .before .pre .0 .long) rowsUsed-all) (omega arith)
 
 slice-aggregate-rows16-4 : tie.Need-slice-aggregate-rows16-4
 slice-aggregate-rows16-4 c = search needs
@@ -40,15 +35,12 @@ slice-aggregate-rows16-4 c = search needs
 slice-aggregate-rows16-4-2 : tie.Need-slice-aggregate-rows16-4-2
 slice-aggregate-rows16-4-2 c = search needs
 
-add-rows16-4 : tie.Need-add-rows16-4
-add-rows16-4 c = search needs
-
 rows16-4-requires : tie.Need-rows16-4-requires
 rows16-4-requires c κs = (
-  pass-two (layout (c .before .before .before .before .before)) (source-self (c .before .before .before .before .before .before .before .before .before .pre .0 .columns) (c .before .before .before .before .before .before .before .before .before .pre .0 .long) (c .before .before .before .before .before .before .before .rows-used16 .ensures)) (c .before .before .before .before .columns-4 .ensures) (c .before .before .before .before .before .before .before .before .before .pre .0 .room),
-  c .before .before .before .before .before .before .before .before .before .pre .0 .least,
-  c .before .before .before .before .before .before .before .before .before .pre .0 .most,
-  block-fits (layout (c .before .before .before .before .before)) (source-self (c .before .before .before .before .before .before .before .before .before .pre .0 .columns) (c .before .before .before .before .before .before .before .before .before .pre .0 .long) (c .before .before .before .before .before .before .before .rows-used16 .ensures)) (c .before .before .before .before .columns-4 .ensures) _ (c .before .before .before .before .before .before .before .before .before .pre .1) (c .before .before .before .before .before .before .before .before .before .pre .0 .most) (λ m l. ≤ℤ-trans {y = pos 242} (dstMatrix-absSum m l) (record { le = tt })),
+  pass-two (layout (c .before .before .before .before .before)) (source-self {ny = 4} {coeff = c .before .before .before .before .before .before .before .before .args .coeff .now} (c .before .before .before .before .before .before .before .before .pre .0 .columns) (c .before .before .before .before .before .before .before .before .pre .0 .long) rowsUsed-all) (unfolds-plain (layout (c .before .before .before .before .before))) (c .before .before .before .before .columns-4 .ensures) (enough-four (c .before .before .before .before .before .before .before .before .pre .0 .columns)) (c .before .before .before .before .before .before .before .before .pre .0 .room),
+  c .before .before .before .before .before .before .before .before .pre .0 .least,
+  c .before .before .before .before .before .before .before .before .pre .0 .most,
+  block-fits (layout (c .before .before .before .before .before)) (source-self {ny = 4} {coeff = c .before .before .before .before .before .before .before .before .args .coeff .now} (c .before .before .before .before .before .before .before .before .pre .0 .columns) (c .before .before .before .before .before .before .before .before .pre .0 .long) rowsUsed-all) (unfolds-plain (layout (c .before .before .before .before .before))) (c .before .before .before .before .columns-4 .ensures) (enough-four (c .before .before .before .before .before .before .before .before .pre .0 .columns)) _ (c .before .before .before .before .before .before .before .before .pre .1) (c .before .before .before .before .before .before .before .before .pre .0 .most) (λ m l. ≤ℤ-trans {y = pos 242} (dstMatrix-absSum m l) (record { le = tt })),
 )
 
 same-length : tie.Need-same-length
@@ -56,21 +48,18 @@ same-length c = search needs
 
 returns : tie.Need-returns
 returns c =
-    block-residual (layout (c .before .before .before .before .before .before .before)) (source-self (c .before .before .before .before .before .before .before .before .before .before .before .pre .0 .columns) (c .before .before .before .before .before .before .before .before .before .before .before .pre .0 .long) (c .before .before .before .before .before .before .before .before .before .rows-used16 .ensures)) (c .before .before .before .before .before .before .columns-4 .ensures) _ (c .before .before .before .before .before .before .before .before .before .before .before .pre .0 .room) (c .before .rows16-4 .ensures)
+    block-residual (layout (c .before .before .before .before .before .before .before)) (source-self {ny = 4} {coeff = c .before .before .before .before .before .before .before .before .before .before .args .coeff .now} (c .before .before .before .before .before .before .before .before .before .before .pre .0 .columns) (c .before .before .before .before .before .before .before .before .before .before .pre .0 .long) rowsUsed-all) (unfolds-plain (layout (c .before .before .before .before .before .before .before))) (c .before .before .before .before .before .before .columns-4 .ensures) (enough-four (c .before .before .before .before .before .before .before .before .before .before .pre .0 .columns)) _ (c .before .before .before .before .before .before .before .before .before .before .pre .0 .room) (c .before .rows16-4 .ensures)
 
 pub dst16-4-spec : {M : Type 1} → statement M
 dst16-4-spec =
     tie.close
     (tie.spec
     lanes-dst-requires
-    rows-used16-requires
     slice-aggregate-columns-4
-    add-columns-4
     slice-aggregate-columns-4-2
     columns-4-requires
     slice-aggregate-rows16-4
     slice-aggregate-rows16-4-2
-    add-rows16-4
     rows16-4-requires
     same-length
     returns)

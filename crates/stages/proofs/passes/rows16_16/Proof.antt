@@ -1,16 +1,18 @@
 -- `stages::passes::rows16_16` meets its contract: the rows passed hold their lines. The measure is what is left of the rows.
+use mathlib.Core.Path.{_≡_}
 use Prim.Native.Nat.{_≤_, _-_}
 use native.Mathlib.Omega.{arith}
 use Rattle.integers.specs.Shift.{roundShift}
+use Rattle.transform_1d.specs.Lanes.{LineSums}
 use Rattle.transform_1d.specs.Rows.{Filled}
 use Rattle.transform_1d.proofs.RowsLaws.{filled-zero, filled-all}
-use Rattle.stages.specs.Passes.{rowValue}
-use Rattle.stages.proofs.PassesLaws.{passAsk-line, passAsk-row, lineSums-halves, filled-line, outputs-fit}
+use Rattle.stages.specs.Passes.{folded, foldedRow}
+use Rattle.stages.proofs.PassesLaws.{passAsk-line, passAsk-row, lineSums-halves, folded-inside, filled-unfolded, outputs-fit}
 use Rattle.stages.proofs.passes.rows16_16.Statement.{statement}
 use Rattle.stages.proofs.passes.rows16_16.Tie as tie
 
 abbrev Inv-loop : tie.InvT-loop
-Inv-loop t x groups s out₀ m₀ out m = (m ≤ 16) × Filled 16 16 (rowValue t x 16 groups s) m out₀ out
+Inv-loop t x groups s out₀ m₀ out m = (m ≤ 16) × Filled 16 16 (foldedRow t x 16 groups s) m out₀ out
 
 abbrev μ-loop : tie.MeasureT-loop
 μ-loop t x groups s out₀ m₀ out m = 16 - m
@@ -18,15 +20,24 @@ abbrev μ-loop : tie.MeasureT-loop
 loop-holds : tie.Need-loop-holds Inv-loop μ-loop
 loop-holds c = (omega arith, filled-zero)
 
+folded-requires : tie.Need-folded-requires Inv-loop μ-loop
+folded-requires c κs = (omega arith, omega arith)
+
 idct-raw-16-requires : tie.Need-idct-raw-16-requires Inv-loop μ-loop
-idct-raw-16-requires c κs = passAsk-line (c .before .before .pre .0) _ (omega arith)
+idct-raw-16-requires c κs =
+    passAsk-line (c .before .before .before .pre .0) (c .folded .result) (rw (c .folded .ensures) (folded-inside 16 (c .before .before .loop .m) (omega arith)))
+
+-- the line over the column where row m stands
+line : (c : tie.After-idct-raw-16 Inv-loop μ-loop)
+    → LineSums (c .before .before .before .before .args .t .now) (c .before .before .before .before .args .x .now) (folded 16 (c .before .before .before .loop .m)) 16 (c .before .before .before .before .args .groups) (c .idct-raw-16 .result)
+line c = rw (c .before .folded .ensures) at (c .idct-raw-16 .ensures)
 
 mul-put-rounded16 : tie.Need-mul-put-rounded16 Inv-loop μ-loop
-mul-put-rounded16 c = omega (arith, passAsk-row (c .before .before .before .before .pre .0) (c .before .before .before .loop .m) (omega arith))
+mul-put-rounded16 c = omega (arith, passAsk-row (c .before .before .before .before .before .pre .0) (c .before .before .before .before .loop .m) (omega arith))
 
 put-rounded16-requires : tie.Need-put-rounded16-requires Inv-loop μ-loop
 put-rounded16-requires c κs =
-    (lineSums-halves (c .before .idct-raw-16 .ensures), omega arith, omega (arith, passAsk-row (c .before .before .before .before .pre .0) (c .before .before .before .loop .m) (omega arith), c .before .before .before .loop .inv .1 .long), c .before .before .before .before .pre .1, c .before .before .before .before .pre .2, λ j l. outputs-fit (λ x. roundShift x (c .before .before .before .before .args .s)) (c .before .idct-raw-16 .ensures) (omega arith) (λ k h. c .before .before .before .before .pre .3 (c .before .before .before .loop .m) k (omega arith) h) j (omega arith))
+    (lineSums-halves (c .before .idct-raw-16 .ensures), omega arith, omega (arith, passAsk-row (c .before .before .before .before .before .pre .0) (c .before .before .before .before .loop .m) (omega arith), c .before .before .before .before .loop .inv .1 .long), c .before .before .before .before .before .pre .1, c .before .before .before .before .before .pre .2, λ j l. outputs-fit (λ x. roundShift x (c .before .before .before .before .before .args .s)) (line (c .before)) (omega arith) (λ k h. c .before .before .before .before .before .pre .3 (c .before .before .before .before .loop .m) k (omega arith) h) j (omega arith))
 
 add-m : tie.Need-add-m Inv-loop μ-loop
 add-m c = omega arith
@@ -37,7 +48,7 @@ loop-less c = omega arith
 loop-again : tie.Need-loop-again Inv-loop μ-loop
 loop-again c = (
   omega arith,
-  filled-line (λ x. roundShift x (c .before .before .before .before .before .before .args .s)) (omega arith) (c .before .before .before .idct-raw-16 .ensures) (c .before .before .before .before .before .loop .inv .1) (c .before .put-rounded16 .ensures),
+  filled-unfolded (λ x. roundShift x (c .before .before .before .before .before .before .before .args .s)) (omega arith) (line (c .before .before .before)) (c .before .before .before .before .before .before .loop .inv .1) (c .before .put-rounded16 .ensures),
 )
 
 same-length : tie.Need-same-length Inv-loop μ-loop
@@ -53,6 +64,7 @@ rows16-16-spec =
     Inv-loop
     μ-loop
     loop-holds
+    folded-requires
     idct-raw-16-requires
     mul-put-rounded16
     put-rounded16-requires

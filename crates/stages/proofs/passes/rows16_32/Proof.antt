@@ -1,16 +1,18 @@
 -- `stages::passes::rows16_32` meets its contract: the rows passed hold their lines. The measure is what is left of the rows.
+use mathlib.Core.Path.{_≡_}
 use Prim.Native.Nat.{_≤_, _-_}
 use native.Mathlib.Omega.{arith}
 use Rattle.integers.specs.Shift.{roundShift}
+use Rattle.transform_1d.specs.Lanes.{LineSums}
 use Rattle.transform_1d.specs.Rows.{Filled}
 use Rattle.transform_1d.proofs.RowsLaws.{filled-zero, filled-all}
-use Rattle.stages.specs.Passes.{rowValue}
-use Rattle.stages.proofs.PassesLaws.{passAsk-line, passAsk-row, lineSums-halves, placed-mirror, filled-line, outputs-fit, mirror-fits}
+use Rattle.stages.specs.Passes.{folded, foldedRow}
+use Rattle.stages.proofs.PassesLaws.{passAsk-line, passAsk-row, lineSums-halves, folded-inside, placed-mirror, filled-unfolded, outputs-fit, mirror-fits}
 use Rattle.stages.proofs.passes.rows16_32.Statement.{statement}
 use Rattle.stages.proofs.passes.rows16_32.Tie as tie
 
 abbrev Inv-loop : tie.InvT-loop
-Inv-loop t x groups s out₀ m₀ out m = (m ≤ 32) × Filled 32 32 (rowValue t x 32 groups s) m out₀ out
+Inv-loop t x groups s out₀ m₀ out m = (m ≤ 32) × Filled 32 32 (foldedRow t x 32 groups s) m out₀ out
 
 abbrev μ-loop : tie.MeasureT-loop
 μ-loop t x groups s out₀ m₀ out m = 32 - m
@@ -18,28 +20,37 @@ abbrev μ-loop : tie.MeasureT-loop
 loop-holds : tie.Need-loop-holds Inv-loop μ-loop
 loop-holds c = (omega arith, filled-zero)
 
+folded-requires : tie.Need-folded-requires Inv-loop μ-loop
+folded-requires c κs = (omega arith, omega arith)
+
 idct-raw-32-requires : tie.Need-idct-raw-32-requires Inv-loop μ-loop
-idct-raw-32-requires c κs = passAsk-line (c .before .before .pre .0) _ (omega arith)
+idct-raw-32-requires c κs =
+    passAsk-line (c .before .before .before .pre .0) (c .folded .result) (rw (c .folded .ensures) (folded-inside 32 (c .before .before .loop .m) (omega arith)))
+
+-- the line over the column where row m stands
+line : (c : tie.After-idct-raw-32 Inv-loop μ-loop)
+    → LineSums (c .before .before .before .before .args .t .now) (c .before .before .before .before .args .x .now) (folded 32 (c .before .before .before .loop .m)) 32 (c .before .before .before .before .args .groups) (c .idct-raw-32 .result)
+line c = rw (c .before .folded .ensures) at (c .idct-raw-32 .ensures)
 
 mul-put-rounded16 : tie.Need-mul-put-rounded16 Inv-loop μ-loop
-mul-put-rounded16 c = omega (arith, passAsk-row (c .before .before .before .before .pre .0) (c .before .before .before .loop .m) (omega arith))
+mul-put-rounded16 c = omega (arith, passAsk-row (c .before .before .before .before .before .pre .0) (c .before .before .before .before .loop .m) (omega arith))
 
 put-rounded16-requires : tie.Need-put-rounded16-requires Inv-loop μ-loop
 put-rounded16-requires c κs =
-    (lineSums-halves (c .before .idct-raw-32 .ensures), omega arith, omega (arith, passAsk-row (c .before .before .before .before .pre .0) (c .before .before .before .loop .m) (omega arith), c .before .before .before .loop .inv .1 .long), c .before .before .before .before .pre .1, c .before .before .before .before .pre .2, λ j l. outputs-fit (λ x. roundShift x (c .before .before .before .before .args .s)) (c .before .idct-raw-32 .ensures) (omega arith) (λ k h. c .before .before .before .before .pre .3 (c .before .before .before .loop .m) k (omega arith) h) j (omega arith))
+    (lineSums-halves (c .before .idct-raw-32 .ensures), omega arith, omega (arith, passAsk-row (c .before .before .before .before .before .pre .0) (c .before .before .before .before .loop .m) (omega arith), c .before .before .before .before .loop .inv .1 .long), c .before .before .before .before .before .pre .1, c .before .before .before .before .before .pre .2, λ j l. outputs-fit (λ x. roundShift x (c .before .before .before .before .before .args .s)) (line (c .before)) (omega arith) (λ k h. c .before .before .before .before .before .pre .3 (c .before .before .before .before .loop .m) k (omega arith) h) j (omega arith))
 
 mirror-requires : tie.Need-mirror-requires Inv-loop μ-loop
 mirror-requires c κs = lineSums-halves (c .before .before .before .idct-raw-32 .ensures)
 
 mul-put-rounded16-2 : tie.Need-mul-put-rounded16-2 Inv-loop μ-loop
-mul-put-rounded16-2 c = omega (arith, passAsk-row (c .before .before .before .before .before .before .before .before .pre .0) (c .before .before .before .before .before .before .before .loop .m) (omega arith))
+mul-put-rounded16-2 c = omega (arith, passAsk-row (c .before .before .before .before .before .before .before .before .before .pre .0) (c .before .before .before .before .before .before .before .before .loop .m) (omega arith))
 
 add-put-rounded16 : tie.Need-add-put-rounded16 Inv-loop μ-loop
-add-put-rounded16 c = omega (arith, passAsk-row (c .before .before .before .before .before .before .before .before .pre .0) (c .before .before .before .before .before .before .before .loop .m) (omega arith))
+add-put-rounded16 c = omega (arith, passAsk-row (c .before .before .before .before .before .before .before .before .before .pre .0) (c .before .before .before .before .before .before .before .before .loop .m) (omega arith))
 
 put-rounded16-requires-2 : tie.Need-put-rounded16-requires-2 Inv-loop μ-loop
 put-rounded16-requires-2 c κs =
-    (c .before .mirror .ensures .0, omega arith, omega (arith, passAsk-row (c .before .before .before .before .before .before .before .before .pre .0) (c .before .before .before .before .before .before .before .loop .m) (omega arith), c .before .before .before .before .before .before .before .loop .inv .1 .long, c .before .before .before .put-rounded16 .ensures .long), c .before .before .before .before .before .before .before .before .pre .1, c .before .before .before .before .before .before .before .before .pre .2, λ j l. mirror-fits (λ x. roundShift x (c .before .before .before .before .before .before .before .before .args .s)) (c .before .before .before .before .before .idct-raw-32 .ensures) (omega arith) (λ k h. c .before .before .before .before .before .before .before .before .pre .3 (c .before .before .before .before .before .before .before .loop .m) k (omega arith) h) (c .before .mirror .ensures) j l (omega arith))
+    (c .before .mirror .ensures .0, omega arith, omega (arith, passAsk-row (c .before .before .before .before .before .before .before .before .before .pre .0) (c .before .before .before .before .before .before .before .before .loop .m) (omega arith), c .before .before .before .before .before .before .before .before .loop .inv .1 .long, c .before .before .before .put-rounded16 .ensures .long), c .before .before .before .before .before .before .before .before .before .pre .1, c .before .before .before .before .before .before .before .before .before .pre .2, λ j l. mirror-fits (λ x. roundShift x (c .before .before .before .before .before .before .before .before .before .args .s)) (line (c .before .before .before .before .before)) (omega arith) (λ k h. c .before .before .before .before .before .before .before .before .before .pre .3 (c .before .before .before .before .before .before .before .before .loop .m) k (omega arith) h) (c .before .mirror .ensures) j l (omega arith))
 
 add-m : tie.Need-add-m Inv-loop μ-loop
 add-m c = omega arith
@@ -50,8 +61,8 @@ loop-less c = omega arith
 loop-again : tie.Need-loop-again Inv-loop μ-loop
 loop-again c = (
   omega arith,
-  filled-line (λ x. roundShift x (c .before .before .before .before .before .before .before .before .before .before .args .s)) (omega arith) (c .before .before .before .before .before .before .before .idct-raw-32 .ensures) (c .before .before .before .before .before .before .before .before .before .loop .inv .1)
-      (placed-mirror (λ x. roundShift x (c .before .before .before .before .before .before .before .before .before .before .args .s)) _ _ (c .before .before .before .mirror .ensures .1) (c .before .before .before .before .before .put-rounded16 .ensures) (c .before .put-rounded162 .ensures)),
+  filled-unfolded (λ x. roundShift x (c .before .before .before .before .before .before .before .before .before .before .before .args .s)) (omega arith) (line (c .before .before .before .before .before .before .before)) (c .before .before .before .before .before .before .before .before .before .before .loop .inv .1)
+      (placed-mirror (λ x. roundShift x (c .before .before .before .before .before .before .before .before .before .before .before .args .s)) _ _ (c .before .before .before .mirror .ensures .1) (c .before .before .before .before .before .put-rounded16 .ensures) (c .before .put-rounded162 .ensures)),
 )
 
 same-length : tie.Need-same-length Inv-loop μ-loop
@@ -67,6 +78,7 @@ rows16-32-spec =
     Inv-loop
     μ-loop
     loop-holds
+    folded-requires
     idct-raw-32-requires
     mul-put-rounded16
     put-rounded16-requires

@@ -1,48 +1,66 @@
--- `stages::scan::narrow` meets its contract: the rows passed hold their coefficients. The measure is what is left of the rows.
-use Prim.Native.Nat.{_+_, _*_, _≤_, _-_}
+-- `stages::scan::narrow` meets its contract: the places passed hold their coefficients, limited. The measure is what is left of the run.
+use mathlib.Core.Path.{refl, ap, _∙_}
+use Prim.Native.Nat.{_+_, _≤_, _-_}
+use native.Mathlib.Nat.{zero-add}
 use native.Mathlib.Omega.{arith}
-use Rattle.h265.specs.Transform.{blockAt}
-use Rattle.transform_1d.specs.Rows.{Filled}
-use Rattle.transform_1d.proofs.RowsLaws.{filled-zero, filled-suc, filled-all}
-use Rattle.stages.proofs.ScanLaws.{row-inside}
+use borrow.Author.Needs.{needs, sfits-of}
+use lib.IntN.{pos}
+use lib.ListN.{getD}
+use mir.Syntax.{w32}
+use mir.Val.{SFits}
+use mir.Facts.{toZ-ofZ}
+use Rattle.h265.specs.Range.{clipCoeff}
+use Rattle.transform_1d.specs.Rows.{Placed}
+use Rattle.transform_1d.proofs.RowsLaws.{placed-zero, placed-suc, placed-all}
 use Rattle.stages.proofs.scan.narrow.Statement.{statement}
 use Rattle.stages.proofs.scan.narrow.Tie as tie
 
 abbrev Inv-loop : tie.InvT-loop
-Inv-loop coeff n nx ny a₀ k₀ a k = (k ≤ ny) × Filled n nx (blockAt n coeff) k a₀ a
+Inv-loop coeff w a₀ i₀ a i = (i ≤ w) × Placed 0 i (λ j. clipCoeff 15 (getD coeff j (pos 0))) a₀ a
 
 abbrev μ-loop : tie.MeasureT-loop
-μ-loop coeff n nx ny a₀ k₀ a k = ny - k
+μ-loop coeff w a₀ i₀ a i = w - i
 
 loop-holds : tie.Need-loop-holds Inv-loop μ-loop
-loop-holds c = (omega arith, filled-zero)
+loop-holds c = (omega arith, placed-zero)
 
-the-row : (c : tie.In-loop Inv-loop μ-loop)
-    → c .before .loop .k * c .before .before .args .n + c .before .before .args .nx ≤ c .before .before .args .n * c .before .before .args .n
-the-row c = row-inside (c .before .before .args .n) (c .before .loop .k) (c .before .before .args .nx) (omega arith) (omega arith)
+mul-limited : tie.Need-mul-limited Inv-loop μ-loop
+mul-limited c = omega arith
 
-mul-narrow-run : tie.Need-mul-narrow-run Inv-loop μ-loop
-mul-narrow-run c = omega (arith, the-row c)
+shared-slice-copy-out-limited : tie.Need-shared-slice-copy-out-limited Inv-loop μ-loop
+shared-slice-copy-out-limited c = omega arith
 
-narrow-run-requires : tie.Need-narrow-run-requires Inv-loop μ-loop
-narrow-run-requires c κs =
-    (omega (arith, the-row (c .before)), omega (arith, the-row (c .before), c .before .before .loop .inv .1 .long), λ j l. c .before .before .before .pre .4 (c .before .before .loop .k) j (omega arith) l)
+limited-requires : tie.Need-limited-requires Inv-loop μ-loop
+limited-requires c κs = search needs
 
-add-k : tie.Need-add-k Inv-loop μ-loop
-add-k c = omega arith
+mul-t10 : tie.Need-mul-t10 Inv-loop μ-loop
+mul-t10 c = omega arith
+
+slice-set-from-a : tie.Need-slice-set-from-a Inv-loop μ-loop
+slice-set-from-a c = omega (arith, c .before .before .before .loop .inv .1 .long)
+
+add-i : tie.Need-add-i Inv-loop μ-loop
+add-i c = omega arith
 
 loop-less : tie.Need-loop-less Inv-loop μ-loop
 loop-less c = omega arith
 
+module _ (c : tie.After-limited Inv-loop μ-loop) where
+  is-i32 : SFits w32 (getD (c .before .before .before .before .args .coeff .now) (c .before .before .before .loop .i) (pos 0))
+  is-i32 = record { sfits = c .before .limited-arg .given }
+
 loop-again : tie.Need-loop-again Inv-loop μ-loop
-unfolding blockAt
-loop-again c = (omega arith, filled-suc (omega arith) (c .before .before .before .before .loop .inv .1) (c .before .narrow-run .ensures))
+loop-again c = (
+  omega arith,
+  placed-suc (c .before .before .before .loop .inv .1) (let e = zero-add (c .before .before .before .loop .i) in omega (arith, e)) (omega arith)
+      (toZ-ofZ (sfits-of (c .limited .ok)) ∙ (simp (toZ-ofZ, is-i32 c) at (c .limited .ensures))),
+)
 
 same-length : tie.Need-same-length Inv-loop μ-loop
 same-length c = c .before .loop .inv .1 .long
 
 returns : tie.Need-returns Inv-loop μ-loop
-returns c = filled-all _ (omega arith) (c .before .loop .inv .1)
+returns c = placed-all _ (omega arith) (c .before .loop .inv .1)
 
 pub narrow-spec : {M : Type 1} → statement M
 narrow-spec =
@@ -51,9 +69,12 @@ narrow-spec =
     Inv-loop
     μ-loop
     loop-holds
-    mul-narrow-run
-    narrow-run-requires
-    add-k
+    mul-limited
+    shared-slice-copy-out-limited
+    limited-requires
+    mul-t10
+    slice-set-from-a
+    add-i
     loop-less
     loop-again
     same-length

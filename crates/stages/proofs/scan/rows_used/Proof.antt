@@ -7,10 +7,10 @@ use Rattle.stages.proofs.scan.rows_used.Statement.{statement}
 use Rattle.stages.proofs.scan.rows_used.Tie as tie
 
 abbrev Inv-loop : tie.InvT-loop
-Inv-loop coeff n nx k₀ k = RowsUsed coeff n nx k
+Inv-loop coeff n nx least k₀ k = RowsUsed coeff n nx k
 
 abbrev μ-loop : tie.MeasureT-loop
-μ-loop coeff n nx k₀ k = k
+μ-loop coeff n nx least k₀ k = k
 
 loop-holds : tie.Need-loop-holds Inv-loop μ-loop
 loop-holds c = rowsUsed-all
