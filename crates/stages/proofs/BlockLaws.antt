@@ -3,7 +3,8 @@
 --   Source                  a holds the coefficients of the columns read; rows from ny on are zero
 --   source-self, -narrow    the coefficients themselves; their narrowed copy
 --   Enough, enough-…        groups of four that hold all columns read
---   Unfolds, unfolds-…      where the intermediate's rows keep their outputs: in order, or folded at 16 and 32 points
+--   Lanes, lanes-…          which lane of a line reads which column of the matrix
+--   Unfolds, unfolds-…      where rows keep their outputs: in order, or folded from 8 points on
 --   source-pass             stage one meets what a pass asks
 --   pass-two                so does stage two, over what stage one stored
 --   intermediate-past       columns from the count on are zero
@@ -38,10 +39,10 @@ use Rattle.transform_1d.specs.Lanes.{mirrored, laneMatrix, lineSum}
 use Rattle.transform_1d.specs.Rows.{Placed, Filled}
 use Rattle.transform_1d.proofs.KernelLaws.{laneMatrix-low, laneMatrix-high}
 use Rattle.transform_1d.proofs.RowsLaws.{row-unique, filled-overwrite}
-use Rattle.transform_1d.proofs.MatrixLaws.{transformLine-cong, transformLine-within, transMatrix-mirror-16, Laid}
+use Rattle.transform_1d.proofs.MatrixLaws.{transformLine-within, transMatrix-mirror-8, transMatrix-mirror-16, Laid}
 use Rattle.stages.specs.Passes.{shiftedResidual, RowsUsed, PassAsk, columnValue, rowValue, folded, foldedLane}
 use Rattle.stages.proofs.FinishLaws.{clip-fits}
-use Rattle.stages.proofs.PassesLaws.{folded-inside}
+use Rattle.stages.proofs.PassesLaws.{folded-low, folded-high, folded-inside, folded-back, foldedLane-low, foldedLane-high}
 
 pub transformLine-short : (t : ℕ → ℕ → ℤ) (n k : ℕ) (y : ℕ → ℤ) (m : ℕ) → k ≤ n → ((i : ℕ) → k ≤ i → i < n → y i ≡ pos 0)
     → transformLine t n y m ≡ transformLine t k y m
@@ -116,46 +117,74 @@ enough-columns n nx h e = record { few = omega arith; all = omega arith }
 pub enough-four : {nx : ℕ} → nx ≤ 4 → Enough 4 nx 1
 enough-four h = record { few = omega arith; all = omega arith }
 
--- ---- where the intermediate's rows keep their outputs: output m of a line stands at place m, in lane `lane (place m)`
+-- ---- lanes of a line that read columns of the matrix
+pub record Lanes (t : ℕ → ℕ → ℤ) (n : ℕ) (xs : List ℤ) (lane column : ℕ → ℕ) : Type 0 where
+  pub inside : (p : ℕ) → p < n → column p < n
+  pub reads : (k p : ℕ) → k < n → p < n → laneMatrix xs k (lane p) ≡ t k (column p)
+
+pub lanes-plain : {t : ℕ → ℕ → ℤ} {n : ℕ} {xs : List ℤ} → Laid t n xs → Lanes t n xs (λ j. j) (λ j. j)
+lanes-plain T = record { inside = λ j h. h; reads = T .reads }
+
+-- ---- where rows keep their outputs: output m of a line stands at place m, in lane `lane (place m)`
 pub record Unfolds (t : ℕ → ℕ → ℤ) (n : ℕ) (xs : List ℤ) (place lane : ℕ → ℕ) : Type 0 where
   pub inside : (m : ℕ) → m < n → place m < n
+  pub back : (m : ℕ) → m < n → place (place m) ≡ m
   pub reads : (k m : ℕ) → k < n → m < n → laneMatrix xs k (lane (place m)) ≡ t k m
 
-pub unfolds-plain : {t : ℕ → ℕ → ℤ} {n : ℕ} {xs : List ℤ} → Laid t n xs → Unfolds t n xs (λ m. m) (λ p. p)
-unfolds-plain T = record { inside = λ m h. h; reads = T .reads }
+pub lanes-turned : {t : ℕ → ℕ → ℤ} {n : ℕ} {xs : List ℤ} {place lane : ℕ → ℕ} → Unfolds t n xs place lane → Lanes t n xs (λ j. lane (place j)) (λ j. j)
+lanes-turned F = record { inside = λ j h. h; reads = F .reads }
 
-folded-low : (n m : ℕ) → m < n / 2 → foldedLane n (folded n m) ≡ m
-unfolding folded foldedLane
-folded-low n m h = rw (lt-ltb m (n / 2) h, lt-ltb m (n / 2) h)
-
-folded-high : (n m : ℕ) → n ≡ 2 * (n / 2) → n ≤ 32 → m < n → n / 2 ≤ m → foldedLane n (folded n m) ≡ 32 - n + m
-unfolding folded foldedLane
-folded-high n m e l h k =
-    rw (le-ltb m (n / 2) k, le-ltb (n + n / 2 - 1 - m) (n / 2) (omega arith)) (let f : 31 + n / 2 - (n + n / 2 - 1 - m) ≡ 32 - n + m = omega arith in f)
-
-pub unfolds-16 : {xs : List ℤ} → Laid (transMatrix 16) 16 xs → Unfolds (transMatrix 16) 16 xs (folded 16) (foldedLane 16)
-unfolds-16 {xs} T =
+pub lanes-folded : {t : ℕ → ℕ → ℤ} {n : ℕ} {xs : List ℤ} {place lane : ℕ → ℕ} → Unfolds t n xs place lane → Lanes t n xs lane place
+lanes-folded {xs = xs} {place} {lane} F =
     record {
-      inside = folded-inside 16;
+      inside = F .inside;
+      reads = λ k p hk hp. ap (λ (i : ℕ). laneMatrix xs k (lane i)) (sym (F .back p hp)) ∙ F .reads k (place p) hk (F .inside p hp);
+    }
+
+pub unfolds-plain : {t : ℕ → ℕ → ℤ} {n : ℕ} {xs : List ℤ} → Laid t n xs → Unfolds t n xs (λ m. m) (λ p. p)
+unfolds-plain T = record { inside = λ m h. h; back = λ m h. refl; reads = T .reads }
+
+lane-low : (n m : ℕ) → m < n / 2 → foldedLane n (folded n m) ≡ m
+lane-low n m h = ap (foldedLane n) (folded-low n m h) ∙ foldedLane-low n m h
+
+lane-high : (n m : ℕ) → n ≡ 2 * (n / 2) → n ≤ 32 → m < n → n / 2 ≤ m → foldedLane n (folded n m) ≡ 32 - n + m
+lane-high n m e l h k =
+    ap (foldedLane n) (folded-high n m k) ∙ foldedLane-high n (n + n / 2 - 1 - m) (omega arith)
+    ∙ (let f : 31 + n / 2 - (n + n / 2 - 1 - m) ≡ 32 - n + m = omega arith in f)
+
+-- up to 16 points a mirrored lane reads the right half
+pub unfolds-half : {t : ℕ → ℕ → ℤ} (n : ℕ) {xs : List ℤ} → Laid t n xs → n ≡ 2 * (n / 2) → n ≤ 16
+    → ((k j : ℕ) → k < n → j < n / 2 → t k (n - 1 - j) ≡ mirrored k (t k j)) → Unfolds t n xs (folded n) (foldedLane n)
+unfolds-half {t} n {xs} T e l mirror =
+    record {
+      inside = folded-inside n;
+      back = λ m h. folded-back n m e h;
       reads = λ k m hk hm.
-          elim (decLt m 8) [
-            | yes y ↦ ap (laneMatrix xs k) (folded-low 16 m y) ∙ T .reads k m hk hm
-            | no d ↦ ap (laneMatrix xs k) (folded-high 16 m refl (omega arith) hm (omega arith) ∙ (let e : 32 - 16 + m ≡ 31 - (15 - m) = omega arith in e))
-                ∙ laneMatrix-high xs k (15 - m) (omega arith)
-                ∙ ap (mirrored k) (sym (laneMatrix-low xs k (15 - m) (omega arith)) ∙ T .reads k (15 - m) hk (omega arith))
-                ∙ sym (transMatrix-mirror-16 k (15 - m) hk (omega arith))
-                ∙ ap (transMatrix 16 k) (let e : 15 - (15 - m) ≡ m = omega arith in e)
+          elim (decLt m (n / 2)) [
+            | yes y ↦ ap (laneMatrix xs k) (lane-low n m y) ∙ T .reads k m hk hm
+            | no d ↦ ap (laneMatrix xs k) (lane-high n m e (omega arith) hm (omega arith) ∙ (let f : 32 - n + m ≡ 31 - (n - 1 - m) = omega arith in f))
+                ∙ laneMatrix-high xs k (n - 1 - m) (omega arith)
+                ∙ ap (mirrored k) (sym (laneMatrix-low xs k (n - 1 - m) (omega arith)) ∙ T .reads k (n - 1 - m) hk (omega arith))
+                ∙ sym (mirror k (n - 1 - m) hk (omega arith))
+                ∙ ap (t k) (let f : n - 1 - (n - 1 - m) ≡ m = omega arith in f)
           ];
     }
+
+pub unfolds-8 : {xs : List ℤ} → Laid (transMatrix 8) 8 xs → Unfolds (transMatrix 8) 8 xs (folded 8) (foldedLane 8)
+unfolds-8 T = unfolds-half 8 T refl (omega arith) transMatrix-mirror-8
+
+pub unfolds-16 : {xs : List ℤ} → Laid (transMatrix 16) 16 xs → Unfolds (transMatrix 16) 16 xs (folded 16) (foldedLane 16)
+unfolds-16 T = unfolds-half 16 T refl (omega arith) transMatrix-mirror-16
 
 pub unfolds-32 : {xs : List ℤ} → Laid (transMatrix 32) 32 xs → Unfolds (transMatrix 32) 32 xs (folded 32) (foldedLane 32)
 unfolds-32 {xs} T =
     record {
       inside = folded-inside 32;
+      back = λ m h. folded-back 32 m refl h;
       reads = λ k m hk hm.
           elim (decLt m 16) [
-            | yes y ↦ ap (laneMatrix xs k) (folded-low 32 m y) ∙ T .reads k m hk hm
-            | no d ↦ ap (laneMatrix xs k) (folded-high 32 m refl (omega arith) hm (omega arith) ∙ (let e : 32 - 32 + m ≡ m = omega arith in e)) ∙ T .reads k m hk hm
+            | yes y ↦ ap (laneMatrix xs k) (lane-low 32 m y) ∙ T .reads k m hk hm
+            | no d ↦ ap (laneMatrix xs k) (lane-high 32 m refl (omega arith) hm (omega arith) ∙ (let e : 32 - 32 + m ≡ m = omega arith in e)) ∙ T .reads k m hk hm
           ];
     }
 
@@ -211,22 +240,24 @@ module _ {t : ℕ → ℕ → ℤ} {n : ℕ} {xs : List ℤ} (T : Laid t n xs) {
           room = h;
         }
 
-    line-two : (m j : ℕ) → m < n → j < n → lineSum xs d (place m) n g j ≡ stageTwoSum t n (intermediate t n 15 read) m j
-    unfolding stageTwoSum
-    line-two m j hm hj =
-        transformLine-cong (laneMatrix xs) t (4 * g) (λ c. getD d (place m + c * n) (pos 0)) (λ c. intermediate t n 15 read m c) j
-        (λ c b. T .reads c j (omega (arith, G .few)) hj) (λ c b. inter-at m c hm (omega (arith, G .few)))
+    -- a lane that reads column j of the matrix gives output j
+    line-two : (m j lane : ℕ) → m < n → ((k : ℕ) → k < n → laneMatrix xs k lane ≡ t k j)
+        → lineSum xs d (place m) n g lane ≡ stageTwoSum t n (intermediate t n 15 read) m j
+    unfolding stageTwoSum transformLine
+    line-two m j lane hm r =
+        sum-cong (4 * g) (λ c. laneMatrix xs c lane *ℤ getD d (place m + c * n) (pos 0)) (λ c. t c j *ℤ intermediate t n 15 read m c)
+        (λ c b. ap₂ _*ℤ_ (r c (omega (arith, G .few))) (inter-at m c hm (omega (arith, G .few))))
         ∙ sym (transformLine-short t n (4 * g) (λ c. intermediate t n 15 read m c) j (G .few) (λ c b e. intermediate-past t n nx (blockAt n coeff) m c (omega (arith, G .all))))
 
-    pub block-residual : (s : ℕ) {out r : List ℤ} → n * n ≤ length out → Filled n n (λ m j. rowValue xs d n g s (place m) j) n out r
-        → r ≡ overwrite (n * n) (rowOrder n (shiftedResidual t n s nx coeff)) out
+    pub block-residual : {outputs : ℕ → ℕ} → Lanes t n xs outputs (λ j. j) → (s : ℕ) {out r : List ℤ} → n * n ≤ length out
+        → Filled n n (λ m j. rowValue xs d n g s (place m) (outputs j)) n out r → r ≡ overwrite (n * n) (rowOrder n (shiftedResidual t n s nx coeff)) out
     unfolding shiftedResidual stageTwo
-    block-residual s l p =
-        filled-overwrite n (T .some) (filled-cong (λ m j hm hj. ap (λ (z : ℤ). roundShift z s) (line-two m j hm hj)) p) l
+    block-residual {outputs} L s l p =
+        filled-overwrite n (T .some) (filled-cong (λ m j hm hj. ap (λ (z : ℤ). roundShift z s) (line-two m j (outputs j) hm (λ k b. L .reads k j b hj))) p) l
 
-    pub block-fits : (s : ℕ) → 11 ≤ s → s ≤ 12 → ((m : ℕ) → m < n → absSum t n m ≤ℤ pos 1862)
-        → (m j : ℕ) → m < n → j < n → SFits w16 (rowValue xs d n g s (place m) j)
+    pub block-fits : {outputs column : ℕ → ℕ} → Lanes t n xs outputs column → (s : ℕ) → 11 ≤ s → s ≤ 12 → ((m : ℕ) → m < n → absSum t n m ≤ℤ pos 1862)
+        → (m p : ℕ) → m < n → p < n → SFits w16 (rowValue xs d n g s (place m) (outputs p))
     unfolding stageTwoSum intermediate
-    block-fits s h l b m j hm hj =
-        subst (λ (z : ℤ). SFits w16 (roundShift z s)) (sym (line-two m j hm hj))
-        (roundShift-fits s h l (transformLine-within t n (λ c. intermediate t n 15 read m c) j (b j hj) (λ c k. clipCoeff-within (stageOneValue t n read m c))))
+    block-fits {outputs} {column} L s h l b m p hm hp =
+        subst (λ (z : ℤ). SFits w16 (roundShift z s)) (sym (line-two m (column p) (outputs p) hm (λ k a. L .reads k p a hp)))
+        (roundShift-fits s h l (transformLine-within t n (λ c. intermediate t n 15 read m c) (column p) (b (column p) (L .inside p hp)) (λ c k. clipCoeff-within (stageOneValue t n read m c))))

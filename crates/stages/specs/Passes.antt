@@ -9,6 +9,9 @@
 --   folded n m        where output m of n stands in a folded row: the right half in reverse
 --   foldedLane n p    the output of a line, as `laneOutput` counts them, that stands at place p of a folded row
 --   foldedColumn, foldedRow   `columnValue` and `rowValue` where the intermediate stands folded
+--   foldedOutput, turnedRow   `foldedRow` where the outputs stand folded too, and once they are put in order
+--   Run at w xs r             r begins with the w elements of xs from place at on
+--   Turned n rows xs ys       ys is xs with its first rows, n long, put in order
 use mathlib.Core.Path.{_≡_}
 use mathlib.Core.Bool.{cond}
 use mathlib.Core.List.{List}
@@ -67,3 +70,17 @@ foldedColumn t x n groups c p = columnValue t x n groups c (foldedLane n p)
 
 abbrev pub foldedRow : List ℤ → List ℤ → ℕ → ℕ → ℕ → ℕ → ℕ → ℤ
 foldedRow t x n groups s m j = rowValue t x n groups s (folded n m) j
+
+abbrev pub foldedOutput : List ℤ → List ℤ → ℕ → ℕ → ℕ → ℕ → ℕ → ℤ
+foldedOutput t x n groups s m p = foldedRow t x n groups s m (foldedLane n p)
+
+abbrev pub turnedRow : List ℤ → List ℤ → ℕ → ℕ → ℕ → ℕ → ℕ → ℤ
+turnedRow t x n groups s m j = foldedOutput t x n groups s m (folded n j)
+
+pub record Run (at w : ℕ) (xs r : List ℤ) : Type 0 where
+  pub same : (j : ℕ) → j < w → getD r j (pos 0) ≡ getD xs (at + j) (pos 0)
+
+pub record Turned (n rows : ℕ) (xs ys : List ℤ) : Type 0 where
+  pub long : length ys ≡ length xs
+  pub done : (r j : ℕ) → r < rows → j < n → getD ys (r * n + j) (pos 0) ≡ getD xs (r * n + folded n j) (pos 0)
+  pub rest : (i : ℕ) → rows * n ≤ i → getD ys i (pos 0) ≡ getD xs i (pos 0)

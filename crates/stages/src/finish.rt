@@ -111,6 +111,30 @@ pub fn put_rounded16(z: [i32; 32], w: usize, s: u32, out: &mut [i16], at: usize)
     }
 }
 
+// Outputs 31, 30, .. of a line, w of them, as values of the residual, from place at on.
+pub fn put_rounded_differences(z: [i32; 32], w: usize, s: u32, out: &mut [i32], at: usize)
+    requires { ⌜ Halves z × (w ≤ 16) × (at + w ≤ length (now out)) × (0 < s) × (s ≤ 12) ⌝ }
+    ensures { λ _. ⌜ Placed at w (λ j. roundShift (laneOutput z (31 - j)) s) (now (out .entry)) (now (out .exit)) ⌝ }
+{
+    let mut j: usize = 0;
+    while j < w {
+        out[at + j] = rounded(z[j] - z[16 + j], s);
+        j += 1;
+    }
+}
+
+// The same for values that fit 16 bits.
+pub fn put_rounded16_differences(z: [i32; 32], w: usize, s: u32, out: &mut [i16], at: usize)
+    requires { ⌜ Halves z × (w ≤ 16) × (at + w ≤ length (now out)) × (0 < s) × (s ≤ 12) × ((j : ℕ) → j < w → SFits w16 (roundShift (laneOutput z (31 - j)) s)) ⌝ }
+    ensures { λ _. ⌜ Placed at w (λ j. roundShift (laneOutput z (31 - j)) s) (now (out .entry)) (now (out .exit)) ⌝ }
+{
+    let mut j: usize = 0;
+    while j < w {
+        out[at + j] = rounded(z[j] - z[16 + j], s) as i16;
+        j += 1;
+    }
+}
+
 // v in the first w places.
 pub fn fill(v: i32, w: usize, out: &mut [i32])
     requires { ⌜ w ≤ length (now out) ⌝ }

@@ -15,6 +15,7 @@ use transform_1d::Kind;
 
 mod scan; // which rows are in use, and the narrowing of coefficients
 mod finish; // rounding and storing of a line's outputs
+mod turn; // rows that stand folded, put in order
 mod passes; // one stage of a block, a function for each size
 mod blocks; // both stages of a block, a function for each size
 mod blocks16; // the same, 16 bits wide

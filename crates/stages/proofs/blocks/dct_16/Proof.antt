@@ -4,7 +4,7 @@ use native.Mathlib.Omega.{arith}
 use Rattle.h265.specs.Matrix.{transMatrix}
 use Rattle.transform_1d.proofs.LanesLaws.{transMatrix-within}
 use Rattle.transform_1d.proofs.MatrixLaws.{Laid, laid}
-use Rattle.stages.proofs.BlockLaws.{source-narrow, enough-columns, unfolds-16, source-pass, pass-two, block-residual}
+use Rattle.stages.proofs.BlockLaws.{source-narrow, enough-columns, unfolds-16, lanes-turned, source-pass, pass-two, block-residual}
 use borrow.Author.Needs.{needs}
 use Rattle.stages.proofs.blocks.dct_16.Statement.{statement}
 use Rattle.stages.proofs.blocks.dct_16.Tie as tie
@@ -64,7 +64,7 @@ same-length c = search needs
 
 returns : tie.Need-returns
 returns c =
-    block-residual (layout (c .before .before .before .before .before .before .before)) (source-narrow {n = 16} (c .before .before .before .before .before .before .before .before .before .before .before .before .before .before .before .pre .columns) (c .before .before .before .before .before .before .before .before .before .before .before .before .before .before .before .pre .fits) (c .before .before .before .before .before .before .before .before .before .before .before .before .before .rows-used .ensures) (c .before .before .before .before .before .before .before .before .before .before .before .narrow .ensures)) (unfolds-16 (layout (c .before .before .before .before .before .before .before))) (c .before .before .before .before .before .before .columns-16 .ensures) (enough-columns 16 _ (c .before .before .before .before .before .before .before .before .before .before .before .before .before .before .before .pre .columns) refl) _ (c .before .before .before .before .before .before .before .before .before .before .before .before .before .before .before .pre .room) (c .before .rows-16 .ensures)
+    block-residual (layout (c .before .before .before .before .before .before .before)) (source-narrow {n = 16} (c .before .before .before .before .before .before .before .before .before .before .before .before .before .before .before .pre .columns) (c .before .before .before .before .before .before .before .before .before .before .before .before .before .before .before .pre .fits) (c .before .before .before .before .before .before .before .before .before .before .before .before .before .rows-used .ensures) (c .before .before .before .before .before .before .before .before .before .before .before .narrow .ensures)) (unfolds-16 (layout (c .before .before .before .before .before .before .before))) (c .before .before .before .before .before .before .columns-16 .ensures) (enough-columns 16 _ (c .before .before .before .before .before .before .before .before .before .before .before .before .before .before .before .pre .columns) refl) (lanes-turned (unfolds-16 (layout (c .before .before .before .before .before .before .before)))) _ (c .before .before .before .before .before .before .before .before .before .before .before .before .before .before .before .pre .room) (c .before .rows-16 .ensures)
 
 pub dct-16-spec : {M : Type 1} → statement M
 dct-16-spec =

@@ -3,7 +3,7 @@ use mathlib.Core.Path.{refl}
 use native.Mathlib.Omega.{arith}
 use Rattle.h265.specs.Matrix.{transMatrix}
 use Rattle.transform_1d.proofs.MatrixLaws.{Laid, laid-32}
-use Rattle.stages.proofs.BlockLaws.{source-narrow, enough-columns, unfolds-32, source-pass, pass-two, block-residual}
+use Rattle.stages.proofs.BlockLaws.{source-narrow, enough-columns, unfolds-32, lanes-plain, source-pass, pass-two, block-residual}
 use borrow.Author.Needs.{needs}
 use Rattle.stages.proofs.blocks.dct_32.Statement.{statement}
 use Rattle.stages.proofs.blocks.dct_32.Tie as tie
@@ -63,7 +63,7 @@ same-length c = search needs
 
 returns : tie.Need-returns
 returns c =
-    block-residual (layout (c .before .before .before .before .before .before .before)) (source-narrow {n = 32} (c .before .before .before .before .before .before .before .before .before .before .before .before .before .before .before .pre .columns) (c .before .before .before .before .before .before .before .before .before .before .before .before .before .before .before .pre .fits) (c .before .before .before .before .before .before .before .before .before .before .before .before .before .rows-used .ensures) (c .before .before .before .before .before .before .before .before .before .before .before .narrow .ensures)) (unfolds-32 (layout (c .before .before .before .before .before .before .before))) (c .before .before .before .before .before .before .columns-32 .ensures) (enough-columns 32 _ (c .before .before .before .before .before .before .before .before .before .before .before .before .before .before .before .pre .columns) refl) _ (c .before .before .before .before .before .before .before .before .before .before .before .before .before .before .before .pre .room) (c .before .rows-32 .ensures)
+    block-residual (layout (c .before .before .before .before .before .before .before)) (source-narrow {n = 32} (c .before .before .before .before .before .before .before .before .before .before .before .before .before .before .before .pre .columns) (c .before .before .before .before .before .before .before .before .before .before .before .before .before .before .before .pre .fits) (c .before .before .before .before .before .before .before .before .before .before .before .before .before .rows-used .ensures) (c .before .before .before .before .before .before .before .before .before .before .before .narrow .ensures)) (unfolds-32 (layout (c .before .before .before .before .before .before .before))) (c .before .before .before .before .before .before .columns-32 .ensures) (enough-columns 32 _ (c .before .before .before .before .before .before .before .before .before .before .before .before .before .before .before .pre .columns) refl) (lanes-plain (layout (c .before .before .before .before .before .before .before))) _ (c .before .before .before .before .before .before .before .before .before .before .before .before .before .before .before .pre .room) (c .before .rows-32 .ensures)
 
 pub dct-32-spec : {M : Type 1} → statement M
 dct-32-spec =

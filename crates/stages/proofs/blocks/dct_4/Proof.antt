@@ -5,7 +5,7 @@ use Rattle.h265.specs.Matrix.{transMatrix}
 use Rattle.transform_1d.proofs.LanesLaws.{transMatrix-within}
 use Rattle.transform_1d.proofs.MatrixLaws.{Laid, laid}
 use Rattle.stages.proofs.ScanLaws.{rowsUsed-all}
-use Rattle.stages.proofs.BlockLaws.{source-narrow, enough-four, unfolds-plain, source-pass, pass-two, block-residual}
+use Rattle.stages.proofs.BlockLaws.{source-narrow, enough-four, unfolds-plain, lanes-plain, source-pass, pass-two, block-residual}
 use borrow.Author.Needs.{needs}
 use Rattle.stages.proofs.blocks.dct_4.Statement.{statement}
 use Rattle.stages.proofs.blocks.dct_4.Tie as tie
@@ -53,7 +53,7 @@ same-length c = search needs
 
 returns : tie.Need-returns
 returns c =
-    block-residual (layout (c .before .before .before .before .before .before .before)) (source-narrow {n = 4} {ny = 4} {coeff = c .before .before .before .before .before .before .before .before .before .before .before .before .before .before .args .coeff .now} (c .before .before .before .before .before .before .before .before .before .before .before .before .before .before .pre .columns) (c .before .before .before .before .before .before .before .before .before .before .before .before .before .before .pre .fits) rowsUsed-all (c .before .before .before .before .before .before .before .before .before .before .before .narrow .ensures)) (unfolds-plain (layout (c .before .before .before .before .before .before .before))) (c .before .before .before .before .before .before .columns-4 .ensures) (enough-four (c .before .before .before .before .before .before .before .before .before .before .before .before .before .before .pre .columns)) _ (c .before .before .before .before .before .before .before .before .before .before .before .before .before .before .pre .room) (c .before .rows-4 .ensures)
+    block-residual (layout (c .before .before .before .before .before .before .before)) (source-narrow {n = 4} {ny = 4} {coeff = c .before .before .before .before .before .before .before .before .before .before .before .before .before .before .args .coeff .now} (c .before .before .before .before .before .before .before .before .before .before .before .before .before .before .pre .columns) (c .before .before .before .before .before .before .before .before .before .before .before .before .before .before .pre .fits) rowsUsed-all (c .before .before .before .before .before .before .before .before .before .before .before .narrow .ensures)) (unfolds-plain (layout (c .before .before .before .before .before .before .before))) (c .before .before .before .before .before .before .columns-4 .ensures) (enough-four (c .before .before .before .before .before .before .before .before .before .before .before .before .before .before .pre .columns)) (lanes-plain (layout (c .before .before .before .before .before .before .before))) _ (c .before .before .before .before .before .before .before .before .before .before .before .before .before .before .pre .room) (c .before .rows-4 .ensures)
 
 pub dct-4-spec : {M : Type 1} → statement M
 dct-4-spec =

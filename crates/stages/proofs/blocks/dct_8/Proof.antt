@@ -4,7 +4,7 @@ use native.Mathlib.Omega.{arith}
 use Rattle.h265.specs.Matrix.{transMatrix}
 use Rattle.transform_1d.proofs.LanesLaws.{transMatrix-within}
 use Rattle.transform_1d.proofs.MatrixLaws.{Laid, laid}
-use Rattle.stages.proofs.BlockLaws.{source-narrow, enough-columns, unfolds-plain, source-pass, pass-two, block-residual}
+use Rattle.stages.proofs.BlockLaws.{source-narrow, enough-columns, unfolds-8, lanes-turned, source-pass, pass-two, block-residual}
 use borrow.Author.Needs.{needs}
 use Rattle.stages.proofs.blocks.dct_8.Statement.{statement}
 use Rattle.stages.proofs.blocks.dct_8.Tie as tie
@@ -54,7 +54,7 @@ add-rows-8 c = search needs
 
 rows-8-requires : tie.Need-rows-8-requires
 rows-8-requires c κs = (
-  pass-two (layout (c .before .before .before .before .before)) (source-narrow {n = 8} (c .before .before .before .before .before .before .before .before .before .before .before .before .before .pre .columns) (c .before .before .before .before .before .before .before .before .before .before .before .before .before .pre .fits) (c .before .before .before .before .before .before .before .before .before .before .before .rows-used .ensures) (c .before .before .before .before .before .before .before .before .before .narrow .ensures)) (unfolds-plain (layout (c .before .before .before .before .before))) (c .before .before .before .before .columns-8 .ensures) (enough-columns 8 _ (c .before .before .before .before .before .before .before .before .before .before .before .before .before .pre .columns) refl) (c .before .before .before .before .before .before .before .before .before .before .before .before .before .pre .room),
+  pass-two (layout (c .before .before .before .before .before)) (source-narrow {n = 8} (c .before .before .before .before .before .before .before .before .before .before .before .before .before .pre .columns) (c .before .before .before .before .before .before .before .before .before .before .before .before .before .pre .fits) (c .before .before .before .before .before .before .before .before .before .before .before .rows-used .ensures) (c .before .before .before .before .before .before .before .before .before .narrow .ensures)) (unfolds-8 (layout (c .before .before .before .before .before))) (c .before .before .before .before .columns-8 .ensures) (enough-columns 8 _ (c .before .before .before .before .before .before .before .before .before .before .before .before .before .pre .columns) refl) (c .before .before .before .before .before .before .before .before .before .before .before .before .before .pre .room),
   c .before .before .before .before .before .before .before .before .before .before .before .before .before .pre .least,
   c .before .before .before .before .before .before .before .before .before .before .before .before .before .pre .most,
 )
@@ -64,7 +64,7 @@ same-length c = search needs
 
 returns : tie.Need-returns
 returns c =
-    block-residual (layout (c .before .before .before .before .before .before .before)) (source-narrow {n = 8} (c .before .before .before .before .before .before .before .before .before .before .before .before .before .before .before .pre .columns) (c .before .before .before .before .before .before .before .before .before .before .before .before .before .before .before .pre .fits) (c .before .before .before .before .before .before .before .before .before .before .before .before .before .rows-used .ensures) (c .before .before .before .before .before .before .before .before .before .before .before .narrow .ensures)) (unfolds-plain (layout (c .before .before .before .before .before .before .before))) (c .before .before .before .before .before .before .columns-8 .ensures) (enough-columns 8 _ (c .before .before .before .before .before .before .before .before .before .before .before .before .before .before .before .pre .columns) refl) _ (c .before .before .before .before .before .before .before .before .before .before .before .before .before .before .before .pre .room) (c .before .rows-8 .ensures)
+    block-residual (layout (c .before .before .before .before .before .before .before)) (source-narrow {n = 8} (c .before .before .before .before .before .before .before .before .before .before .before .before .before .before .before .pre .columns) (c .before .before .before .before .before .before .before .before .before .before .before .before .before .before .before .pre .fits) (c .before .before .before .before .before .before .before .before .before .before .before .before .before .rows-used .ensures) (c .before .before .before .before .before .before .before .before .before .before .before .narrow .ensures)) (unfolds-8 (layout (c .before .before .before .before .before .before .before))) (c .before .before .before .before .before .before .columns-8 .ensures) (enough-columns 8 _ (c .before .before .before .before .before .before .before .before .before .before .before .before .before .before .before .pre .columns) refl) (lanes-turned (unfolds-8 (layout (c .before .before .before .before .before .before .before)))) _ (c .before .before .before .before .before .before .before .before .before .before .before .before .before .before .before .pre .room) (c .before .rows-8 .ensures)
 
 pub dct-8-spec : {M : Type 1} → statement M
 dct-8-spec =

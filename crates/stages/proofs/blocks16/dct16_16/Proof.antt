@@ -7,7 +7,7 @@ use Rattle.integers.proofs.OrderLaws.{≤ℤ-trans}
 use Rattle.h265.specs.Matrix.{transMatrix}
 use Rattle.transform_1d.proofs.LanesLaws.{transMatrix-within}
 use Rattle.transform_1d.proofs.MatrixLaws.{Laid, laid, transMatrix-absSum-16}
-use Rattle.stages.proofs.BlockLaws.{source-self, enough-columns, unfolds-16, source-pass, pass-two, block-residual, block-fits}
+use Rattle.stages.proofs.BlockLaws.{source-self, enough-columns, unfolds-16, lanes-turned, source-pass, pass-two, block-residual, block-fits, lanes-folded}
 use borrow.Author.Needs.{needs}
 use Rattle.stages.proofs.blocks16.dct16_16.Statement.{statement}
 use Rattle.stages.proofs.blocks16.dct16_16.Tie as tie
@@ -48,7 +48,7 @@ rows16-16-requires c κs = (
   pass-two (layout (c .before .before .before .before .before)) (source-self (c .before .before .before .before .before .before .before .before .before .pre .0 .columns) (c .before .before .before .before .before .before .before .before .before .pre .0 .long) (c .before .before .before .before .before .before .before .rows-used16 .ensures)) (unfolds-16 (layout (c .before .before .before .before .before))) (c .before .before .before .before .columns-16 .ensures) (enough-columns 16 _ (c .before .before .before .before .before .before .before .before .before .pre .0 .columns) refl) (c .before .before .before .before .before .before .before .before .before .pre .0 .room),
   c .before .before .before .before .before .before .before .before .before .pre .0 .least,
   c .before .before .before .before .before .before .before .before .before .pre .0 .most,
-  block-fits (layout (c .before .before .before .before .before)) (source-self (c .before .before .before .before .before .before .before .before .before .pre .0 .columns) (c .before .before .before .before .before .before .before .before .before .pre .0 .long) (c .before .before .before .before .before .before .before .rows-used16 .ensures)) (unfolds-16 (layout (c .before .before .before .before .before))) (c .before .before .before .before .columns-16 .ensures) (enough-columns 16 _ (c .before .before .before .before .before .before .before .before .before .pre .0 .columns) refl) _ (c .before .before .before .before .before .before .before .before .before .pre .1) (c .before .before .before .before .before .before .before .before .before .pre .0 .most) (λ m l. ≤ℤ-trans {y = pos 940} (transMatrix-absSum-16 m l) (record { le = tt })),
+  block-fits (layout (c .before .before .before .before .before)) (source-self (c .before .before .before .before .before .before .before .before .before .pre .0 .columns) (c .before .before .before .before .before .before .before .before .before .pre .0 .long) (c .before .before .before .before .before .before .before .rows-used16 .ensures)) (unfolds-16 (layout (c .before .before .before .before .before))) (c .before .before .before .before .columns-16 .ensures) (enough-columns 16 _ (c .before .before .before .before .before .before .before .before .before .pre .0 .columns) refl) (lanes-folded (unfolds-16 (layout (c .before .before .before .before .before)))) _ (c .before .before .before .before .before .before .before .before .before .pre .1) (c .before .before .before .before .before .before .before .before .before .pre .0 .most) (λ m l. ≤ℤ-trans {y = pos 940} (transMatrix-absSum-16 m l) (record { le = tt })),
 )
 
 same-length : tie.Need-same-length
@@ -56,7 +56,7 @@ same-length c = search needs
 
 returns : tie.Need-returns
 returns c =
-    block-residual (layout (c .before .before .before .before .before .before .before)) (source-self (c .before .before .before .before .before .before .before .before .before .before .before .pre .0 .columns) (c .before .before .before .before .before .before .before .before .before .before .before .pre .0 .long) (c .before .before .before .before .before .before .before .before .before .rows-used16 .ensures)) (unfolds-16 (layout (c .before .before .before .before .before .before .before))) (c .before .before .before .before .before .before .columns-16 .ensures) (enough-columns 16 _ (c .before .before .before .before .before .before .before .before .before .before .before .pre .0 .columns) refl) _ (c .before .before .before .before .before .before .before .before .before .before .before .pre .0 .room) (c .before .rows16-16 .ensures)
+    block-residual (layout (c .before .before .before .before .before .before .before)) (source-self (c .before .before .before .before .before .before .before .before .before .before .before .pre .0 .columns) (c .before .before .before .before .before .before .before .before .before .before .before .pre .0 .long) (c .before .before .before .before .before .before .before .before .before .rows-used16 .ensures)) (unfolds-16 (layout (c .before .before .before .before .before .before .before))) (c .before .before .before .before .before .before .columns-16 .ensures) (enough-columns 16 _ (c .before .before .before .before .before .before .before .before .before .before .before .pre .0 .columns) refl) (lanes-turned (unfolds-16 (layout (c .before .before .before .before .before .before .before)))) _ (c .before .before .before .before .before .before .before .before .before .before .before .pre .0 .room) (c .before .rows16-16 .ensures)
 
 pub dct16-16-spec : {M : Type 1} → statement M
 dct16-16-spec =

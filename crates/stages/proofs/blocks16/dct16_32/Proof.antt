@@ -4,7 +4,7 @@ use mathlib.Core.Path.{refl}
 use native.Mathlib.Omega.{arith}
 use Rattle.h265.specs.Matrix.{transMatrix}
 use Rattle.transform_1d.proofs.MatrixLaws.{Laid, laid-32, transMatrix-absSum-32}
-use Rattle.stages.proofs.BlockLaws.{source-self, enough-columns, unfolds-32, source-pass, pass-two, block-residual, block-fits}
+use Rattle.stages.proofs.BlockLaws.{source-self, enough-columns, unfolds-32, lanes-plain, source-pass, pass-two, block-residual, block-fits}
 use borrow.Author.Needs.{needs}
 use Rattle.stages.proofs.blocks16.dct16_32.Statement.{statement}
 use Rattle.stages.proofs.blocks16.dct16_32.Tie as tie
@@ -45,7 +45,7 @@ rows16-32-requires c κs = (
   pass-two (layout (c .before .before .before .before .before)) (source-self (c .before .before .before .before .before .before .before .before .before .pre .0 .columns) (c .before .before .before .before .before .before .before .before .before .pre .0 .long) (c .before .before .before .before .before .before .before .rows-used16 .ensures)) (unfolds-32 (layout (c .before .before .before .before .before))) (c .before .before .before .before .columns-32 .ensures) (enough-columns 32 _ (c .before .before .before .before .before .before .before .before .before .pre .0 .columns) refl) (c .before .before .before .before .before .before .before .before .before .pre .0 .room),
   c .before .before .before .before .before .before .before .before .before .pre .0 .least,
   c .before .before .before .before .before .before .before .before .before .pre .0 .most,
-  block-fits (layout (c .before .before .before .before .before)) (source-self (c .before .before .before .before .before .before .before .before .before .pre .0 .columns) (c .before .before .before .before .before .before .before .before .before .pre .0 .long) (c .before .before .before .before .before .before .before .rows-used16 .ensures)) (unfolds-32 (layout (c .before .before .before .before .before))) (c .before .before .before .before .columns-32 .ensures) (enough-columns 32 _ (c .before .before .before .before .before .before .before .before .before .pre .0 .columns) refl) _ (c .before .before .before .before .before .before .before .before .before .pre .1) (c .before .before .before .before .before .before .before .before .before .pre .0 .most) transMatrix-absSum-32,
+  block-fits (layout (c .before .before .before .before .before)) (source-self (c .before .before .before .before .before .before .before .before .before .pre .0 .columns) (c .before .before .before .before .before .before .before .before .before .pre .0 .long) (c .before .before .before .before .before .before .before .rows-used16 .ensures)) (unfolds-32 (layout (c .before .before .before .before .before))) (c .before .before .before .before .columns-32 .ensures) (enough-columns 32 _ (c .before .before .before .before .before .before .before .before .before .pre .0 .columns) refl) (lanes-plain (layout (c .before .before .before .before .before))) _ (c .before .before .before .before .before .before .before .before .before .pre .1) (c .before .before .before .before .before .before .before .before .before .pre .0 .most) transMatrix-absSum-32,
 )
 
 same-length : tie.Need-same-length
@@ -53,7 +53,7 @@ same-length c = search needs
 
 returns : tie.Need-returns
 returns c =
-    block-residual (layout (c .before .before .before .before .before .before .before)) (source-self (c .before .before .before .before .before .before .before .before .before .before .before .pre .0 .columns) (c .before .before .before .before .before .before .before .before .before .before .before .pre .0 .long) (c .before .before .before .before .before .before .before .before .before .rows-used16 .ensures)) (unfolds-32 (layout (c .before .before .before .before .before .before .before))) (c .before .before .before .before .before .before .columns-32 .ensures) (enough-columns 32 _ (c .before .before .before .before .before .before .before .before .before .before .before .pre .0 .columns) refl) _ (c .before .before .before .before .before .before .before .before .before .before .before .pre .0 .room) (c .before .rows16-32 .ensures)
+    block-residual (layout (c .before .before .before .before .before .before .before)) (source-self (c .before .before .before .before .before .before .before .before .before .before .before .pre .0 .columns) (c .before .before .before .before .before .before .before .before .before .before .before .pre .0 .long) (c .before .before .before .before .before .before .before .before .before .rows-used16 .ensures)) (unfolds-32 (layout (c .before .before .before .before .before .before .before))) (c .before .before .before .before .before .before .columns-32 .ensures) (enough-columns 32 _ (c .before .before .before .before .before .before .before .before .before .before .before .pre .0 .columns) refl) (lanes-plain (layout (c .before .before .before .before .before .before .before))) _ (c .before .before .before .before .before .before .before .before .before .before .before .pre .0 .room) (c .before .rows16-32 .ensures)
 
 pub dct16-32-spec : {M : Type 1} → statement M
 dct16-32-spec =

@@ -8,7 +8,7 @@ use Rattle.h265.specs.Matrix.{transMatrix}
 use Rattle.transform_1d.proofs.LanesLaws.{transMatrix-within}
 use Rattle.transform_1d.proofs.MatrixLaws.{Laid, laid, transMatrix-absSum-4}
 use Rattle.stages.proofs.ScanLaws.{rowsUsed-all}
-use Rattle.stages.proofs.BlockLaws.{source-self, enough-four, unfolds-plain, source-pass, pass-two, block-residual, block-fits}
+use Rattle.stages.proofs.BlockLaws.{source-self, enough-four, unfolds-plain, lanes-plain, source-pass, pass-two, block-residual, block-fits}
 use borrow.Author.Needs.{needs}
 use Rattle.stages.proofs.blocks16.dct16_4.Statement.{statement}
 use Rattle.stages.proofs.blocks16.dct16_4.Tie as tie
@@ -40,7 +40,7 @@ rows16-4-requires c κs = (
   pass-two (layout (c .before .before .before .before .before)) (source-self {ny = 4} {coeff = c .before .before .before .before .before .before .before .before .args .coeff .now} (c .before .before .before .before .before .before .before .before .pre .0 .columns) (c .before .before .before .before .before .before .before .before .pre .0 .long) rowsUsed-all) (unfolds-plain (layout (c .before .before .before .before .before))) (c .before .before .before .before .columns-4 .ensures) (enough-four (c .before .before .before .before .before .before .before .before .pre .0 .columns)) (c .before .before .before .before .before .before .before .before .pre .0 .room),
   c .before .before .before .before .before .before .before .before .pre .0 .least,
   c .before .before .before .before .before .before .before .before .pre .0 .most,
-  block-fits (layout (c .before .before .before .before .before)) (source-self {ny = 4} {coeff = c .before .before .before .before .before .before .before .before .args .coeff .now} (c .before .before .before .before .before .before .before .before .pre .0 .columns) (c .before .before .before .before .before .before .before .before .pre .0 .long) rowsUsed-all) (unfolds-plain (layout (c .before .before .before .before .before))) (c .before .before .before .before .columns-4 .ensures) (enough-four (c .before .before .before .before .before .before .before .before .pre .0 .columns)) _ (c .before .before .before .before .before .before .before .before .pre .1) (c .before .before .before .before .before .before .before .before .pre .0 .most) (λ m l. ≤ℤ-trans {y = pos 247} (transMatrix-absSum-4 m l) (record { le = tt })),
+  block-fits (layout (c .before .before .before .before .before)) (source-self {ny = 4} {coeff = c .before .before .before .before .before .before .before .before .args .coeff .now} (c .before .before .before .before .before .before .before .before .pre .0 .columns) (c .before .before .before .before .before .before .before .before .pre .0 .long) rowsUsed-all) (unfolds-plain (layout (c .before .before .before .before .before))) (c .before .before .before .before .columns-4 .ensures) (enough-four (c .before .before .before .before .before .before .before .before .pre .0 .columns)) (lanes-plain (layout (c .before .before .before .before .before))) _ (c .before .before .before .before .before .before .before .before .pre .1) (c .before .before .before .before .before .before .before .before .pre .0 .most) (λ m l. ≤ℤ-trans {y = pos 247} (transMatrix-absSum-4 m l) (record { le = tt })),
 )
 
 same-length : tie.Need-same-length
@@ -48,7 +48,7 @@ same-length c = search needs
 
 returns : tie.Need-returns
 returns c =
-    block-residual (layout (c .before .before .before .before .before .before .before)) (source-self {ny = 4} {coeff = c .before .before .before .before .before .before .before .before .before .before .args .coeff .now} (c .before .before .before .before .before .before .before .before .before .before .pre .0 .columns) (c .before .before .before .before .before .before .before .before .before .before .pre .0 .long) rowsUsed-all) (unfolds-plain (layout (c .before .before .before .before .before .before .before))) (c .before .before .before .before .before .before .columns-4 .ensures) (enough-four (c .before .before .before .before .before .before .before .before .before .before .pre .0 .columns)) _ (c .before .before .before .before .before .before .before .before .before .before .pre .0 .room) (c .before .rows16-4 .ensures)
+    block-residual (layout (c .before .before .before .before .before .before .before)) (source-self {ny = 4} {coeff = c .before .before .before .before .before .before .before .before .before .before .args .coeff .now} (c .before .before .before .before .before .before .before .before .before .before .pre .0 .columns) (c .before .before .before .before .before .before .before .before .before .before .pre .0 .long) rowsUsed-all) (unfolds-plain (layout (c .before .before .before .before .before .before .before))) (c .before .before .before .before .before .before .columns-4 .ensures) (enough-four (c .before .before .before .before .before .before .before .before .before .before .pre .0 .columns)) (lanes-plain (layout (c .before .before .before .before .before .before .before))) _ (c .before .before .before .before .before .before .before .before .before .before .pre .0 .room) (c .before .rows16-4 .ensures)
 
 pub dct16-4-spec : {M : Type 1} → statement M
 dct16-4-spec =
