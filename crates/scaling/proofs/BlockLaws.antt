@@ -39,13 +39,15 @@ use Rattle.parameters.proofs.ParametersLaws.{known-accepted}
 use Rattle.scaling.specs.Blocks.{blockLadder, blockParams, blockWritten, dequantized, transformSkipped, entriesOf, Written, Writes}
 use Rattle.scaling.specs.Factor.{WholeList}
 use Rattle.scaling.specs.Level.{Ends}
-use Rattle.scaling.specs.Plain.{Regular, Plain}
+use Rattle.scaling.specs.Flat.{Regular}
+use Rattle.scaling.specs.Plain.{Plain}
 use Rattle.scaling.specs.Skip.{Skippable}
 use Rattle.scaling.specs.Work.{flatAt, listedAt, flatResidualAt, listedResidualAt, Room}
 use Rattle.scaling.proofs.LadderLaws.{Rung, Passed, first-accepted, first-passed, first-refused, with-value}
 use Rattle.scaling.proofs.LadderLaws.Rung.{rung}
 use Rattle.scaling.proofs.FactorLaws.{size-square}
-use Rattle.scaling.proofs.PlainLaws.{dequantOf-regular, dequantOf-plain}
+use Rattle.scaling.proofs.FlatLaws.{dequantOf-regular}
+use Rattle.scaling.proofs.PlainLaws.{dequantOf-plain}
 use Rattle.scaling.proofs.LevelLaws.{dequantOf-manageable, flatLevel-eq, listedLevel-eq}
 
 abbrev pub rungs : Bool → ℕ → ℕ → Bool → ℕ → ℕ → ℕ → List Rung

@@ -1,13 +1,18 @@
 -- Laws of sizes, and of m by the rule that supplies it.
 --   size-square                    n² is at most 1024
+--   size-large                     a size above 8 is at least 16
 --   size-last                      a size that is not 4, 8 or 16 is 32
 --   factor-four, factor-eight      at sizes 4 and 8 m is the entry at the index
 --   factor-dc, factor-repeated     at sizes 16 and 32: index 0, and the others
+--   factor-small                   both in one
+--   factor-first, factor-later     the same as the last two, by the size alone
+--   square-least                   n² is at least 256 where n is 16 or more
 --   position-16, position-32       the position that the code works out
 --   position-inside                a position in the list is below 64
 use mathlib.Core.Path.{_≡_, refl}
 use mathlib.Core.List.{List}
 use Prim.Native.Nat.{ℕ, _+_, _-_, _*_, _/_, _%_, _^_, _≤_, _<_}
+use native.Mathlib.Nat.{mul-le-mul}
 use native.Mathlib.Omega.{arith}
 use borrow.Author.Tests.{eq-eqb, ne-eqb}
 use lib.Dec.{T, lit≤}
@@ -27,6 +32,11 @@ size-last n t a b c =
     size-cases (λ m. (m ≡ 4 → ⊥) → (m ≡ 8 → ⊥) → (m ≡ 16 → ⊥) → m ≡ 32)
     (λ a b c. absurd (a refl)) (λ a b c. absurd (b refl)) (λ a b c. absurd (c refl)) (λ a b c. refl) n t a b c
 
+-- what is above 8
+pub size-large : (n : ℕ) → T (isSize n) → 8 < n → 16 ≤ n
+size-large n t h =
+    size-cases (λ m. 8 < m → 16 ≤ m) (λ k. omega arith) (λ k. omega arith) (λ k. omega arith) (λ k. omega arith) n t h
+
 -- ---- m
 module _ (es : List ℕ) (d n i : ℕ) where
   pub factor-four : n ≡ 4 → scalingFactor (listed es d) n i ≡ getD es i 0
@@ -44,6 +54,24 @@ module _ (es : List ℕ) (d n i : ℕ) where
   pub factor-repeated : (n ≡ 4 → ⊥) → (n ≡ 8 → ⊥) → (i ≡ 0 → ⊥) → scalingFactor (listed es d) n i ≡ getD es (repeatedPosition n i) 0
   unfolding scalingFactor factorSource factorBy entryOf
   factor-repeated a b z = rw (ne-eqb n 4 a, ne-eqb n 8 b, ne-eqb i 0 z)
+
+-- the same by the size alone
+pub factor-small : (es : List ℕ) (d n i : ℕ) → T (isSize n) → n ≤ 8 → scalingFactor (listed es d) n i ≡ getD es i 0
+factor-small es d n i t h =
+    size-cases (λ m. m ≤ 8 → scalingFactor (listed es d) m i ≡ getD es i 0)
+    (λ k. factor-four es d 4 i refl) (λ k. factor-eight es d 8 i (λ e. let x : ⊥ = omega arith in x) refl)
+    (λ k. absurd (let x : ⊥ = omega arith in x)) (λ k. absurd (let x : ⊥ = omega arith in x)) n t h
+
+pub factor-later : (es : List ℕ) (d n i : ℕ) → 16 ≤ n → 1 ≤ i → scalingFactor (listed es d) n i ≡ getD es (repeatedPosition n i) 0
+factor-later es d n i h k =
+    factor-repeated es d n i (λ e. let x : ⊥ = omega arith in x) (λ e. let x : ⊥ = omega arith in x) (λ e. let x : ⊥ = omega arith in x)
+
+pub factor-first : (es : List ℕ) (d n : ℕ) → 16 ≤ n → scalingFactor (listed es d) n 0 ≡ d
+factor-first es d n h =
+    factor-dc es d n 0 (λ e. let x : ⊥ = omega arith in x) (λ e. let x : ⊥ = omega arith in x) refl
+
+pub square-least : (n : ℕ) → 16 ≤ n → 256 ≤ n * n
+square-least n h = mul-le-mul h h
 
 pub position-16 : (i : ℕ) → i / 2 ^ 4 / 2 ^ (4 - 3) * 8 + i % 2 ^ 4 / 2 ^ (4 - 3) ≡ repeatedPosition 16 i
 unfolding repeatedPosition log2Size

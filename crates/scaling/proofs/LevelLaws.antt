@@ -61,10 +61,6 @@ pub levelBy-within : {p : DequantParams} (f level : ℤ) → Manageable p → Wi
 unfolding levelBy
 levelBy-within {p} f level m = clip3-within (p .«clip_min») (p .«clip_max») _ (m .ordered) (m .least) (m .most)
 
-pub flatLevel-fits : {w : Width} {p : DequantParams} (level : ℤ) → Ends w p → SFits w (flatLevel p level)
-unfolding flatLevel
-flatLevel-fits {p = p} level e = levelBy-fits (p .factor) level e
-
 pub flatLevel-within : {p : DequantParams} (level : ℤ) → Manageable p → Within 4194304 (flatLevel p level)
 unfolding flatLevel
 flatLevel-within {p} level m = levelBy-within (p .factor) level m

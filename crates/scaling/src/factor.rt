@@ -1,7 +1,9 @@
 // The scaling factor m of a list. No division: a size is a power of two.
 ghost use mathlib.Core.Path.{_≡_};
 ghost use Prim.Native.Nat.{_+_, _-_, _*_, _/_, _%_, _^_, _<_, _≤_};
+ghost use lib.Dec.{T};
 ghost use lib.ListN.{length};
+ghost use Rattle.h265.specs.Range.{isSize, log2Size};
 ghost use Rattle.h265.specs.ScalingFactor.{scalingFactor};
 ghost use Rattle.h265.specs.ScalingFactor.ScalingList.{listed};
 ghost use Rattle.scaling.specs.Answers.{factorOutcome};
@@ -18,6 +20,18 @@ fn repeated_position(index: usize, log2n: u32) -> usize
     let row = index >> log2n;
     let column = index - (row << log2n);
     (row >> repeats) * 8 + (column >> repeats)
+}
+
+// How many columns, and rows, share an entry, as a power of two.
+pub(crate) fn repeats_of(n: usize) -> u32
+    requires { ⌜ T (isSize n) ⌝ }
+    requires { ⌜ 16 ≤ n ⌝ }
+    ensures { λ r. ⌜ r ≡ log2Size n - 3 ⌝ }
+{
+    if n == 16 {
+        return 1;
+    }
+    2
 }
 
 // m at an index of a block.

@@ -2,7 +2,7 @@
 ghost use mathlib.Core.Path.{_≡_};
 ghost use Rattle.integers.specs.Within.{Within};
 ghost use Rattle.scaling.specs.Answers.{levelOutcome};
-ghost use Rattle.scaling.specs.Level.{scaledLevel, levelBy, flatLevel, listedLevel, Manageable};
+ghost use Rattle.scaling.specs.Level.{scaledLevel, levelBy, listedLevel, Manageable};
 use crate::LevelAnswer;
 use crate::ScaledLevel;
 use parameters::DequantAnswer;
@@ -20,14 +20,6 @@ fn scaled(level: i32, factor: i64, by: DequantParams) -> ScaledLevel
     ScaledLevel {
         value: integers::clip3(by.clip_min, by.clip_max, shifted) as i32,
     }
-}
-
-// A level without a list.
-pub(crate) fn scaled_flat(level: i32, by: DequantParams) -> ScaledLevel
-    requires { ⌜ Manageable by ⌝ }
-    ensures { λ r. ⌜ r .value ≡ flatLevel by level ⌝ }
-{
-    scaled(level, by.factor, by)
 }
 
 // A level with the m of a list. The block's factor is 16 times what m is multiplied by.

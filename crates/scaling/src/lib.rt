@@ -2,6 +2,7 @@
 use refusal::Refusal;
 
 mod factor;
+mod flat;
 mod level;
 mod matrix;
 mod narrow;
@@ -31,11 +32,22 @@ pub struct ScaledLevel {
     pub value: i32,
 }
 
-// The numbers of a block whose levels are scaled in 32 bits.
+// The numbers of a block without a list whose factor fits 16 bits.
 pub(crate) struct PlainParams {
     pub base: i16,
     pub add: i32,
     pub shift: u32,
+}
+
+// The numbers of any block without a list, in 32 bits.
+pub(crate) struct FlatParams {
+    pub base: i32,
+    pub add: i32,
+    pub shift: u32,
+    pub low: i32,
+    pub top: i32,
+    pub clip_min: i32,
+    pub clip_max: i32,
 }
 
 pub enum LevelAnswer {

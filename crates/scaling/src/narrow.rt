@@ -1,6 +1,6 @@
 // Blocks with 16-bit output: at depths 8 and 9 without extended precision every coefficient and every residual fits, so the casts lose nothing.
 ghost use mathlib.Core.Path.{_≡_};
-ghost use Prim.Native.Nat.{_*_};
+ghost use Prim.Native.Nat.{_+_, _*_, _<_, _≤_};
 ghost use lib.ListN.{length};
 ghost use lib.IntN.{pos};
 ghost use lib.Signed.{_≤ℤ_};
@@ -12,7 +12,7 @@ ghost use Rattle.scaling.specs.Factor.{WholeList};
 ghost use Rattle.scaling.specs.Level.{Manageable, Ends};
 ghost use Rattle.scaling.specs.Plain.{plainAt, Small};
 ghost use Rattle.scaling.specs.Skip.{Skippable};
-ghost use Rattle.scaling.specs.Work.{listedAt, flatResidualAt, listedResidualAt, Room};
+ghost use Rattle.scaling.specs.Work.{directAt, listedAt, repeatedAt, residualAt, Room, Rows, Continues};
 use crate::PlainParams;
 use crate::factor;
 use crate::level;
@@ -38,59 +38,95 @@ fn scale_plain(levels: &[i32], count: usize, by: PlainParams, out: &mut [i16])
     }
 }
 
-// The coefficients of a block with a list.
-fn scale_listed(levels: &[i32], n: usize, by: DequantParams, list: &[u8], dc: u8, out: &mut [i16])
+// The coefficients of a block of size 4 or 8 with a list: the entry at an index is its m.
+fn scale_direct(levels: &[i32], count: usize, by: DequantParams, list: &[u8], out: &mut [i16])
+    requires { ⌜ Manageable by ⌝ }
+    requires { ⌜ Room count (length (now levels)) (length (now out)) ⌝ }
+    requires { ⌜ count ≤ length (now list) ⌝ }
+    requires { ⌜ Ends w16 by ⌝ }
+    ensures { λ r. ⌜ now (out .exit) ≡ overwrite count (directAt by (now (list .entry)) (now (levels .entry))) (now (out .entry)) ⌝ }
+{
+    let mut i = 0;
+    while i < count {
+        out[i] = level::scaled_listed(levels[i], list[i], by).value as i16;
+        i += 1;
+    }
+}
+
+// One row of a block of size 16 or 32 with a list, index 0 by its entry too.
+fn scale_row(
+    levels: &[i32],
+    row: usize,
+    n: usize,
+    repeats: u32,
+    by: DequantParams,
+    list: &[u8],
+    out: &mut [i16],
+)
+    requires { ⌜ Manageable by ⌝ }
+    requires { ⌜ Room (n * n) (length (now levels)) (length (now out)) ⌝ }
+    requires { ⌜ length (now list) ≡ 64 ⌝ }
+    requires { ⌜ Rows n repeats ⌝ }
+    requires { ⌜ row < n ⌝ }
+    requires { ⌜ Ends w16 by ⌝ }
+    ensures { λ r. ⌜ Continues (repeatedAt by (now (list .entry)) n (now (levels .entry))) (row * n) (row * n + n) (now (out .entry)) (now (out .exit)) ⌝ }
+{
+    let at = row * n;
+    let entry = (row >> repeats) * 8;
+    let mut c = 0;
+    while c < n {
+        let m = list[entry + (c >> repeats)];
+        out[at + c] = level::scaled_listed(levels[at + c], m, by).value as i16;
+        c += 1;
+    }
+}
+
+// Its rows.
+fn scale_rows(
+    levels: &[i32],
+    n: usize,
+    repeats: u32,
+    by: DequantParams,
+    list: &[u8],
+    out: &mut [i16],
+)
+    requires { ⌜ Manageable by ⌝ }
+    requires { ⌜ Room (n * n) (length (now levels)) (length (now out)) ⌝ }
+    requires { ⌜ length (now list) ≡ 64 ⌝ }
+    requires { ⌜ Rows n repeats ⌝ }
+    requires { ⌜ Ends w16 by ⌝ }
+    ensures { λ r. ⌜ now (out .exit) ≡ overwrite (n * n) (repeatedAt by (now (list .entry)) n (now (levels .entry))) (now (out .entry)) ⌝ }
+{
+    let mut row = 0;
+    while row < n {
+        scale_row(levels, row, n, repeats, by, list, out);
+        row += 1;
+    }
+}
+
+// The coefficients of a block of size 16 or 32 with a list.
+fn scale_repeated(levels: &[i32], n: usize, by: DequantParams, list: &[u8], dc: u8, out: &mut [i16])
     requires { ⌜ Manageable by ⌝ }
     requires { ⌜ Room (n * n) (length (now levels)) (length (now out)) ⌝ }
     requires { ⌜ WholeList (length (now list)) n ⌝ }
+    requires { ⌜ 16 ≤ n ⌝ }
     requires { ⌜ Ends w16 by ⌝ }
     ensures { λ r. ⌜ now (out .exit) ≡ overwrite (n * n) (listedAt by (listed (now (list .entry)) dc) n (now (levels .entry))) (now (out .entry)) ⌝ }
 {
-    let count = n * n;
-    let mut i = 0;
-    while i < count {
-        let m = factor::factor_at(list, dc, n, i);
-        out[i] = level::scaled_listed(levels[i], m, by).value as i16;
-        i += 1;
-    }
+    scale_rows(levels, n, factor::repeats_of(n), by, list, out);
+    out[0] = level::scaled_listed(levels[0], dc, by).value as i16;
 }
 
-// The residuals of a block without a list.
-fn skip_flat(levels: &[i32], count: usize, by: TransformSkipParams, out: &mut [i16])
+// Coefficients turned into residuals, where they stand.
+fn skip_block(count: usize, by: TransformSkipParams, out: &mut [i16])
     requires { ⌜ Skippable by ⌝ }
-    requires { ⌜ Room count (length (now levels)) (length (now out)) ⌝ }
-    requires { ⌜ Ends w16 (by .dequant) ⌝ }
+    requires { ⌜ count ≤ length (now out) ⌝ }
     requires { ⌜ pos 1 ≤ℤ by .«tr_shift» ⌝ }
-    ensures { λ r. ⌜ now (out .exit) ≡ overwrite count (flatResidualAt by (now (levels .entry))) (now (out .entry)) ⌝ }
+    ensures { λ r. ⌜ now (out .exit) ≡ overwrite count (residualAt (by .«tr_shift») (now (out .entry))) (now (out .entry)) ⌝ }
 {
     let mut i = 0;
     while i < count {
-        out[i] = skip::residual_flat(levels[i], by) as i16;
-        i += 1;
-    }
-}
-
-// The residuals of a block with a list.
-fn skip_listed(
-    levels: &[i32],
-    n: usize,
-    by: TransformSkipParams,
-    list: &[u8],
-    dc: u8,
-    out: &mut [i16],
-)
-    requires { ⌜ Skippable by ⌝ }
-    requires { ⌜ Room (n * n) (length (now levels)) (length (now out)) ⌝ }
-    requires { ⌜ WholeList (length (now list)) n ⌝ }
-    requires { ⌜ Ends w16 (by .dequant) ⌝ }
-    requires { ⌜ pos 1 ≤ℤ by .«tr_shift» ⌝ }
-    ensures { λ r. ⌜ now (out .exit) ≡ overwrite (n * n) (listedResidualAt by (listed (now (list .entry)) dc) n (now (levels .entry))) (now (out .entry)) ⌝ }
-{
-    let count = n * n;
-    let mut i = 0;
-    while i < count {
-        let m = factor::factor_at(list, dc, n, i);
-        out[i] = skip::residual_listed(levels[i], m, by) as i16;
+        out[i] = skip::skipped(out[i] as i32, by.tr_add, by.tr_shift) as i16;
         i += 1;
     }
 }
@@ -151,8 +187,13 @@ pub fn dequantize_scaled_into_scalar_i16(
     );
     match found {
         TransformSkipAnswer::Params(by) => {
-            let dequant = by.dequant;
-            scale_listed(levels, n, dequant, list, dc, out);
+            if n <= 8 {
+                let dequant = by.dequant;
+                scale_direct(levels, n * n, dequant, list, out);
+            } else {
+                let dequant = by.dequant;
+                scale_repeated(levels, n, dequant, list, dc, out);
+            }
             Answer::Done
         }
         TransformSkipAnswer::Refused(why) => Answer::Refused(why),
@@ -182,7 +223,10 @@ pub fn dequantize_transform_skip_into_scalar_i16(
     );
     match found {
         TransformSkipAnswer::Params(by) => {
-            skip_flat(levels, n * n, by, out);
+            let count = n * n;
+            let dequant = by.dequant;
+            scale_plain(levels, count, plain::plain_params(dequant), out);
+            skip_block(count, by, out);
             Answer::Done
         }
         TransformSkipAnswer::Refused(why) => Answer::Refused(why),
@@ -214,7 +258,15 @@ pub fn dequantize_transform_skip_scaled_into_scalar_i16(
     );
     match found {
         TransformSkipAnswer::Params(by) => {
-            skip_listed(levels, n, by, list, dc, out);
+            let count = n * n;
+            if n <= 8 {
+                let dequant = by.dequant;
+                scale_direct(levels, count, dequant, list, out);
+            } else {
+                let dequant = by.dequant;
+                scale_repeated(levels, n, dequant, list, dc, out);
+            }
+            skip_block(count, by, out);
             Answer::Done
         }
         TransformSkipAnswer::Refused(why) => Answer::Refused(why),

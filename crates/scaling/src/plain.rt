@@ -1,21 +1,9 @@
 // One level in 32 bits, where R = 15 and the sixteenth of the block's factor is below 2^15: 16 bits hold both operands of the product, which the
 // compiler's vector code needs.
 ghost use mathlib.Core.Path.{_≡_};
-ghost use Rattle.scaling.specs.Level.{Manageable};
-ghost use Rattle.scaling.specs.Plain.{clip16, isPlain, plainOf, plainLevel, Plain, Small};
+ghost use Rattle.scaling.specs.Plain.{clip16, plainOf, plainLevel, Plain, Small};
 use crate::PlainParams;
 use parameters::DequantParams;
-
-// Whether a block's levels can be scaled so.
-pub(crate) fn is_plain(by: DequantParams) -> bool
-    requires { ⌜ Manageable by ⌝ }
-    ensures { λ r. ⌜ r ≡ isPlain by ⌝ }
-{
-    if by.factor < 524288 {
-        return by.clip_max < 32768;
-    }
-    false
-}
 
 // The numbers for it: the 4 bits of m = 16 are shifted out of factor and rounding.
 pub(crate) fn plain_params(by: DequantParams) -> PlainParams

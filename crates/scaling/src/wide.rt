@@ -1,19 +1,19 @@
 // Blocks with 32-bit output.
 ghost use mathlib.Core.Path.{_≡_};
-ghost use Prim.Native.Nat.{_*_};
+ghost use Prim.Native.Nat.{_+_, _*_, _<_, _≤_};
 ghost use lib.ListN.{length};
 ghost use Rattle.integers.specs.Lists.{overwrite};
 ghost use Rattle.h265.specs.ScalingFactor.ScalingList.{flat, listed};
 ghost use Rattle.scaling.specs.Blocks.{bits32, dequantized, transformSkipped, Writes};
 ghost use Rattle.scaling.specs.Factor.{WholeList};
 ghost use Rattle.scaling.specs.Level.{Manageable};
-ghost use Rattle.scaling.specs.Plain.{plainAt, Regular, Small};
+ghost use Rattle.scaling.specs.Flat.{shortAt, Short};
 ghost use Rattle.scaling.specs.Skip.{Skippable};
-ghost use Rattle.scaling.specs.Work.{flatAt, listedAt, flatResidualAt, listedResidualAt, Room};
-use crate::PlainParams;
+ghost use Rattle.scaling.specs.Work.{directAt, listedAt, repeatedAt, residualAt, Room, Rows, Coefficients, Continues};
+use crate::FlatParams;
 use crate::factor;
+use crate::flat;
 use crate::level;
-use crate::plain;
 use crate::refuse;
 use crate::skip;
 use parameters::DequantParams;
@@ -22,98 +22,110 @@ use parameters::TransformSkipAnswer;
 use parameters::TransformSkipParams;
 use refusal::Answer;
 
-// The coefficients of a block without a list, in 32 bits.
-fn scale_plain(levels: &[i32], count: usize, by: PlainParams, out: &mut [i32])
-    requires { ⌜ Small by ⌝ }
+// The coefficients of a block without a list.
+fn scale_flat(levels: &[i32], count: usize, by: FlatParams, out: &mut [i32])
+    requires { ⌜ Short by ⌝ }
     requires { ⌜ Room count (length (now levels)) (length (now out)) ⌝ }
-    ensures { λ r. ⌜ now (out .exit) ≡ overwrite count (plainAt by (now (levels .entry))) (now (out .entry)) ⌝ }
+    ensures { λ r. ⌜ now (out .exit) ≡ overwrite count (shortAt by (now (levels .entry))) (now (out .entry)) ⌝ }
 {
     let mut i = 0;
     while i < count {
-        out[i] = plain::scaled_plain(levels[i], by) as i32;
+        out[i] = flat::scaled_flat(levels[i], by);
         i += 1;
     }
 }
 
-// The same in 64 bits.
-fn scale_long(levels: &[i32], count: usize, by: DequantParams, out: &mut [i32])
+// The coefficients of a block of size 4 or 8 with a list: the entry at an index is its m.
+fn scale_direct(levels: &[i32], count: usize, by: DequantParams, list: &[u8], out: &mut [i32])
     requires { ⌜ Manageable by ⌝ }
     requires { ⌜ Room count (length (now levels)) (length (now out)) ⌝ }
-    ensures { λ r. ⌜ now (out .exit) ≡ overwrite count (flatAt by (now (levels .entry))) (now (out .entry)) ⌝ }
+    requires { ⌜ count ≤ length (now list) ⌝ }
+    ensures { λ r. ⌜ now (out .exit) ≡ overwrite count (directAt by (now (list .entry)) (now (levels .entry))) (now (out .entry)) ⌝ }
 {
     let mut i = 0;
     while i < count {
-        let scaled = level::scaled_flat(levels[i], by);
+        let scaled = level::scaled_listed(levels[i], list[i], by);
         let value = scaled.value;
         out[i] = value;
         i += 1;
     }
 }
 
-// The same in the one way or the other.
-fn scale_flat(levels: &[i32], count: usize, by: DequantParams, out: &mut [i32])
-    requires { ⌜ Manageable by ⌝ }
-    requires { ⌜ Room count (length (now levels)) (length (now out)) ⌝ }
-    requires { ⌜ Regular by ⌝ }
-    ensures { λ r. ⌜ now (out .exit) ≡ overwrite count (flatAt by (now (levels .entry))) (now (out .entry)) ⌝ }
-{
-    if plain::is_plain(by) {
-        scale_plain(levels, count, plain::plain_params(by), out);
-        return;
-    }
-    scale_long(levels, count, by, out);
-}
-
-// The coefficients of a block with a list.
-fn scale_listed(levels: &[i32], n: usize, by: DequantParams, list: &[u8], dc: u8, out: &mut [i32])
-    requires { ⌜ Manageable by ⌝ }
-    requires { ⌜ Room (n * n) (length (now levels)) (length (now out)) ⌝ }
-    requires { ⌜ WholeList (length (now list)) n ⌝ }
-    ensures { λ r. ⌜ now (out .exit) ≡ overwrite (n * n) (listedAt by (listed (now (list .entry)) dc) n (now (levels .entry))) (now (out .entry)) ⌝ }
-{
-    let count = n * n;
-    let mut i = 0;
-    while i < count {
-        let m = factor::factor_at(list, dc, n, i);
-        let scaled = level::scaled_listed(levels[i], m, by);
-        let value = scaled.value;
-        out[i] = value;
-        i += 1;
-    }
-}
-
-// The residuals of a block without a list.
-fn skip_flat(levels: &[i32], count: usize, by: TransformSkipParams, out: &mut [i32])
-    requires { ⌜ Skippable by ⌝ }
-    requires { ⌜ Room count (length (now levels)) (length (now out)) ⌝ }
-    ensures { λ r. ⌜ now (out .exit) ≡ overwrite count (flatResidualAt by (now (levels .entry))) (now (out .entry)) ⌝ }
-{
-    let mut i = 0;
-    while i < count {
-        out[i] = skip::residual_flat(levels[i], by);
-        i += 1;
-    }
-}
-
-// The residuals of a block with a list.
-fn skip_listed(
+// One row of a block of size 16 or 32 with a list, index 0 by its entry too.
+fn scale_row(
     levels: &[i32],
+    row: usize,
     n: usize,
-    by: TransformSkipParams,
+    repeats: u32,
+    by: DequantParams,
     list: &[u8],
-    dc: u8,
     out: &mut [i32],
 )
-    requires { ⌜ Skippable by ⌝ }
+    requires { ⌜ Manageable by ⌝ }
+    requires { ⌜ Room (n * n) (length (now levels)) (length (now out)) ⌝ }
+    requires { ⌜ length (now list) ≡ 64 ⌝ }
+    requires { ⌜ Rows n repeats ⌝ }
+    requires { ⌜ row < n ⌝ }
+    ensures { λ r. ⌜ Continues (repeatedAt by (now (list .entry)) n (now (levels .entry))) (row * n) (row * n + n) (now (out .entry)) (now (out .exit)) ⌝ }
+{
+    let at = row * n;
+    let entry = (row >> repeats) * 8;
+    let mut c = 0;
+    while c < n {
+        let m = list[entry + (c >> repeats)];
+        let scaled = level::scaled_listed(levels[at + c], m, by);
+        let value = scaled.value;
+        out[at + c] = value;
+        c += 1;
+    }
+}
+
+// Its rows.
+fn scale_rows(
+    levels: &[i32],
+    n: usize,
+    repeats: u32,
+    by: DequantParams,
+    list: &[u8],
+    out: &mut [i32],
+)
+    requires { ⌜ Manageable by ⌝ }
+    requires { ⌜ Room (n * n) (length (now levels)) (length (now out)) ⌝ }
+    requires { ⌜ length (now list) ≡ 64 ⌝ }
+    requires { ⌜ Rows n repeats ⌝ }
+    ensures { λ r. ⌜ now (out .exit) ≡ overwrite (n * n) (repeatedAt by (now (list .entry)) n (now (levels .entry))) (now (out .entry)) ⌝ }
+{
+    let mut row = 0;
+    while row < n {
+        scale_row(levels, row, n, repeats, by, list, out);
+        row += 1;
+    }
+}
+
+// The coefficients of a block of size 16 or 32 with a list.
+fn scale_repeated(levels: &[i32], n: usize, by: DequantParams, list: &[u8], dc: u8, out: &mut [i32])
+    requires { ⌜ Manageable by ⌝ }
     requires { ⌜ Room (n * n) (length (now levels)) (length (now out)) ⌝ }
     requires { ⌜ WholeList (length (now list)) n ⌝ }
-    ensures { λ r. ⌜ now (out .exit) ≡ overwrite (n * n) (listedResidualAt by (listed (now (list .entry)) dc) n (now (levels .entry))) (now (out .entry)) ⌝ }
+    requires { ⌜ 16 ≤ n ⌝ }
+    ensures { λ r. ⌜ now (out .exit) ≡ overwrite (n * n) (listedAt by (listed (now (list .entry)) dc) n (now (levels .entry))) (now (out .entry)) ⌝ }
 {
-    let count = n * n;
+    scale_rows(levels, n, factor::repeats_of(n), by, list, out);
+    let scaled = level::scaled_listed(levels[0], dc, by);
+    let value = scaled.value;
+    out[0] = value;
+}
+
+// Coefficients turned into residuals, where they stand.
+fn skip_block(count: usize, by: TransformSkipParams, out: &mut [i32])
+    requires { ⌜ Skippable by ⌝ }
+    requires { ⌜ count ≤ length (now out) ⌝ }
+    requires { ⌜ Coefficients count (now out) ⌝ }
+    ensures { λ r. ⌜ now (out .exit) ≡ overwrite count (residualAt (by .«tr_shift») (now (out .entry))) (now (out .entry)) ⌝ }
+{
     let mut i = 0;
     while i < count {
-        let m = factor::factor_at(list, dc, n, i);
-        out[i] = skip::residual_listed(levels[i], m, by);
+        out[i] = skip::skipped(out[i], by.tr_add, by.tr_shift);
         i += 1;
     }
 }
@@ -142,7 +154,7 @@ pub fn dequantize_into_scalar_i32(
     match found {
         TransformSkipAnswer::Params(by) => {
             let dequant = by.dequant;
-            scale_flat(levels, n * n, dequant, out);
+            scale_flat(levels, n * n, flat::flat_params(dequant), out);
             Answer::Done
         }
         TransformSkipAnswer::Refused(why) => Answer::Refused(why),
@@ -174,8 +186,13 @@ pub fn dequantize_scaled_into_scalar_i32(
     );
     match found {
         TransformSkipAnswer::Params(by) => {
-            let dequant = by.dequant;
-            scale_listed(levels, n, dequant, list, dc, out);
+            if n <= 8 {
+                let dequant = by.dequant;
+                scale_direct(levels, n * n, dequant, list, out);
+            } else {
+                let dequant = by.dequant;
+                scale_repeated(levels, n, dequant, list, dc, out);
+            }
             Answer::Done
         }
         TransformSkipAnswer::Refused(why) => Answer::Refused(why),
@@ -205,7 +222,10 @@ pub fn dequantize_transform_skip_into_scalar_i32(
     );
     match found {
         TransformSkipAnswer::Params(by) => {
-            skip_flat(levels, n * n, by, out);
+            let count = n * n;
+            let dequant = by.dequant;
+            scale_flat(levels, count, flat::flat_params(dequant), out);
+            skip_block(count, by, out);
             Answer::Done
         }
         TransformSkipAnswer::Refused(why) => Answer::Refused(why),
@@ -237,7 +257,15 @@ pub fn dequantize_transform_skip_scaled_into_scalar_i32(
     );
     match found {
         TransformSkipAnswer::Params(by) => {
-            skip_listed(levels, n, by, list, dc, out);
+            let count = n * n;
+            if n <= 8 {
+                let dequant = by.dequant;
+                scale_direct(levels, count, dequant, list, out);
+            } else {
+                let dequant = by.dequant;
+                scale_repeated(levels, n, dequant, list, dc, out);
+            }
+            skip_block(count, by, out);
             Answer::Done
         }
         TransformSkipAnswer::Refused(why) => Answer::Refused(why),

@@ -1,14 +1,16 @@
--- `scaling::wide::dequantize_into_scalar_i32` meets its contract: refused where the numbers of the block are, else what `scale_flat` wrote is what the definition says.
+-- `scaling::wide::dequantize_into_scalar_i32` meets its contract: refused where the numbers of the block are, else the coefficients that were written are the definition's.
 use mathlib.Core.Path.{_≡_, sym, ap, _∙_}
+use Prim.Native.Nat.{_*_}
 use native.Mathlib.Omega.{arith}
 use borrow.Author.Needs.{needs}
 use lib.ListN.{length}
-use Rattle.h265.specs.ScalingFactor.ScalingList.{flat}
 use Rattle.h265.specs.Scaling.{scaledAt}
+use Rattle.h265.specs.ScalingFactor.ScalingList.{flat}
 use Rattle.refusal.specs.Outcome.{refused}
 use Rattle.parameters.specs.Answers.{noTransformSkip, transformSkipOutcome}
 use Rattle.scaling.specs.Blocks.{bits32, dequantized, blockParams}
-use Rattle.scaling.proofs.BlockLaws.{Ready, ready-regular, block-ready, block-refused, flat-writes}
+use Rattle.scaling.proofs.BlockLaws.{Ready, block-ready, block-refused, flat-writes, ready-regular}
+use Rattle.scaling.proofs.FlatLaws.{flatFor-short, short-overwrite}
 use Rattle.scaling.proofs.wide.dequantize_into_scalar_i32.Statement.{statement}
 use Rattle.scaling.proofs.wide.dequantize_into_scalar_i32.Tie as tie
 
@@ -33,11 +35,13 @@ enum-known-found c = search needs
 mul-scale-flat : tie.Need-mul-scale-flat
 mul-scale-flat c = omega (arith, ready (c .before .before) .square)
 
+flat-params-requires : tie.Need-flat-params-requires
+flat-params-requires c κs = let r = ready (c .before .before) in (r .skippable .scaling, ready-regular r)
+
 scale-flat-requires : tie.Need-scale-flat-requires
 scale-flat-requires c κs =
-    let f = c .before .before .before in
-    let r = ready f in
-    (r .skippable .scaling, (r .room, ready-regular r))
+    let r = ready (c .before .before .before .before) in
+    (flatFor-short (ready-regular r) (c .before .flat-params .ensures) (r .skippable .scaling), r .room)
 
 enum-known-found-2 : tie.Need-enum-known-found-2
 enum-known-found-2 c = search needs
@@ -47,9 +51,12 @@ same-length c = search needs
 
 returns : tie.Need-returns
 returns c =
-    let f = c .before .before .before .before .before in
+    let w = c .before in
+    let k = w .before .before in
+    let f = k .before .before .before in
     let a = f .before .before .before .args in
-    flat-writes bits32 (a .n) (a .qp-prime .0) (a .bit-depth) (a .extended-precision) (a .levels .now) (a .out .now) _ (f .found .given .0 .0) (ready f) (c .before .scale-flat .ensures)
+    let written = w .scale-flat .ensures ∙ short-overwrite (ready-regular (ready f)) (k .flat-params .ensures) (a .n * a .n) (a .levels .now) (a .out .now) in
+    flat-writes bits32 (a .n) (a .qp-prime .0) (a .bit-depth) (a .extended-precision) (a .levels .now) (a .out .now) _ (f .found .given .0 .0) (ready f) written
 
 returns-2 : tie.Need-returns-2
 unfolding dequantized
@@ -63,4 +70,12 @@ pub dequantize-into-scalar-i32-spec : {M : Type 1} → statement M
 dequantize-into-scalar-i32-spec =
     tie.close
     (tie.spec
-    block-params-requires enum-known-found mul-scale-flat scale-flat-requires enum-known-found-2 same-length returns returns-2)
+    block-params-requires
+    enum-known-found
+    mul-scale-flat
+    flat-params-requires
+    scale-flat-requires
+    enum-known-found-2
+    same-length
+    returns
+    returns-2)

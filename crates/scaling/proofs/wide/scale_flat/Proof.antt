@@ -1,49 +1,84 @@
--- `scaling::wide::scale_flat` meets its contract: where the block's numbers are plain, the coefficients in 32 bits are those in 64.
-use mathlib.Core.Path.{sym, ap, subst, _∙_}
-use borrow.Author.Needs.{needs}
-use Rattle.integers.specs.Lists.{overwrite}
-use Rattle.scaling.specs.declared.PlainParams.{PlainParams}
-use Rattle.scaling.specs.Plain.{plainAt, Plain, Small}
-use Rattle.scaling.proofs.PlainLaws.{regular-plain, plainOf-small, plain-overwrite}
+-- `scaling::wide::scale_flat` meets its contract. The loop's invariant: the first i places hold their coefficients, and the others are as lent.
+use mathlib.Core.Path.{_≡_, _∙_}
+use Prim.Native.Nat.{_-_, _≤_}
+use native.Mathlib.Omega.{arith}
+use borrow.Author.Needs.{needs, sfits-of}
+use lib.IntN.{pos}
+use lib.ListN.{getD}
+use mir.Syntax.{w32}
+use mir.Val.{SFits}
+use Rattle.integers.proofs.MachineLaws.{round-trip}
+use Rattle.integers.proofs.ListsLaws.{Stored, stored-none, stored-more, stored-length, stored-all}
+use Rattle.scaling.specs.Flat.{shortAt}
 use Rattle.scaling.proofs.wide.scale_flat.Statement.{statement}
 use Rattle.scaling.proofs.wide.scale_flat.Tie as tie
 
-is-plain-requires : tie.Need-is-plain-requires
-is-plain-requires c κs = search needs
+abbrev Inv-loop : tie.InvT-loop
+Inv-loop levels count by out₀ i₀ out i = Stored (shortAt by levels) out₀ i out × (i ≤ count)
 
-plain : (c : tie.Then1) → Plain (c .before .before .args .by)
-plain c = regular-plain (c .before .before .pre .1 .1) (sym (c .before .is-plain .ensures) ∙ c .if1 .taken)
+abbrev μ-loop : tie.MeasureT-loop
+μ-loop levels count by out₀ i₀ out i = count - i
 
-plain-params-requires : tie.Need-plain-params-requires
-plain-params-requires c κs = plain c
+loop-holds : tie.Need-loop-holds Inv-loop μ-loop
+loop-holds c = (stored-none, omega arith)
 
-scale-plain-requires : tie.Need-scale-plain-requires
-scale-plain-requires c κs =
-    let t = c .before .before in
-    (subst Small (sym (c .before .plain-params .ensures)) (plainOf-small (plain t)), t .before .before .pre .1 .0)
+mul-scaled-flat : tie.Need-mul-scaled-flat Inv-loop μ-loop
+mul-scaled-flat c = search needs
 
-same-length : tie.Need-same-length
-same-length c = search needs
+shared-slice-copy-out-scaled-flat : tie.Need-shared-slice-copy-out-scaled-flat Inv-loop μ-loop
+shared-slice-copy-out-scaled-flat c = omega (arith, c .before .before .pre .1)
 
-returns : tie.Need-returns
-returns c =
-    let k = c .before .before .before in
-    let a = k .before .before .before .args in
-    c .before .scale-plain .ensures
-    ∙ ap (λ (p : PlainParams). overwrite (a .count) (plainAt p (a .levels .now)) (a .out .now)) (k .plain-params .ensures)
-    ∙ plain-overwrite (plain (k .before)) (a .count) (a .levels .now) (a .out .now)
+scaled-flat-requires : tie.Need-scaled-flat-requires Inv-loop μ-loop
+scaled-flat-requires c κs = c .before .before .before .pre .0
 
-scale-long-requires : tie.Need-scale-long-requires
-scale-long-requires c κs = search needs
+-- the level that was read, and what was worked out of it
+level-fits : (c : tie.After-scaled-flat-arg Inv-loop μ-loop) → let l = c .before .before in SFits w32 (getD (l .before .args .levels .now) (l .loop .i) (pos 0))
+level-fits c = record { sfits = c .scaled-flat-arg .given }
 
-same-length-2 : tie.Need-same-length-2
-same-length-2 c = search needs
+value-is : (c : tie.After-scaled-flat Inv-loop μ-loop)
+    → let l = c .before .before .before in let s = l .before in c .scaled-flat .result ≡ shortAt (s .args .by) (s .args .levels .now) (l .loop .i)
+unfolding shortAt
+value-is c = rw (round-trip (level-fits (c .before))) at (c .scaled-flat .ensures)
 
-returns-2 : tie.Need-returns-2
-returns-2 c = search needs
+mul-t11 : tie.Need-mul-t11 Inv-loop μ-loop
+mul-t11 c = search needs
+
+slice-set-from-out : tie.Need-slice-set-from-out Inv-loop μ-loop
+slice-set-from-out c =
+    let l = c .before .before .before in
+    omega (arith, stored-length (l .loop .inv .0), l .before .pre .1)
+
+add-i : tie.Need-add-i Inv-loop μ-loop
+add-i c = omega arith
+
+loop-less : tie.Need-loop-less Inv-loop μ-loop
+loop-less c = omega arith
+
+loop-again : tie.Need-loop-again Inv-loop μ-loop
+loop-again c =
+    let l = c .before .before .before in
+    (stored-more (l .loop .inv .0) (omega (arith, l .before .pre .1)) (round-trip (sfits-of (c .scaled-flat .ok)) ∙ value-is c), omega arith)
+
+same-length : tie.Need-same-length Inv-loop μ-loop
+same-length c = stored-length (c .before .loop .inv .0)
+
+returns : tie.Need-returns Inv-loop μ-loop
+returns c = stored-all (c .before .loop .inv .0) (omega arith)
 
 pub scale-flat-spec : {M : Type 1} → statement M
 scale-flat-spec =
     tie.close
     (tie.spec
-    is-plain-requires plain-params-requires scale-plain-requires same-length returns scale-long-requires same-length-2 returns-2)
+    Inv-loop
+    μ-loop
+    loop-holds
+    mul-scaled-flat
+    shared-slice-copy-out-scaled-flat
+    scaled-flat-requires
+    mul-t11
+    slice-set-from-out
+    add-i
+    loop-less
+    loop-again
+    same-length
+    returns)
