@@ -1,18 +1,18 @@
 //! Comparison of the crate `scaling`: m, one level, and blocks at two widths with and without a list.
+use crate::archive::scaling::Blocks;
 use crate::archive::{self, Answered};
 use crate::blocks::{self, Element, Lent, SHAPES};
 use crate::random::Random;
 use crate::reference::{self, Block};
 use crate::tally::Tally;
 
-type Ours<E> = fn(&[i32], usize, i32, u8, bool, &[u8], u8, &mut [E]) -> Answered;
 type Oracles<E> = fn(&[i32], usize, i32, u8, bool, &[u8; 64], u8, &mut [E]);
 
 /// A function of blocks, on both sides.
 pub struct Scaler<E: Element> {
     pub name: &'static str,
     pub listed: bool,
-    pub ours: Ours<E>,
+    pub ours: Blocks<E>,
     pub oracle: Oracles<E>,
 }
 
@@ -226,7 +226,7 @@ fn compare_call<E: Element>(tally: &mut Tally, scaler: &Scaler<E>, call: &Call, 
     let mut ours = Lent::<E>::filled(random, call.out_len);
     let mut expected = ours.copy();
     let levels = call.levels.clone();
-    let answered = (scaler.ours)(&call.levels, call.n, call.qp_prime, call.bit_depth, call.extended_precision, &call.list, call.dc, ours.lend());
+    let answered = scaler.ours.call(&call.levels, call.n, call.qp_prime, call.bit_depth, call.extended_precision, &call.list, call.dc, ours.lend());
     if number == 0 {
         let flat = [16; 64];
         let list = if scaler.listed { call.list.as_slice().try_into().expect("64") } else { &flat };

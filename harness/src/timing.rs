@@ -87,7 +87,7 @@ fn scalers<E: Element>(list: &mut Vec<Work>, scaler: &'static scaling::Scaler<E>
             list.push(Work {
                 label,
                 ours: Box::new(move || {
-                    black_box((scaler.ours)(black_box(&mine), n, 30, bit_depth, extended_precision, &factors, 16, black_box(&mut out)));
+                    black_box(scaler.ours.call(black_box(&mine), n, 30, bit_depth, extended_precision, &factors, 16, black_box(&mut out)));
                 }),
                 rust: Box::new(move || {
                     (scaler.oracle)(black_box(&theirs), n, 30, bit_depth, extended_precision, &factors, 16, black_box(&mut kept));
