@@ -1,27 +1,37 @@
 -- Laws of the two parts of a value.
 --   parts-join                            the parts make the value
+--   shifted-within                        a value shifted by 15, whatever is added before
 --   highPart-within, lowPart-within       both fit 16 bits, where the value is at most 2^22 in size
 --   transformLine-parts                   a line of values is made of the lines of their parts
 --   roundShift-parts                      so is its rounding, since 2^15 is a multiple of 2^s
 --   limited-within                        a limited value is at most 2^22 in size
-use mathlib.Core.Path.{_≡_, refl, sym, ap, ap₂, _∙_}
+--   tests-narrow                          what two tests say of a value that fits 16 bits
+--   narrow-zero, -suc                     no value; one value more
+use mathlib.Core.Path.{_≡_, refl, sym, ap, ap₂, _∙_, subst}
+use mathlib.Core.Bool.{false}
+use mathlib.Core.List.{List}
 use Prim.Native.Nat.{ℕ, zero, suc, _+_, _*_, _-_, _^_, _≤_, _<_}
+use native.Mathlib.Nat.{not-suc-le-zero}
+use native.Mathlib.Decide.{ℕ-discrete}
 use native.Mathlib.Omega.{arith}
-use lib.IntN.{ℤ, pos, negℤ, natAbs, _+ℤ_, _-ℤ_, _*ℤ_, pos-*ℤ-pos}
+use lib.IntN.{ℤ, pos, negsuc, negℤ, natAbs, _+ℤ_, _-ℤ_, _*ℤ_, pos-*ℤ-pos}
+use lib.ListN.{getD}
 use lib.Pow.{pow-pos, pow-add, pow-mono}
-use lib.Signed.{shrZ}
+use lib.Signed.{shrZ, ltZ, _≤ℤ_}
+use mir.Syntax.{w16}
+use mir.Val.{SFits}
 use Rattle.integers.specs.Shift.{shiftRight, roundShift}
 use Rattle.integers.specs.Sum.{sum}
 use Rattle.integers.specs.Within.{Within}
-use Rattle.integers.proofs.LinearLaws.{posPart, negPart, split, ring, diff-ext, parts-add, parts-mul, parts-neg}
-use Rattle.integers.proofs.MachineLaws.{abs-parts}
+use Rattle.integers.proofs.LinearLaws.{posPart, negPart, split, ring, diff-ext, parts-add, parts-mul, parts-neg, le-in}
+use Rattle.integers.proofs.MachineLaws.{abs-parts, ltZ-false}
 use Rattle.integers.proofs.OrderLaws.{*ℤ-assoc, shr-floor, shr-shift}
 use Rattle.integers.proofs.BoundLaws.{within-out, within-in, within-le}
 use Rattle.integers.proofs.SumLaws.{sum-zero, sum-suc, sum-cong}
 use Rattle.h265.specs.Range.{clipCoeff}
 use Rattle.h265.specs.Transform.{transformLine}
 use Rattle.h265.proofs.RangeLaws.{clipCoeff-within}
-use Rattle.stages_wide.specs.Parts.{highPart, lowPart, joinParts}
+use Rattle.stages_wide.specs.Parts.{highPart, lowPart, joinParts, Narrow}
 
 pub parts-join : (x : ℤ) → joinParts (highPart x) (lowPart x) ≡ x
 unfolding lowPart
@@ -29,6 +39,11 @@ parts-join x = regroup x (pos 32768 *ℤ highPart x)
   where
     regroup : (x y : ℤ) → y +ℤ (x -ℤ y) ≡ x
     regroup x y = rw (← split x, ← split y) (simp ring (diff-ext _ _ _ _ (omega arith)))
+
+pub shifted-within : {x : ℤ} {a : ℕ} → a ≤ 32768 → Within (2 ^ 22) x → Within 256 (shrZ (x +ℤ pos a) 32768)
+shifted-within {x} {a} l h =
+    let f = shr-floor (x +ℤ pos a) 32768 (omega arith) in
+    within-out (shrZ (x +ℤ pos a) 32768) (omega (arith, parts-add x (pos a), within-in h))
 
 pub highPart-within : {x : ℤ} → Within (2 ^ 22) x → Within 128 (highPart x)
 unfolding highPart shiftRight
@@ -77,3 +92,21 @@ roundShift-parts h l s i =
 
 pub limited-within : {r : ℕ} (z : ℤ) → r ≤ 22 → Within (2 ^ 22) (clipCoeff r z)
 limited-within {r} z h = within-le (pow-mono h) (clipCoeff-within r z)
+
+-- ---- values that fit 16 bits
+pub tests-narrow : (z : ℤ) → ltZ z (negsuc 32767) ≡ false → ltZ (pos 32767) z ≡ false → SFits w16 z
+tests-narrow z h k = by-sign z (ltZ-false h) (ltZ-false k)
+  where
+    by-sign : (z : ℤ) → negsuc 32767 ≤ℤ z → z ≤ℤ pos 32767 → SFits w16 z
+    by-sign (pos n) a b = record { sfits = omega (arith, le-in b) }
+    by-sign (negsuc n) a b = record { sfits = omega (arith, le-in a) }
+
+pub narrow-zero : {s : List ℤ} → Narrow 0 s
+narrow-zero = record { at = λ j h. absurd (not-suc-le-zero h) }
+
+pub narrow-suc : {j : ℕ} {s : List ℤ} → Narrow j s → SFits w16 (getD s j (pos 0)) → Narrow (j + 1) s
+narrow-suc {j} {s} n f =
+    record { at = λ k h. elim (ℕ-discrete k j) [ yes e ↦ subst (λ (i : ℕ). SFits w16 (getD s i (pos 0))) (sym e) f | no d ↦ n .at k (omega arith) ] }
+
+pub narrow-all : {k : ℕ} (w : ℕ) {s : List ℤ} → k ≡ w → Narrow k s → Narrow w s
+narrow-all w {s} e n = subst (λ (i : ℕ). Narrow i s) e n

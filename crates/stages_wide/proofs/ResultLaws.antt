@@ -1,7 +1,5 @@
 -- Laws that bring both stages to the standard's definitions.
 --   intermediate-cong, stageTwo-cong   stages by matrices and data that agree
-
---   limited-intermediate               stage one's transposed values, limited as stage two reads them, are the intermediate
 --   filled-stages                      both stages of a block
 --   filled-residual                    coefficients in the range need no limit: the residual
 --   filled-dct, filled-dst, layoutOf-kind-…   a kind of transform by its matrix
@@ -32,8 +30,8 @@ use Rattle.transform_1d.specs.declared.Kind.the-variants.{Dct, Dst}
 use Rattle.transform_1d.proofs.RowsLaws.{row-unique, filled-overwrite}
 use Rattle.transform_1d.proofs.MatrixLaws.{transformLine-cong}
 use Rattle.stages_wide.specs.Wide.{limitedBlock, WideAsk, DepthAsk, CoeffsInRange}
-use Rattle.stages_wide.specs.Parts.{limitedAt, LayoutOf, StagesAsk, Zeros, bothStages}
-use Rattle.stages_wide.proofs.StageLaws.{filled-cong}
+use Rattle.stages_wide.specs.Parts.{limitedAt, stageValue, RowsUsed, LayoutOf, StagesAsk, Zeros, bothStages}
+use Rattle.stages_wide.proofs.StageLaws.{clipCoeff-zero, line-short, place-column, filled-cong}
 
 module _ (t u : ℕ → ℕ → ℤ) (n : ℕ) where
   pub intermediate-cong : (r : ℕ) (d e : ℕ → ℕ → ℤ) (m c : ℕ) → ((k : ℕ) → k < n → t k m ≡ u k m) → ((k : ℕ) → k < n → d k c ≡ e k c)
@@ -63,24 +61,47 @@ intermediate-zero t n r d m c h =
     times-zero : (a : ℤ) → a *ℤ pos 0 ≡ pos 0
     times-zero a = rw (← split a) (simp ring (diff-ext _ _ _ _ (omega arith)))
 
-module _ {t : ℕ → ℕ → ℤ} {n : ℕ} {xs : List ℤ} (l : LayoutOf t n xs) {nx : ℕ} (r : ℕ) (d : ℕ → ℕ → ℤ) {g₀ g : List ℤ} (z : Zeros g₀)
-    (f : Filled n n (λ c m. stageOneValue (laneMatrix xs) n d m c) nx g₀ g) where
-  pub limited-intermediate : (m c : ℕ) → m < n → c < n → limitedAt r g (c * n + m) ≡ intermediate t n r (columnsRead nx d) m c
-  unfolding intermediate
-  limited-intermediate m c i j =
-      elim (decLt c nx) [
-        | yes y ↦ ap (clipCoeff r) (f .done c m y i)
-            ∙ intermediate-cong (laneMatrix xs) t n r d (columnsRead nx d) m c (λ k b. l .reads k m b i) (λ k b. sym (columnsRead-in nx d k c y))
-        | no e ↦ ap (clipCoeff r) (f .kept (c * n + m) (λ k b a h q. e (subst (λ (v : ℕ). v < nx) (sym (row-unique n c k m b i h q)) a)) ∙ z .at (c * n + m))
-            ∙ sym (intermediate-zero t n r (columnsRead nx d) m c (λ k b. columnsRead-past nx d k c (omega arith)))
-      ]
+-- ---- both stages
+module _ {t : ℕ → ℕ → ℤ} {n : ℕ} {xs : List ℤ} (l : LayoutOf t n xs) (coeff : List ℤ) (r gy gx : ℕ) {nx ny : ℕ} (u : RowsUsed coeff n nx ny)
+    (rows : (ny ≤ 4 * gy) × (4 * gy ≤ n)) (columns : (nx ≤ 4 * gx) × (4 * gx ≤ n)) where
+  abbrev read : ℕ → ℕ → ℤ
+  read = columnsRead nx (limitedBlock r n coeff)
 
-  pub filled-stages : (s : ℕ) {out₀ out : List ℤ} → Filled n n (stageTwo (laneMatrix xs) n s (λ m c. limitedAt r g (c * n + m))) n out₀ out
-      → Filled n n (stageTwo t n s (intermediate t n r (columnsRead nx d))) n out₀ out
-  filled-stages s p =
-      filled-cong
-      (λ m j i b. stageTwo-cong (laneMatrix xs) t n s (λ m c. limitedAt r g (c * n + m)) (intermediate t n r (columnsRead nx d)) m j
-      (λ k a. l .reads k j a b) (λ c a. limited-intermediate m c i a)) p
+  read-in : (k c : ℕ) → c < nx → read k c ≡ limitedAt r coeff (k * n + c)
+  unfolding blockAt
+  read-in k c h = columnsRead-in nx (limitedBlock r n coeff) k c h
+
+  line-one : (c m : ℕ) → c < nx → m < n → stageValue xs r coeff 1 n gy 7 c m ≡ stageOneValue t n read m c
+  unfolding stageOneValue stageOneSum
+  line-one c m h i =
+      ap (λ (z : ℤ). roundShift z 7)
+      (transformLine-cong (laneMatrix xs) t (4 * gy) (λ k. limitedAt r coeff (c * 1 + k * n)) (λ k. read k c) m (λ k a. l .reads k m (omega arith) i)
+      (λ k a. ap (λ (p : ℕ). limitedAt r coeff p) (place-column n c k) ∙ sym (read-in k c h))
+      ∙ line-short t n (4 * gy) (λ k. read k c) m (rows .1) (λ k a b. read-in k c h ∙ ap (clipCoeff r) (u .zero k c (omega arith) b h) ∙ clipCoeff-zero r))
+
+  inter-past : (m c : ℕ) → nx ≤ c → intermediate t n r read m c ≡ pos 0
+  inter-past m c h = intermediate-zero t n r read m c (λ k b. columnsRead-past nx (limitedBlock r n coeff) k c h) ∙ clipCoeff-zero r
+
+  module _ {g₀ g : List ℤ} (z : Zeros g₀) (f : Filled n n (stageValue xs r coeff 1 n gy 7) nx g₀ g) where
+    limited-intermediate : (m c : ℕ) → m < n → limitedAt r g (c * n + m) ≡ intermediate t n r read m c
+    unfolding intermediate
+    limited-intermediate m c i =
+        elim (decLt c nx) [
+          | yes y ↦ ap (clipCoeff r) (f .done c m y i ∙ line-one c m y i)
+          | no e ↦ ap (clipCoeff r) (f .kept (c * n + m) (λ k b a h q. e (subst (λ (v : ℕ). v < nx) (sym (row-unique n c k m b i h q)) a)) ∙ z .at (c * n + m))
+              ∙ clipCoeff-zero r ∙ sym (inter-past m c (omega arith))
+        ]
+
+    line-two : (s m j : ℕ) → m < n → j < n → stageValue xs r g 1 n gx s m j ≡ stageTwo t n s (intermediate t n r read) m j
+    unfolding stageTwo stageTwoSum
+    line-two s m j i h =
+        ap (λ (z : ℤ). roundShift z s)
+        (transformLine-cong (laneMatrix xs) t (4 * gx) (λ k. limitedAt r g (m * 1 + k * n)) (λ c. intermediate t n r read m c) j (λ k a. l .reads k j (omega arith) h)
+        (λ k a. ap (λ (p : ℕ). limitedAt r g p) (place-column n m k) ∙ limited-intermediate m k i)
+        ∙ line-short t n (4 * gx) (λ c. intermediate t n r read m c) j (columns .1) (λ c a b. inter-past m c (omega arith)))
+
+    pub filled-stages : (s : ℕ) {out₀ out : List ℤ} → Filled n n (stageValue xs r g 1 n gx s) n out₀ out → Filled n n (bothStages t n s r nx coeff) n out₀ out
+    filled-stages s p = filled-cong (λ m j i h. line-two s m j i h) p
 
 pub filled-residual : (t : ℕ → ℕ → ℤ) (n b r nx : ℕ) (xs : List ℤ) {out₀ out : List ℤ} → 0 < n → CoeffsInRange r n nx xs → n * n ≤ length out₀
     → Filled n n (bothStages t n (r + 5 - b) r nx xs) n out₀ out → out ≡ overwrite (n * n) (rowOrder n (residual t n b r nx xs)) out₀
@@ -125,8 +146,8 @@ module _ {kind : Kind} {n : ℕ} {xs : List ℤ} where
 pub depth-shift : {b r : ℕ} → DepthAsk b r → (4 ≤ r + 5 - b) × (r + 5 - b ≤ 12)
 depth-shift a = (a .below, omega (arith, a .above))
 
-pub stagesAsk-size : {kind : Kind} {n m b r nx sourceLength targetLength : ℕ} {xs : List ℤ}
-    → n ≡ m → WideAsk kind n r sourceLength targetLength → DepthAsk b r → CoeffsInRange r n nx xs → StagesAsk m (r + 5 - b) r nx sourceLength targetLength
+pub stagesAsk-size : {kind : Kind} {n m b r nx sourceLength targetLength : ℕ}
+    → n ≡ m → WideAsk kind n r sourceLength targetLength → DepthAsk b r → nx ≤ n → StagesAsk m (r + 5 - b) r nx sourceLength targetLength
 stagesAsk-size {b = b} {r} {nx} {sourceLength} {targetLength} e w d c =
     subst (λ (i : ℕ). StagesAsk i (r + 5 - b) r nx sourceLength targetLength) e
-    record { least = depth-shift d .0; most = depth-shift d .1; range = w .most; columns = c .columns; source = w .source; room = w .room }
+    record { least = depth-shift d .0; most = depth-shift d .1; rangeLeast = w .least; rangeMost = w .most; columns = c; source = w .source; room = w .room }

@@ -1,158 +1,204 @@
--- Laws of a stage: what the parts of a block give, line by line.
---   PartsOf                   h and l hold the parts of x c k where line c reads its place k
---   Skipped                   what a line leaves out, from its group g on, is zero
---   skipped-none, -zeroFrom   nothing is left out; groups of zero rows are
---   partsOf-ask               a pass over the parts meets what it asks
---   passValue-line            a pass over the parts gives the rounded lines of the values
---   partsOf-columns, -transposed, -rows, -column   the parts that the stages read
---   filled-cong               rows of equal values
+-- Laws of a stage: lines over limited values, in 16 bits or in two parts.
+--   placed-run                        what a run from place 0 on has placed
+--   clipCoeff-narrow, clipCoeff-zero  16 bits are inside every range, and so is 0
+--   stage-lines, stage-pass           lines over narrowed values, and over parts, meet what they ask
+--   lineValue-stage, passValue-stage  and give the lines over the limited values
+--   place-column, -row, -first        the places of a line down a column, along a row, and from place 0 on
+--   place-inside                      the lines of a whole block read inside it
+--   stageAsk-columns, -whole, -column what the stages of a block ask
+--   stageValue-all                    a line that leaves nothing out
+--   line-short                        what a line leaves out is zero
+--   filled-first, filled-cong         the one row of one line; rows of equal values
 use mathlib.Core.Path.{_≡_, refl, sym, ap, ap₂, _∙_, subst}
 use mathlib.Core.List.{List}
 use Prim.Native.Nat.{ℕ, zero, suc, _+_, _*_, _-_, _/_, _^_, _≤_, _<_}
-use native.Mathlib.Nat.{mul-le-mul-right, add-comm, mul-one, zero-add, one-mul, zero-mul}
+use native.Mathlib.Nat.{mul-le-mul-right, mul-le-mul-left, mul-one, mul-add, suc-mul, zero-add, mul-zero}
 use native.Mathlib.Omega.{arith}
 use lib.Arith.{digits-lt}
 use lib.Dec.{T}
-use lib.IntN.{ℤ, pos, _*ℤ_}
+use lib.IntN.{ℤ, pos, negℤ, _-ℤ_, _*ℤ_}
 use lib.ListN.{length, getD}
+use lib.Pow.{pow-mono, pow-pos}
+use mir.Syntax.{w16}
+use mir.Val.{SFits}
 use Rattle.integers.specs.Shift.{roundShift}
 use Rattle.integers.specs.Within.{Within}
-use Rattle.integers.proofs.LinearLaws.{split, ring, diff-ext}
+use Rattle.integers.proofs.LinearLaws.{posPart, negPart, split, ring, diff-ext, parts-add, parts-neg, le-out}
+use Rattle.integers.proofs.MachineLaws.{sfits-posPart, sfits-negPart}
 use Rattle.integers.proofs.BoundLaws.{within-eq}
 use Rattle.integers.proofs.SumLaws.{sum-short}
-use Rattle.h265.specs.Range.{isSize}
+use Rattle.h265.specs.Range.{isSize, clipCoeff, coeffMin, coeffMax}
 use Rattle.h265.specs.Transform.{transformLine}
-use Rattle.transform_1d.specs.Lanes.{laneMatrix, lineSum}
+use Rattle.h265.proofs.RangeLaws.{clipCoeff-id}
+use Rattle.transform_1d.specs.Lanes.{laneMatrix}
 use Rattle.transform_1d.specs.Rows.{Placed, Filled}
-use Rattle.stages_wide.specs.Parts.{highPart, lowPart, joinParts, limitedAt, Layout, PassAsk, passValue, ZeroFrom}
+use Rattle.transform_1d.proofs.MatrixLaws.{transformLine-cong}
+use Rattle.stages_wide.specs.Parts.{highPart, lowPart, joinParts, limitedAt, Layout, LinesAsk, lineValue, PassAsk, passValue, Narrow, StageAsk, stageValue, BlockAsk}
 use Rattle.stages_wide.proofs.PartsLaws.{parts-join, highPart-within, transformLine-parts, limited-within}
-use Rattle.stages_wide.proofs.ScanLaws.{size-fours}
+use Rattle.stages_wide.proofs.ScanLaws.{size-most, size-fours}
 
-pub record PartsOf (x : ℕ → ℕ → ℤ) (n lines lead stride : ℕ) (h l : List ℤ) : Type 0 where
-  pub high : (c k : ℕ) → c < lines → k < n → getD h (c * lead + k * stride) (pos 0) ≡ highPart (x c k)
-  pub low : (c k : ℕ) → c < lines → k < n → getD l (c * lead + k * stride) (pos 0) ≡ lowPart (x c k)
-  pub inHigh : (c k : ℕ) → c < lines → k < n → c * lead + k * stride < length h
-  pub inLow : (c k : ℕ) → c < lines → k < n → c * lead + k * stride < length l
-  pub within : (c k : ℕ) → Within (2 ^ 22) (x c k)
+pub placed-run : {w : ℕ} {f : ℕ → ℤ} {xs ys : List ℤ} → Placed 0 w f xs ys → (i : ℕ) → i < w → getD ys i (pos 0) ≡ f i
+placed-run {ys = ys} p i h = ap (λ (k : ℕ). getD ys k (pos 0)) (sym (zero-add i)) ∙ p .done i h
 
-pub record Skipped (n lines lead stride g : ℕ) (x : List ℤ) : Type 0 where
-  pub most : 4 * g ≤ n
-  pub rest : (c k : ℕ) → c < lines → 4 * g ≤ k → k < n → getD x (c * lead + k * stride) (pos 0) ≡ pos 0
+pub clipCoeff-narrow : {r : ℕ} {x : ℤ} → 15 ≤ r → SFits w16 x → clipCoeff r x ≡ x
+unfolding coeffMin coeffMax
+clipCoeff-narrow {r} {x} h f =
+    let p : posPart x < 32768 = sfits-posPart f in
+    let q : negPart x ≤ 32768 = sfits-negPart f in
+    let m : 32768 ≤ 2 ^ r = pow-mono {i = 15} {j = r} h in
+    clipCoeff-id r x (le-out (negℤ (pos (2 ^ r))) x (omega (arith, parts-neg (pos (2 ^ r)))))
+    (le-out x (pos (2 ^ r) -ℤ pos 1) (omega (arith, parts-add (pos (2 ^ r)) (negℤ (pos 1)))))
 
-pub skipped-none : {n lines lead stride : ℕ} {x : List ℤ} → T (isSize n) → Skipped n lines lead stride (n / 4) x
-skipped-none {n} t =
-    record { most = omega (arith, size-fours n t); rest = λ c k i j m. absurd (let e : ⊥ = omega (arith, size-fours n t) in e) }
+pub clipCoeff-zero : (r : ℕ) → clipCoeff r (pos 0) ≡ pos 0
+unfolding coeffMin coeffMax
+clipCoeff-zero r =
+    clipCoeff-id r (pos 0) (le-out (negℤ (pos (2 ^ r))) (pos 0) (omega (arith, parts-neg (pos (2 ^ r)))))
+    (le-out (pos 0) (pos (2 ^ r) -ℤ pos 1) (omega (arith, parts-add (pos (2 ^ r)) (negℤ (pos 1)), pow-pos r)))
 
-pub place-column : (n c k : ℕ) → c * 1 + k * n ≡ k * n + c
-place-column n c k = omega (arith, mul-one c)
-
-pub skipped-zeroFrom : {n lines g : ℕ} {x : List ℤ} → lines ≤ n → ZeroFrom g n x → Skipped n lines 1 n g x
-skipped-zeroFrom {n} {lines} {g} {x} h z =
-    record {
-      most = z .most;
-      rest = λ c k i j m.
-          ap (λ (p : ℕ). getD x p (pos 0)) (place-column n c k)
-          ∙ z .zero (k * n + c) (omega (arith, mul-le-mul-right n j)) (digits-lt {q = k} {m = n} {r = c} {c = n} m (omega arith));
-    }
-
-module _ {x : ℕ → ℕ → ℤ} {n lines lead stride : ℕ} {h l : List ℤ} (p : PartsOf x n lines lead stride h l) where
-  pub partsOf-ask : {t : List ℤ} {hg lg s room : ℕ} → Layout t n → T (isSize n) → Skipped n lines lead stride hg h → Skipped n lines lead stride lg l
-      → 4 ≤ s → s ≤ 12 → lines ≤ n → lines * n ≤ room → PassAsk n t h l lines lead stride hg lg s room
-  partsOf-ask y z a b c d e f =
-      record {
-        layout = y;
-        size = z;
-        highs = a .most;
-        lows = b .most;
-        highReads = p .inHigh;
-        lowReads = p .inLow;
-        small = λ c k i j. within-eq (p .high c k i j) (highPart-within (p .within c k));
-        least = c;
-        most = d;
-        few = e;
-        room = f;
-      }
-
-line-short : (t : ℕ → ℕ → ℤ) (n g : ℕ) (y : ℕ → ℤ) (j : ℕ) → g ≤ n → ((k : ℕ) → g ≤ k → k < n → y k ≡ pos 0) → transformLine t g y j ≡ transformLine t n y j
+pub line-short : (t : ℕ → ℕ → ℤ) (n g : ℕ) (y : ℕ → ℤ) (j : ℕ) → g ≤ n → ((k : ℕ) → g ≤ k → k < n → y k ≡ pos 0) → transformLine t g y j ≡ transformLine t n y j
 unfolding transformLine
 line-short t n g y j h z = sym (sum-short n g (λ k. t k j *ℤ y k) h (λ k a b. ap (λ (v : ℤ). t k j *ℤ v) (z k a b) ∙ times-zero (t k j)))
   where
     times-zero : (a : ℤ) → a *ℤ pos 0 ≡ pos 0
     times-zero a = rw (← split a) (simp ring (diff-ext _ _ _ _ (omega arith)))
 
-pub passValue-line : {x : ℕ → ℕ → ℤ} {n lines lead stride : ℕ} {h l : List ℤ} → PartsOf x n lines lead stride h l
-    → (t : List ℤ) (hg lg s c j : ℕ) → Skipped n lines lead stride hg h → Skipped n lines lead stride lg l → c < lines
-    → passValue t h l lead stride hg lg s c j ≡ roundShift (transformLine (laneMatrix t) n (x c) j) s
-passValue-line {x} {n} {lines} {lead} {stride} {h} {l} p t hg lg s c j a b i =
-    ap (λ (z : ℤ). roundShift z s)
-    (ap₂ joinParts
-    (line-short (laneMatrix t) n (4 * hg) (λ k. getD h (c * lead + k * stride) (pos 0)) j (a .most) (λ k m o. a .rest c k i m o))
-    (line-short (laneMatrix t) n (4 * lg) (λ k. getD l (c * lead + k * stride) (pos 0)) j (b .most) (λ k m o. b .rest c k i m o))
-    ∙ transformLine-parts (laneMatrix t) n (x c) (λ k. getD h (c * lead + k * stride) (pos 0)) (λ k. getD l (c * lead + k * stride) (pos 0)) j
-    (λ k m. ap₂ joinParts (p .high c k i m) (p .low c k i m) ∙ parts-join (x c k)))
-
--- ---- the parts that the stages read
-module _ (r : ℕ) (s : List ℤ) {h₀ h l₀ l : List ℤ} (b : r ≤ 22) where
-  pub partsOf-columns : {n nx : ℕ} → nx ≤ n → n * n ≤ length h₀ → n * n ≤ length l₀
-      → Filled n nx (λ k c. highPart (limitedAt r s (k * n + c))) n h₀ h → Filled n nx (λ k c. lowPart (limitedAt r s (k * n + c))) n l₀ l
-      → PartsOf (λ c k. limitedAt r s (k * n + c)) n nx 1 n h l
-  partsOf-columns {n} {nx} w a d f g =
+-- ---- values in 16 bits, and in two parts
+module _ {n : ℕ} {t : List ℤ} {lines lead stride groups s r w sourceLength highLength lowLength room : ℕ}
+    (a : StageAsk n t lines lead stride groups s r w sourceLength highLength lowLength room) where
+  line-ask : {x : List ℤ} → w ≤ length x → LinesAsk n t x lines lead stride groups s room
+  line-ask b =
       record {
-        high = λ c k i j. ap (λ (p : ℕ). getD h p (pos 0)) (place-column n c k) ∙ f .done k c j i;
-        low = λ c k i j. ap (λ (p : ℕ). getD l p (pos 0)) (place-column n c k) ∙ g .done k c j i;
-        inHigh = λ c k i j. omega (arith, a, f .long, place-column n c k, digits-lt {q = k} {m = n} {r = c} {c = n} j (omega arith));
-        inLow = λ c k i j. omega (arith, d, g .long, place-column n c k, digits-lt {q = k} {m = n} {r = c} {c = n} j (omega arith));
-        within = λ c k. limited-within _ b;
+        layout = a .layout;
+        size = a .size;
+        most = a .most;
+        reads = λ c k i j. omega (arith, a .reads c k i j);
+        leadMost = a .leadMost;
+        shiftLeast = a .shiftLeast;
+        shiftMost = a .shiftMost;
+        few = a .few;
+        room = a .room;
       }
 
-  module _ {w : ℕ} (a : w ≤ length h₀) (d : w ≤ length l₀) (f : Placed 0 w (λ i. highPart (limitedAt r s (0 + i))) h₀ h) (g : Placed 0 w (λ i. lowPart (limitedAt r s (0 + i))) l₀ l) where
-    run-high : (i : ℕ) → i < w → getD h i (pos 0) ≡ highPart (limitedAt r s i)
-    run-high i j = subst (λ (p : ℕ). getD h p (pos 0) ≡ highPart (limitedAt r s p)) (zero-add i) (f .done i j)
+  module _ (xs : List ℤ) {l₀ l : List ℤ} (f : Placed 0 w (λ i. getD xs i (pos 0)) l₀ l) where
+    pub stage-lines : w ≤ length l₀ → LinesAsk n t l lines lead stride groups s room
+    stage-lines b = line-ask (omega (arith, f .long))
 
-    run-low : (i : ℕ) → i < w → getD l i (pos 0) ≡ lowPart (limitedAt r s i)
-    run-low i j = subst (λ (p : ℕ). getD l p (pos 0) ≡ lowPart (limitedAt r s p)) (zero-add i) (g .done i j)
+    pub lineValue-stage : Narrow w xs → (c j : ℕ) → c < lines → lineValue t l lead stride groups s c j ≡ stageValue t r xs lead stride groups s c j
+    lineValue-stage b c j i =
+        ap (λ (z : ℤ). roundShift z s)
+        (transformLine-cong (laneMatrix t) (laneMatrix t) (4 * groups) (λ k. getD l (c * lead + k * stride) (pos 0)) (λ k. limitedAt r xs (c * lead + k * stride)) j (λ k m. refl)
+        (λ k m. placed-run f _ (a .reads c k i m) ∙ sym (clipCoeff-narrow (a .rangeLeast) (b .at _ (a .reads c k i m)))))
 
-  pub partsOf-transposed : {n : ℕ} → n * n ≤ length h₀ → n * n ≤ length l₀
-      → Placed 0 (n * n) (λ i. highPart (limitedAt r s (0 + i))) h₀ h → Placed 0 (n * n) (λ i. lowPart (limitedAt r s (0 + i))) l₀ l
-      → PartsOf (λ m c. limitedAt r s (c * n + m)) n n 1 n h l
-  partsOf-transposed {n} a d f g =
+  module _ (xs : List ℤ) {h₀ h l₀ l : List ℤ} (f : Placed 0 w (λ i. highPart (limitedAt r xs i)) h₀ h) (g : Placed 0 w (λ i. lowPart (limitedAt r xs i)) l₀ l) where
+    pub stage-pass : w ≤ length h₀ → w ≤ length l₀ → PassAsk n t h l lines lead stride groups s room
+    stage-pass b d =
+        record {
+          high = line-ask (omega (arith, f .long));
+          low = line-ask (omega (arith, g .long));
+          small = λ c k i j. within-eq (placed-run f _ (a .reads c k i j)) (highPart-within (limited-within _ (a .rangeMost)));
+        }
+
+    pub passValue-stage : (c j : ℕ) → c < lines → passValue t h l lead stride groups s c j ≡ stageValue t r xs lead stride groups s c j
+    passValue-stage c j i =
+        ap (λ (z : ℤ). roundShift z s)
+        (transformLine-parts (laneMatrix t) (4 * groups) (λ k. limitedAt r xs (c * lead + k * stride)) (λ k. getD h (c * lead + k * stride) (pos 0)) (λ k. getD l (c * lead + k * stride) (pos 0)) j
+        (λ k m. ap₂ joinParts (placed-run f _ (a .reads c k i m)) (placed-run g _ (a .reads c k i m)) ∙ parts-join (limitedAt r xs (c * lead + k * stride))))
+
+-- ---- the stages of a block
+pub place-column : (n c k : ℕ) → c * 1 + k * n ≡ k * n + c
+place-column n c k = omega (arith, mul-one c)
+
+pub place-first : (k : ℕ) → 0 * 0 + k * 1 ≡ k
+place-first k = omega (arith, mul-one k)
+
+pub place-row : (n c k : ℕ) → c * n + k * 1 ≡ c * n + k
+place-row n c k = omega (arith, mul-one k)
+
+pub place-inside : (n lead stride c k : ℕ) → lead + stride ≤ n + 1 → c < n → k < n → c * lead + k * stride < n * n
+place-inside n lead stride c k h i j =
+    omega (
+      arith,
+      mul-le-mul-right lead (let e : c ≤ n - 1 = omega arith in e),
+      mul-le-mul-right stride (let e : k ≤ n - 1 = omega arith in e),
+      mul-add (n - 1) lead stride,
+      mul-le-mul-left (n - 1) h,
+      mul-add (n - 1) n 1,
+      mul-one (n - 1),
+      suc-mul (n - 1) n,
+      ap (λ (m : ℕ). m * n) (let e : n ≡ suc (n - 1) = omega arith in e),
+    )
+
+module _ {t : List ℤ} {n r sourceLength highLength lowLength targetLength : ℕ} (a : BlockAsk t n r sourceLength highLength lowLength targetLength) where
+  pub stageAsk-columns : {count groups s : ℕ} → count ≤ n → 4 * groups ≤ n → 4 ≤ s → s ≤ 12
+      → StageAsk n t count 1 n groups s r (4 * groups * n) sourceLength highLength lowLength targetLength
+  stageAsk-columns {count} {groups} {s} b d e f =
+      let m = mul-le-mul-right n d in
       record {
-        high = λ c k i j. ap (λ (p : ℕ). getD h p (pos 0)) (place-column n c k) ∙ run-high a d f g (k * n + c) (digits-lt {q = k} {m = n} {r = c} {c = n} j i);
-        low = λ c k i j. ap (λ (p : ℕ). getD l p (pos 0)) (place-column n c k) ∙ run-low a d f g (k * n + c) (digits-lt {q = k} {m = n} {r = c} {c = n} j i);
-        inHigh = λ c k i j. omega (arith, a, f .long, place-column n c k, digits-lt {q = k} {m = n} {r = c} {c = n} j i);
-        inLow = λ c k i j. omega (arith, d, g .long, place-column n c k, digits-lt {q = k} {m = n} {r = c} {c = n} j i);
-        within = λ c k. limited-within _ b;
+        layout = a .layout;
+        size = a .size;
+        most = d;
+        reads = λ c k i j. omega (arith, place-column n c k, digits-lt {q = k} {m = 4 * groups} {r = c} {c = n} j (omega arith));
+        leadMost = omega (arith, size-most n (a .size));
+        shiftLeast = e;
+        shiftMost = f;
+        rangeLeast = a .rangeLeast;
+        rangeMost = a .rangeMost;
+        source = omega (arith, m, a .source);
+        highs = omega (arith, m, a .highs);
+        lows = omega (arith, m, a .lows);
+        few = b;
+        room = omega (arith, mul-le-mul-right n b, a .room);
       }
 
-  pub partsOf-rows : {n : ℕ} → n * n ≤ length h₀ → n * n ≤ length l₀
-      → Placed 0 (n * n) (λ i. highPart (limitedAt r s (0 + i))) h₀ h → Placed 0 (n * n) (λ i. lowPart (limitedAt r s (0 + i))) l₀ l
-      → PartsOf (λ m c. limitedAt r s (m * n + c)) n n n 1 h l
-  partsOf-rows {n} a d f g =
+  pub stageAsk-whole : {lead stride groups s : ℕ} → lead ≤ n → lead + stride ≤ n + 1 → 4 * groups ≤ n → 4 ≤ s → s ≤ 12
+      → StageAsk n t n lead stride groups s r (n * n) sourceLength highLength lowLength targetLength
+  stageAsk-whole {lead} {stride} b d g e f =
       record {
-        high = λ c k i j. ap (λ (p : ℕ). getD h p (pos 0)) (at c k) ∙ run-high a d f g (c * n + k) (digits-lt {q = c} {m = n} {r = k} {c = n} i j);
-        low = λ c k i j. ap (λ (p : ℕ). getD l p (pos 0)) (at c k) ∙ run-low a d f g (c * n + k) (digits-lt {q = c} {m = n} {r = k} {c = n} i j);
-        inHigh = λ c k i j. omega (arith, a, f .long, at c k, digits-lt {q = c} {m = n} {r = k} {c = n} i j);
-        inLow = λ c k i j. omega (arith, d, g .long, at c k, digits-lt {q = c} {m = n} {r = k} {c = n} i j);
-        within = λ c k. limited-within _ b;
+        layout = a .layout;
+        size = a .size;
+        most = g;
+        reads = λ c k i j. place-inside n lead stride c k d i (omega arith);
+        leadMost = b;
+        shiftLeast = e;
+        shiftMost = f;
+        rangeLeast = a .rangeLeast;
+        rangeMost = a .rangeMost;
+        source = a .source;
+        highs = a .highs;
+        lows = a .lows;
+        few = omega arith;
+        room = a .room;
       }
-    where
-      at : (c k : ℕ) → c * n + k * 1 ≡ c * n + k
-      at c k = omega (arith, mul-one k)
 
-  pub partsOf-column : (n column : ℕ) → n ≤ length h₀ → n ≤ length l₀
-      → Placed 0 n (λ k. highPart (limitedAt r s (k * n + column))) h₀ h → Placed 0 n (λ k. lowPart (limitedAt r s (k * n + column))) l₀ l
-      → PartsOf (λ c k. limitedAt r s (k * n + column)) n 1 0 1 h l
-  partsOf-column n column a d f g =
+  pub stageAsk-column : {length : ℕ} → length ≡ 32 → StageAsk n t 1 0 1 (n / 4) 7 r n length 32 32 32
+  stageAsk-column e =
+      let m = size-most n (a .size) in
       record {
-        high = λ c k i j. ap (λ (p : ℕ). getD h p (pos 0)) (at c k) ∙ f .done k j;
-        low = λ c k i j. ap (λ (p : ℕ). getD l p (pos 0)) (at c k) ∙ g .done k j;
-        inHigh = λ c k i j. omega (arith, a, f .long, at c k);
-        inLow = λ c k i j. omega (arith, d, g .long, at c k);
-        within = λ c k. limited-within _ b;
+        layout = a .layout;
+        size = a .size;
+        most = omega (arith, size-fours n (a .size));
+        reads = λ c k i j. omega (arith, mul-zero c, mul-one k, size-fours n (a .size));
+        leadMost = omega arith;
+        shiftLeast = omega arith;
+        shiftMost = omega arith;
+        rangeLeast = a .rangeLeast;
+        rangeMost = a .rangeMost;
+        source = omega (arith, m);
+        highs = m .1;
+        lows = m .1;
+        few = omega (arith, m);
+        room = omega (arith, m);
       }
-    where
-      at : (c k : ℕ) → c * 0 + k * 1 ≡ 0 + k
-      at c k = omega (arith, mul-one k)
+
+pub stageValue-all : (t : List ℤ) (r : ℕ) (xs : List ℤ) (lead stride n s c j : ℕ) (y : ℕ → ℤ) → T (isSize n)
+    → ((k : ℕ) → k < n → limitedAt r xs (c * lead + k * stride) ≡ y k)
+    → stageValue t r xs lead stride (n / 4) s c j ≡ roundShift (transformLine (laneMatrix t) n y j) s
+stageValue-all t r xs lead stride n s c j y z e =
+    ap (λ (i : ℕ). roundShift (transformLine (laneMatrix t) i (λ k. limitedAt r xs (c * lead + k * stride)) j) s) (size-fours n z)
+    ∙ ap (λ (v : ℤ). roundShift v s) (transformLine-cong (laneMatrix t) (laneMatrix t) n (λ k. limitedAt r xs (c * lead + k * stride)) y j (λ k m. refl) e)
+
+pub filled-first : {n : ℕ} {g : ℕ → ℕ → ℤ} {xs ys : List ℤ} → Filled n n g 1 xs ys → (m : ℕ) → m < n → getD ys m (pos 0) ≡ g 0 m
+filled-first {n} {ys = ys} p m h = ap (λ (i : ℕ). getD ys i (pos 0)) (let e : m ≡ 0 * n + m = omega arith in e) ∙ p .done 0 m (omega arith) h
 
 pub filled-cong : {n w rows : ℕ} {f g : ℕ → ℕ → ℤ} {xs ys : List ℤ} → ((r c : ℕ) → r < rows → c < w → f r c ≡ g r c) → Filled n w f rows xs ys → Filled n w g rows xs ys
 filled-cong e p = record { long = p .long; done = λ r c i j. p .done r c i j ∙ e r c i j; kept = p .kept }

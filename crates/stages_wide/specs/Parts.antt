@@ -1,4 +1,5 @@
--- A value of up to 23 bits as two parts of 16 bits, so that the 16-bit lines serve every range: x = 32768 × h + l.
+-- A value of up to 23 bits as two parts of 16 bits, so that the 16-bit lines serve every range: x = 32768 × h + l. Values that fit
+-- 16 bits as they stand need no parts.
 --   highPart, lowPart x    h = (x + 16384) >> 15, and l = x - 32768 × h
 --   joinParts h l          32768 × h + l
 --   limitedAt r xs i       place i of xs, limited to the range
@@ -6,13 +7,17 @@
 --   partsOutput            the same of the sums that two lines give
 --   Layout t n             t is a layout for n points: its length, and its small entries
 --   Sums z                 the sums of a line, with room for those of two halves; HighSums: and outputs of high parts are small
---   PassAsk                what a pass over lines asks: line c reads places c × lead, c × lead + stride, .. of h and l, and no high
---                          part there is above 128 in size, as for x of at most 2^22
---   passValue              output j of line c, rounded
---   ZeroFrom q n x         rows from 4 × q on of an n × n block are zero
+--   LinesAsk               what a pass over lines of 16-bit values asks: line c reads places c × lead, c × lead + stride, .. of x
+--   lineValue              output j of line c, rounded
+--   PassAsk                what a pass over both parts asks: no high part is above 128 in size, as for values of at most 2^22
+--   passValue              output j of line c over both parts, rounded
+--   Narrow w s             the first w values of s fit 16 bits
+--   StageAsk               what lines over values of any width ask: of the first w values of s, limited as they are read
+--   stageValue             output j of line c over limited values, rounded
+--   RowsUsed               rows from r on are zero in the first nx columns
 --   ColumnPlaced           ys is xs with f 0, .., f (m - 1) down column c
 --   Zeros x                every place of x is zero
---   StageAsk               what a stage of a block asks of its layout, its range, and the lengths of its source, its buffers and its target
+--   BlockAsk               what a stage of a block asks of its layout, its range, and the lengths of its source, its buffers and its target
 --   LayoutOf t n xs        xs is a layout that reads back as the n-point matrix t
 --   StagesAsk              what both stages of a block ask of their shift, range, column count and lengths
 --   bothStages             the residual by a matrix, for a shift, of coefficients that are limited as they are read
@@ -22,10 +27,12 @@ use Prim.Native.Nat.{ℕ, _+_, _*_, _/_, _^_, _<_, _≤_}
 use lib.Dec.{T}
 use lib.IntN.{ℤ, pos, _+ℤ_, _-ℤ_, _*ℤ_}
 use lib.ListN.{getD, length}
+use mir.Syntax.{w16}
+use mir.Val.{SFits}
 use Rattle.integers.specs.Shift.{shiftRight, roundShift}
 use Rattle.integers.specs.Within.{Within}
 use Rattle.h265.specs.Range.{clipCoeff, isSize}
-use Rattle.h265.specs.Transform.{columnsRead, intermediate, stageTwo}
+use Rattle.h265.specs.Transform.{transformLine, columnsRead, intermediate, stageTwo}
 use Rattle.transform_1d.specs.Lanes.{laneMatrix, lineSum, laneOutput, SmallEntries}
 use Rattle.stages_wide.specs.Wide.{limitedBlock}
 
@@ -41,8 +48,8 @@ joinParts h l = pos 32768 *ℤ h +ℤ l
 abbrev pub limitedAt : ℕ → List ℤ → ℕ → ℤ
 limitedAt r xs i = clipCoeff r (getD xs i (pos 0))
 
-abbrev pub partsSum : List ℤ → List ℤ → List ℤ → ℕ → ℕ → ℕ → ℕ → ℕ → ℤ
-partsSum t h l base stride hg lg j = joinParts (lineSum t h base stride hg j) (lineSum t l base stride lg j)
+abbrev pub partsSum : List ℤ → List ℤ → List ℤ → ℕ → ℕ → ℕ → ℕ → ℤ
+partsSum t h l base stride groups j = joinParts (lineSum t h base stride groups j) (lineSum t l base stride groups j)
 
 abbrev pub partsOutput : List ℤ → List ℤ → ℕ → ℕ → ℤ
 partsOutput zh zl s j = roundShift (joinParts (laneOutput zh j) (laneOutput zl j)) s
@@ -58,25 +65,54 @@ pub record HighSums (z : List ℤ) : Type 0 where
   pub sums : Sums z
   pub output : (j : ℕ) → j < 32 → Within (2 ^ 19) (laneOutput z j)
 
-pub record PassAsk (n : ℕ) (t h l : List ℤ) (lines lead stride hg lg s outLength : ℕ) : Type 0 where
+pub record LinesAsk (n : ℕ) (t x : List ℤ) (lines lead stride groups s outLength : ℕ) : Type 0 where
   pub layout : Layout t n
   pub size : T (isSize n)
-  pub highs : 4 * hg ≤ n
-  pub lows : 4 * lg ≤ n
-  pub highReads : (c k : ℕ) → c < lines → k < n → c * lead + k * stride < length h
-  pub lowReads : (c k : ℕ) → c < lines → k < n → c * lead + k * stride < length l
-  pub small : (c k : ℕ) → c < lines → k < n → Within 128 (getD h (c * lead + k * stride) (pos 0))
-  pub least : 4 ≤ s
-  pub most : s ≤ 12
+  pub most : 4 * groups ≤ n
+  pub reads : (c k : ℕ) → c < lines → k < 4 * groups → c * lead + k * stride < length x
+  pub leadMost : lead ≤ n
+  pub shiftLeast : 4 ≤ s
+  pub shiftMost : s ≤ 12
   pub few : lines ≤ n
   pub room : lines * n ≤ outLength
 
-abbrev pub passValue : List ℤ → List ℤ → List ℤ → ℕ → ℕ → ℕ → ℕ → ℕ → ℕ → ℕ → ℤ
-passValue t h l lead stride hg lg s c j = roundShift (partsSum t h l (c * lead) stride hg lg j) s
+abbrev pub lineValue : List ℤ → List ℤ → ℕ → ℕ → ℕ → ℕ → ℕ → ℕ → ℤ
+lineValue t x lead stride groups s c j = roundShift (lineSum t x (c * lead) stride groups j) s
 
-pub record ZeroFrom (q n : ℕ) (x : List ℤ) : Type 0 where
-  pub most : 4 * q ≤ n
-  pub zero : (i : ℕ) → 4 * q * n ≤ i → i < n * n → getD x i (pos 0) ≡ pos 0
+pub record PassAsk (n : ℕ) (t h l : List ℤ) (lines lead stride groups s outLength : ℕ) : Type 0 where
+  pub high : LinesAsk n t h lines lead stride groups s outLength
+  pub low : LinesAsk n t l lines lead stride groups s outLength
+  pub small : (c k : ℕ) → c < lines → k < 4 * groups → Within 128 (getD h (c * lead + k * stride) (pos 0))
+
+abbrev pub passValue : List ℤ → List ℤ → List ℤ → ℕ → ℕ → ℕ → ℕ → ℕ → ℕ → ℤ
+passValue t h l lead stride groups s c j = roundShift (partsSum t h l (c * lead) stride groups j) s
+
+pub record Narrow (w : ℕ) (s : List ℤ) : Type 0 where
+  pub at : (j : ℕ) → j < w → SFits w16 (getD s j (pos 0))
+
+pub record StageAsk (n : ℕ) (t : List ℤ) (lines lead stride groups s r w sourceLength highLength lowLength outLength : ℕ) : Type 0 where
+  pub layout : Layout t n
+  pub size : T (isSize n)
+  pub most : 4 * groups ≤ n
+  pub reads : (c k : ℕ) → c < lines → k < 4 * groups → c * lead + k * stride < w
+  pub leadMost : lead ≤ n
+  pub shiftLeast : 4 ≤ s
+  pub shiftMost : s ≤ 12
+  pub rangeLeast : 15 ≤ r
+  pub rangeMost : r ≤ 22
+  pub source : w ≤ sourceLength
+  pub highs : w ≤ highLength
+  pub lows : w ≤ lowLength
+  pub few : lines ≤ n
+  pub room : lines * n ≤ outLength
+
+abbrev pub stageValue : List ℤ → ℕ → List ℤ → ℕ → ℕ → ℕ → ℕ → ℕ → ℕ → ℤ
+stageValue t r xs lead stride groups s c j =
+    roundShift (transformLine (laneMatrix t) (4 * groups) (λ k. limitedAt r xs (c * lead + k * stride)) j) s
+
+pub record RowsUsed (coeff : List ℤ) (n nx r : ℕ) : Type 0 where
+  pub most : r ≤ n
+  pub zero : (k c : ℕ) → r ≤ k → k < n → c < nx → getD coeff (k * n + c) (pos 0) ≡ pos 0
 
 pub record ColumnPlaced (n c : ℕ) (f : ℕ → ℤ) (m : ℕ) (xs ys : List ℤ) : Type 0 where
   pub long : length ys ≡ length xs
@@ -86,10 +122,11 @@ pub record ColumnPlaced (n c : ℕ) (f : ℕ → ℤ) (m : ℕ) (xs ys : List �
 pub record Zeros (x : List ℤ) : Type 0 where
   pub at : (i : ℕ) → getD x i (pos 0) ≡ pos 0
 
-pub record StageAsk (t : List ℤ) (n r sourceLength highLength lowLength targetLength : ℕ) : Type 0 where
+pub record BlockAsk (t : List ℤ) (n r sourceLength highLength lowLength targetLength : ℕ) : Type 0 where
   pub layout : Layout t n
   pub size : T (isSize n)
-  pub range : r ≤ 22
+  pub rangeLeast : 15 ≤ r
+  pub rangeMost : r ≤ 22
   pub source : n * n ≤ sourceLength
   pub highs : n * n ≤ highLength
   pub lows : n * n ≤ lowLength
@@ -102,7 +139,8 @@ pub record LayoutOf (t : ℕ → ℕ → ℤ) (n : ℕ) (xs : List ℤ) : Type 0
 pub record StagesAsk (n s r nx sourceLength targetLength : ℕ) : Type 0 where
   pub least : 4 ≤ s
   pub most : s ≤ 12
-  pub range : r ≤ 22
+  pub rangeLeast : 15 ≤ r
+  pub rangeMost : r ≤ 22
   pub columns : nx ≤ n
   pub source : n * n ≤ sourceLength
   pub room : n * n ≤ targetLength

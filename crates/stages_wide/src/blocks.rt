@@ -1,59 +1,80 @@
-// Stages of a block over lent buffers, for a layout that the caller lends. The intermediate of a whole block stands transposed, so that
-// both stages read columns.
+// Stages of a block over lent buffers, for a layout that the caller lends.
 ghost use mathlib.Core.Path.{_≡_};
 ghost use Prim.Native.Nat.{ℕ, _+_, _*_, _<_, _≤_};
 ghost use lib.IntN.{pos};
 ghost use lib.ListN.{length, getD};
-ghost use Rattle.h265.specs.Transform.{stageOneValue, stageTwo, intermediate};
+ghost use Rattle.h265.specs.Transform.{stageTwo, intermediate};
 ghost use Rattle.transform_1d.specs.Lanes.{laneMatrix};
 ghost use Rattle.transform_1d.specs.Rows.{Filled};
 ghost use Rattle.stages_wide.specs.Wide.{limitedBlock};
-ghost use Rattle.stages_wide.specs.Parts.{limitedAt, ColumnPlaced, Layout, Zeros, StageAsk};
+ghost use Rattle.stages_wide.specs.Parts.{limitedAt, ColumnPlaced, StageAsk, stageValue, BlockAsk};
+use crate::lines::lines;
+use crate::parts::all_narrow;
+use crate::parts::column_of;
 use crate::parts::limited;
-use crate::parts::split_column;
-use crate::parts::split_columns;
-use crate::parts::split_run;
+use crate::parts::narrow;
+use crate::parts::split;
 use crate::passes::pass;
-use crate::scan::groups_used;
 
-// Stage one over the first nx columns: row c of g is column c of the intermediate before the limit.
-pub fn first_stage(
+// Lines over the first w values of s, limited as they are read: line c becomes row c of out. Values that fit 16 bits are in the range.
+fn stage(
     t: &[i16],
     n: usize,
-    range: u32,
-    nx: usize,
-    coeff: &[i32],
-    h: &mut [i16],
-    l: &mut [i16],
-    g: &mut [i32],
-)
-    requires { ⌜ StageAsk (now t) n range (length (now coeff)) (length (now h)) (length (now l)) (length (now g)) × (nx ≤ n) × Zeros (now h) × Zeros (now l) ⌝ }
-    ensures { λ _. ⌜ Filled n n (λ c m. stageOneValue (laneMatrix (now (t .entry))) n (limitedBlock range n (now (coeff .entry))) m c) nx (now (g .entry)) (now (g .exit)) × (length (now (h .exit)) ≡ length (now (h .entry))) × (length (now (l .exit)) ≡ length (now (l .entry))) ⌝ }
-{
-    split_columns(coeff, n, nx, range, h, l);
-    let highs = groups_used(h, n);
-    let lows = groups_used(l, n);
-    pass(t, n, h, l, nx, 1, n, highs, lows, 7, g);
-}
-
-// Stage two over a transposed intermediate, limited as it is read.
-pub fn second_stage(
-    t: &[i16],
-    n: usize,
+    count: usize,
+    lead: usize,
+    stride: usize,
+    groups: usize,
     shift: u32,
     range: u32,
-    g: &[i32],
+    s: &[i32],
+    w: usize,
     h: &mut [i16],
     l: &mut [i16],
     out: &mut [i32],
 )
-    requires { ⌜ StageAsk (now t) n range (length (now g)) (length (now h)) (length (now l)) (length (now out)) × (4 ≤ shift) × (shift ≤ 12) ⌝ }
-    ensures { λ _. ⌜ Filled n n (stageTwo (laneMatrix (now (t .entry))) n shift (λ m c. limitedAt range (now (g .entry)) (c * n + m))) n (now (out .entry)) (now (out .exit)) ⌝ }
+    requires { ⌜ StageAsk n (now t) count lead stride groups shift range w (length (now s)) (length (now h)) (length (now l)) (length (now out)) ⌝ }
+    ensures { λ _. ⌜ Filled n n (stageValue (now (t .entry)) range (now (s .entry)) lead stride groups shift) count (now (out .entry)) (now (out .exit)) × (length (now (h .exit)) ≡ length (now (h .entry))) × (length (now (l .exit)) ≡ length (now (l .entry))) ⌝ }
 {
-    split_run(g, 0, n * n, range, h, l);
-    let highs = groups_used(h, n);
-    let lows = groups_used(l, n);
-    pass(t, n, h, l, n, 1, n, highs, lows, shift, out);
+    if all_narrow(s, w) {
+        narrow(s, w, l);
+        lines(t, n, l, count, lead, stride, groups, shift, out);
+    } else {
+        split(s, w, range, h, l);
+        pass(t, n, h, l, count, lead, stride, groups, shift, out);
+    }
+}
+
+// Lines down the first columns of a block, over groups of four rows. The lines become rows, so that the stage after it reads columns too.
+pub fn columns(
+    t: &[i16],
+    n: usize,
+    count: usize,
+    groups: usize,
+    shift: u32,
+    range: u32,
+    s: &[i32],
+    h: &mut [i16],
+    l: &mut [i16],
+    out: &mut [i32],
+)
+    requires { ⌜ BlockAsk (now t) n range (length (now s)) (length (now h)) (length (now l)) (length (now out)) × (count ≤ n) × (4 * groups ≤ n) × (4 ≤ shift) × (shift ≤ 12) ⌝ }
+    ensures { λ _. ⌜ Filled n n (stageValue (now (t .entry)) range (now (s .entry)) 1 n groups shift) count (now (out .entry)) (now (out .exit)) × (length (now (h .exit)) ≡ length (now (h .entry))) × (length (now (l .exit)) ≡ length (now (l .entry))) ⌝ }
+{
+    stage(
+        t,
+        n,
+        count,
+        1,
+        n,
+        groups,
+        shift,
+        range,
+        s,
+        4 * groups * n,
+        h,
+        l,
+        out,
+    );
 }
 
 // Stage two over an intermediate in row order, limited as it is read.
@@ -67,11 +88,10 @@ pub fn rows(
     l: &mut [i16],
     out: &mut [i32],
 )
-    requires { ⌜ StageAsk (now t) n range (length (now inter)) (length (now h)) (length (now l)) (length (now out)) × (4 ≤ shift) × (shift ≤ 12) ⌝ }
+    requires { ⌜ BlockAsk (now t) n range (length (now inter)) (length (now h)) (length (now l)) (length (now out)) × (4 ≤ shift) × (shift ≤ 12) ⌝ }
     ensures { λ _. ⌜ Filled n n (stageTwo (laneMatrix (now (t .entry))) n shift (limitedBlock range n (now (inter .entry)))) n (now (out .entry)) (now (out .exit)) ⌝ }
 {
-    split_run(inter, 0, n * n, range, h, l);
-    pass(t, n, h, l, n, n, 1, n / 4, n / 4, shift, out);
+    stage(t, n, n, n, 1, n / 4, shift, range, inter, n * n, h, l, out);
 }
 
 // The first n values of r, limited, down one column.
@@ -88,20 +108,34 @@ fn put_column(r: &[i32; 32], n: usize, range: u32, inter: &mut [i32], column: us
 
 // One column of the intermediate.
 pub fn column_into(t: &[i16], n: usize, range: u32, coeff: &[i32], column: usize, inter: &mut [i32])
-    requires { ⌜ StageAsk (now t) n range (length (now coeff)) 1024 1024 (length (now inter)) × (column < n) ⌝ }
+    requires { ⌜ BlockAsk (now t) n range (length (now coeff)) 1024 1024 (length (now inter)) × (column < n) ⌝ }
     ensures { λ _. ⌜ ColumnPlaced n column (λ m. intermediate (laneMatrix (now (t .entry))) n range (limitedBlock range n (now (coeff .entry))) m column) n (now (inter .entry)) (now (inter .exit)) ⌝ }
 {
     let mut h = [0i16; 32];
     let mut l = [0i16; 32];
     let mut r = [0i32; 32];
-    split_column(coeff, n, column, range, &mut h[..], &mut l[..]);
-    pass(t, n, &h[..], &l[..], 1, 0, 1, n / 4, n / 4, 7, &mut r[..]);
+    let x = column_of(coeff, n, column);
+    stage(
+        t,
+        n,
+        1,
+        0,
+        1,
+        n / 4,
+        7,
+        range,
+        &x[..],
+        n,
+        &mut h[..],
+        &mut l[..],
+        &mut r[..],
+    );
     put_column(&r, n, range, inter, column);
 }
 
 // All columns of the intermediate.
 pub fn columns_into(t: &[i16], n: usize, range: u32, coeff: &[i32], inter: &mut [i32])
-    requires { ⌜ StageAsk (now t) n range (length (now coeff)) 1024 1024 (length (now inter)) ⌝ }
+    requires { ⌜ BlockAsk (now t) n range (length (now coeff)) 1024 1024 (length (now inter)) ⌝ }
     ensures { λ _. ⌜ Filled n n (intermediate (laneMatrix (now (t .entry))) n range (limitedBlock range n (now (coeff .entry)))) n (now (inter .entry)) (now (inter .exit)) ⌝ }
 {
     let mut c: usize = 0;

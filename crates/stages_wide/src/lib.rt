@@ -1,10 +1,14 @@
-// Both stages on 32-bit data, for every range from 15 to 22: extended precision, and blocks that are edited. A value is split into two
-// parts of 16 bits, so that the lines of the plain range serve here too. Internal: no refusal; callers meet each `requires`.
-mod parts; // the limit to the range, and the split into two parts
+// Both stages on 32-bit data, for every range from 15 to 22: extended precision, and blocks that are edited. The lines of the plain
+// range serve here too: where the values of a stage do not all fit 16 bits, each is split into two parts that do.
+// Internal: no refusal; callers meet each `requires`.
+mod parts; // values in 16 bits, or limited to the range and split into two parts
 mod scan; // which rows of a block are in use
-mod passes; // lines over both parts, joined and rounded
+mod outputs; // the outputs of a line, rounded or joined of both parts
+mod lines; // lines over 16-bit values
+mod passes; // lines over both parts
 mod blocks; // stages of a block over lent buffers
-mod sizes; // layouts by kind and size, and both stages with buffers of a size's own length
+mod layouts; // layouts by kind and size
+mod sizes; // both stages with buffers of a size's own length
 
 ghost use mathlib.Core.Path.{_≡_};
 ghost use Prim.Native.Nat.{ℕ, _+_, _*_, _<_, _≤_};
@@ -16,7 +20,7 @@ ghost use Rattle.stages_wide.specs.Wide.{columnReplaced, limitedBlock, W
 use crate::blocks::column_into;
 use crate::blocks::columns_into;
 use crate::blocks::rows;
-use crate::sizes::layout;
+use crate::layouts::layout;
 use crate::sizes::stages_4;
 use crate::sizes::stages_8;
 use crate::sizes::stages_16;

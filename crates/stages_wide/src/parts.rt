@@ -1,12 +1,15 @@
-// Values limited to the range, and their split into a high and a low part of 16 bits.
+// Values in 16 bits: as they stand where they fit, else limited to the range and split into a high and a low part.
 ghost use mathlib.Core.Path.{_≡_};
+ghost use mathlib.Core.Bool.{true, false};
 ghost use Prim.Native.Nat.{ℕ, _+_, _*_, _<_, _≤_, _^_};
 ghost use lib.IntN.{pos};
 ghost use lib.ListN.{length, getD};
+ghost use mir.Syntax.{w16};
+ghost use mir.Val.{SFits};
 ghost use Rattle.integers.specs.Within.{Within};
 ghost use Rattle.h265.specs.Range.{coeffMin, coeffMax, clipCoeff};
-ghost use Rattle.transform_1d.specs.Rows.{Placed, Filled};
-ghost use Rattle.stages_wide.specs.Parts.{highPart, lowPart, limitedAt};
+ghost use Rattle.transform_1d.specs.Rows.{Placed};
+ghost use Rattle.stages_wide.specs.Parts.{highPart, lowPart, limitedAt, Narrow};
 
 // The least value of the range.
 fn least(range: u32) -> i32
@@ -56,42 +59,68 @@ fn low(x: i32) -> i16
     (x - 32768 * ((x + 16384) >> 15)) as i16
 }
 
-// The parts of w values from place at on.
-pub fn split_run(s: &[i32], at: usize, w: usize, range: u32, h: &mut [i16], l: &mut [i16])
-    requires { ⌜ (range ≤ 22) × (at + w ≤ length (now s)) × (at + w ≤ length (now h)) × (at + w ≤ length (now l)) ⌝ }
-    ensures { λ _. ⌜ Placed at w (λ j. highPart (limitedAt range (now (s .entry)) (at + j))) (now (h .entry)) (now (h .exit)) × Placed at w (λ j. lowPart (limitedAt range (now (s .entry)) (at + j))) (now (l .entry)) (now (l .exit)) ⌝ }
+// Whether x takes more than 16 bits.
+fn is_wide(x: i32) -> bool
+    ensures { λ r. ⌜ (r ≡ false → SFits w16 x) ⌝ }
+{
+    if x < -32768 {
+        return true;
+    }
+    32767 < x
+}
+
+// Whether the first w values all fit 16 bits. No early end: so the compiler tests several at a time.
+pub fn all_narrow(s: &[i32], w: usize) -> bool
+    requires { ⌜ w ≤ length (now s) ⌝ }
+    ensures { λ r. ⌜ (r ≡ true → Narrow w (now (s .entry))) ⌝ }
+{
+    let mut fits = true;
+    let mut j: usize = 0;
+    while j < w {
+        if is_wide(s[j]) {
+            fits = false;
+        }
+        j += 1;
+    }
+    fits
+}
+
+// The first w values, in 16 bits.
+pub fn narrow(s: &[i32], w: usize, l: &mut [i16])
+    requires { ⌜ (w ≤ length (now s)) × (w ≤ length (now l)) × Narrow w (now s) ⌝ }
+    ensures { λ _. ⌜ Placed 0 w (λ j. getD (now (s .entry)) j (pos 0)) (now (l .entry)) (now (l .exit)) ⌝ }
 {
     let mut j: usize = 0;
     while j < w {
-        let x = limited(s[at + j], range);
-        h[at + j] = high(x);
-        l[at + j] = low(x);
+        l[j] = s[j] as i16;
         j += 1;
     }
 }
 
-// The parts of the first nx columns. Other columns may hold anything and are not read.
-pub fn split_columns(s: &[i32], n: usize, nx: usize, range: u32, h: &mut [i16], l: &mut [i16])
-    requires { ⌜ (range ≤ 22) × (n ≤ 32) × (nx ≤ n) × (n * n ≤ length (now s)) × (n * n ≤ length (now h)) × (n * n ≤ length (now l)) ⌝ }
-    ensures { λ _. ⌜ Filled n nx (λ k c. highPart (limitedAt range (now (s .entry)) (k * n + c))) n (now (h .entry)) (now (h .exit)) × Filled n nx (λ k c. lowPart (limitedAt range (now (s .entry)) (k * n + c))) n (now (l .entry)) (now (l .exit)) ⌝ }
+// The parts of the first w values, limited as they are read.
+pub fn split(s: &[i32], w: usize, range: u32, h: &mut [i16], l: &mut [i16])
+    requires { ⌜ (range ≤ 22) × (w ≤ length (now s)) × (w ≤ length (now h)) × (w ≤ length (now l)) ⌝ }
+    ensures { λ _. ⌜ Placed 0 w (λ j. highPart (limitedAt range (now (s .entry)) j)) (now (h .entry)) (now (h .exit)) × Placed 0 w (λ j. lowPart (limitedAt range (now (s .entry)) j)) (now (l .entry)) (now (l .exit)) ⌝ }
 {
-    let mut k: usize = 0;
-    while k < n {
-        split_run(s, k * n, nx, range, h, l);
-        k += 1;
+    let mut j: usize = 0;
+    while j < w {
+        let x = limited(s[j], range);
+        h[j] = high(x);
+        l[j] = low(x);
+        j += 1;
     }
 }
 
-// The parts of one column, from place 0 on.
-pub fn split_column(s: &[i32], n: usize, column: usize, range: u32, h: &mut [i16], l: &mut [i16])
-    requires { ⌜ (range ≤ 22) × (n ≤ 32) × (column < n) × (n * n ≤ length (now s)) × (n ≤ length (now h)) × (n ≤ length (now l)) ⌝ }
-    ensures { λ _. ⌜ Placed 0 n (λ k. highPart (limitedAt range (now (s .entry)) (k * n + column))) (now (h .entry)) (now (h .exit)) × Placed 0 n (λ k. lowPart (limitedAt range (now (s .entry)) (k * n + column))) (now (l .entry)) (now (l .exit)) ⌝ }
+// One column of a block, from place 0 on.
+pub fn column_of(s: &[i32], n: usize, column: usize) -> [i32; 32]
+    requires { ⌜ (n ≤ 32) × (column < n) × (n * n ≤ length (now s)) ⌝ }
+    ensures { λ r. ⌜ (length r ≡ 32) × ((k : ℕ) → k < n → getD r k (pos 0) ≡ getD (now (s .entry)) (k * n + column) (pos 0)) ⌝ }
 {
+    let mut r = [0i32; 32];
     let mut k: usize = 0;
     while k < n {
-        let x = limited(s[k * n + column], range);
-        h[k] = high(x);
-        l[k] = low(x);
+        r[k] = s[k * n + column];
         k += 1;
     }
+    r
 }

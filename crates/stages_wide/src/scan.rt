@@ -1,15 +1,13 @@
-// Rows in use: a line leaves out groups of four rows that are zero, and so the whole high part where no value is large.
+// Rows in use: a line leaves out groups of four rows that are zero.
 ghost use mathlib.Core.Path.{_≡_};
 ghost use mathlib.Core.Bool.{true};
 ghost use Prim.Native.Nat.{ℕ, _+_, _*_, _<_, _≤_};
-ghost use lib.Dec.{T};
 ghost use lib.IntN.{pos};
 ghost use lib.ListN.{length, getD};
-ghost use Rattle.h265.specs.Range.{isSize};
-ghost use Rattle.stages_wide.specs.Parts.{ZeroFrom};
+ghost use Rattle.stages_wide.specs.Parts.{RowsUsed};
 
 // Whether w values from place at on are all zero.
-fn zero_run(x: &[i16], at: usize, w: usize) -> bool
+fn zero_run(x: &[i32], at: usize, w: usize) -> bool
     requires { ⌜ at + w ≤ length (now x) ⌝ }
     ensures { λ r. ⌜ (r ≡ true → (i : ℕ) → i < w → getD (now (x .entry)) (at + i) (pos 0) ≡ pos 0) ⌝ }
 {
@@ -23,17 +21,17 @@ fn zero_run(x: &[i16], at: usize, w: usize) -> bool
     true
 }
 
-// Groups of four rows up to the last one in use, in a block of size n.
-pub fn groups_used(x: &[i16], n: usize) -> usize
-    requires { ⌜ T (isSize n) × (n * n ≤ length (now x)) ⌝ }
-    ensures { λ r. ⌜ ZeroFrom r n (now (x .entry)) ⌝ }
+// One past the last row with a coefficient other than zero in its first nx columns.
+pub fn rows_used(coeff: &[i32], n: usize, nx: usize) -> usize
+    requires { ⌜ (n * n ≤ length (now coeff)) × (nx ≤ n) × (n ≤ 32) ⌝ }
+    ensures { λ r. ⌜ RowsUsed (now (coeff .entry)) n nx r ⌝ }
 {
-    let mut q = n / 4;
-    while 0 < q {
-        if !zero_run(x, 4 * (q - 1) * n, 4 * n) {
-            return q;
+    let mut k = n;
+    while 0 < k {
+        if !zero_run(coeff, (k - 1) * n, nx) {
+            return k;
         }
-        q -= 1;
+        k -= 1;
     }
-    q
+    k
 }

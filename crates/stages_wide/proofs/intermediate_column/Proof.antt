@@ -22,7 +22,7 @@ slice-aggregate-column-into c = search needs
 column-into-requires : tie.Need-column-into-requires
 column-into-requires c κs =
     let a = c .before .before .before .pre .0 in
-    (record { layout = c .before .before .layout .ensures .layout; size = a .size; range = a .most; source = a .source; highs = square-most (c .before .before .before .args .n) (a .size); lows = square-most (c .before .before .before .args .n) (a .size); room = a .room }, c .before .before .before .pre .1)
+    (record { layout = c .before .before .layout .ensures .layout; size = a .size; rangeLeast = a .least; rangeMost = a .most; source = a .source; highs = square-most (c .before .before .before .args .n) (a .size); lows = square-most (c .before .before .before .args .n) (a .size); room = a .room }, c .before .before .before .pre .1)
 
 same-length : tie.Need-same-length
 same-length c = search needs

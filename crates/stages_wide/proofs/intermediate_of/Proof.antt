@@ -24,7 +24,7 @@ slice-aggregate-columns-into c = search needs
 columns-into-requires : tie.Need-columns-into-requires
 columns-into-requires c κs =
     let a = c .before .before .before .pre in
-    record { layout = c .before .before .layout .ensures .layout; size = a .size; range = a .most; source = a .source; highs = square-most (c .before .before .before .args .n) (a .size); lows = square-most (c .before .before .before .args .n) (a .size); room = a .room }
+    record { layout = c .before .before .layout .ensures .layout; size = a .size; rangeLeast = a .least; rangeMost = a .most; source = a .source; highs = square-most (c .before .before .before .args .n) (a .size); lows = square-most (c .before .before .before .args .n) (a .size); room = a .room }
 
 same-length : tie.Need-same-length
 same-length c = search needs

@@ -36,7 +36,7 @@ slice-aggregate-rows-3 c = search needs
 rows-requires : tie.Need-rows-requires
 rows-requires c κs =
     let a = c .before .before .before .before .before .pre .0 in
-    (record { layout = c .before .before .before .before .layout .ensures .layout; size = a .size; range = a .most; source = a .source; highs = square-most (c .before .before .before .before .before .args .n) (a .size); lows = square-most (c .before .before .before .before .before .args .n) (a .size); room = a .room }, depth-shift (c .before .before .before .before .before .pre .1) .0, depth-shift (c .before .before .before .before .before .pre .1) .1)
+    (record { layout = c .before .before .before .before .layout .ensures .layout; size = a .size; rangeLeast = a .least; rangeMost = a .most; source = a .source; highs = square-most (c .before .before .before .before .before .args .n) (a .size); lows = square-most (c .before .before .before .before .before .args .n) (a .size); room = a .room }, depth-shift (c .before .before .before .before .before .pre .1) .0, depth-shift (c .before .before .before .before .before .pre .1) .1)
 
 same-length : tie.Need-same-length
 same-length c = search needs

@@ -22,7 +22,7 @@ at-dst : (c : tie.After-enum-told) → c .before .before .args .n ≡ 4
 at-dst c = c .before .before .pre .0 .dst (c .enum-told .given .1)
 
 stages-dst-requires : tie.Need-stages-dst-requires
-stages-dst-requires c κs = stagesAsk-size (at-dst (c .before)) (c .before .before .before .pre .0) (c .before .before .before .pre .1) (c .before .before .before .pre .2)
+stages-dst-requires c κs = stagesAsk-size (at-dst (c .before)) (c .before .before .before .pre .0) (c .before .before .before .pre .1) (omega (arith, c .before .before .before .pre .2 .columns))
 
 enum-told-2 : tie.Need-enum-told-2
 enum-told-2 c = search needs
@@ -31,16 +31,16 @@ at-32 : (c : tie.At-match2-rest) → c .before .before .before .args .n ≡ 32
 at-32 c = let r = c .match2 .rest in size-else (c .before .before .before .args .n) (c .before .before .before .pre .0 .size) (r .0 .0 .1) (r .0 .1) (r .1)
 
 stages-4-requires : tie.Need-stages-4-requires
-stages-4-requires c κs = stagesAsk-size (c .before .match2 .keys1) (c .before .before .before .before .pre .0) (c .before .before .before .before .pre .1) (c .before .before .before .before .pre .2)
+stages-4-requires c κs = stagesAsk-size (c .before .match2 .keys1) (c .before .before .before .before .pre .0) (c .before .before .before .before .pre .1) (omega (arith, c .before .before .before .before .pre .2 .columns))
 
 stages-8-requires : tie.Need-stages-8-requires
-stages-8-requires c κs = stagesAsk-size (c .before .match2 .keys2) (c .before .before .before .before .pre .0) (c .before .before .before .before .pre .1) (c .before .before .before .before .pre .2)
+stages-8-requires c κs = stagesAsk-size (c .before .match2 .keys2) (c .before .before .before .before .pre .0) (c .before .before .before .before .pre .1) (omega (arith, c .before .before .before .before .pre .2 .columns))
 
 stages-16-requires : tie.Need-stages-16-requires
-stages-16-requires c κs = stagesAsk-size (c .before .match2 .keys3) (c .before .before .before .before .pre .0) (c .before .before .before .before .pre .1) (c .before .before .before .before .pre .2)
+stages-16-requires c κs = stagesAsk-size (c .before .match2 .keys3) (c .before .before .before .before .pre .0) (c .before .before .before .before .pre .1) (omega (arith, c .before .before .before .before .pre .2 .columns))
 
 stages-32-requires : tie.Need-stages-32-requires
-stages-32-requires c κs = stagesAsk-size (at-32 (c .before)) (c .before .before .before .before .pre .0) (c .before .before .before .before .pre .1) (c .before .before .before .before .pre .2)
+stages-32-requires c κs = stagesAsk-size (at-32 (c .before)) (c .before .before .before .before .pre .0) (c .before .before .before .before .pre .1) (omega (arith, c .before .before .before .before .pre .2 .columns))
 
 same-length : tie.Need-same-length
 same-length c = search needs

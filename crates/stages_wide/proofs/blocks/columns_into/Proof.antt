@@ -23,7 +23,7 @@ loop-holds c = (omega arith, filled-columns-zero)
 column-into-requires : tie.Need-column-into-requires Inv-loop μ-loop
 column-into-requires c κs =
     let a = c .before .before .before .pre in
-    (record { layout = a .layout; size = a .size; range = a .range; source = a .source; highs = a .highs; lows = a .lows; room = omega (arith, a .room, c .before .before .loop .inv .1 .long) }, omega arith)
+    (record { layout = a .layout; size = a .size; rangeLeast = a .rangeLeast; rangeMost = a .rangeMost; source = a .source; highs = a .highs; lows = a .lows; room = omega (arith, a .room, c .before .before .loop .inv .1 .long) }, omega arith)
 
 add-c : tie.Need-add-c Inv-loop μ-loop
 add-c c = omega arith

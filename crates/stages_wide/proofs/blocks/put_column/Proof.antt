@@ -31,7 +31,7 @@ element-copy-out-limited : tie.Need-element-copy-out-limited Inv-loop μ-loop
 element-copy-out-limited c = omega arith
 
 limited-requires : tie.Need-limited-requires Inv-loop μ-loop
-limited-requires c κs = c .before .before .before .pre .0
+limited-requires c κs = omega (arith, c .before .before .before .pre .0)
 
 the-place : (c : tie.After-limited Inv-loop μ-loop)
     → (c .before .before .before .loop .m * c .before .before .before .before .args .n + (c .before .before .before .before .args .column + 1) ≤ c .before .before .before .before .args .n * c .before .before .before .before .args .n)

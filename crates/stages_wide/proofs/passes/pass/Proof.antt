@@ -19,7 +19,7 @@ pass-16-requires : tie.Need-pass-16-requires
 pass-16-requires c κs = passAsk-size (c .before .match .keys3) (c .before .before .pre)
 
 is-32 : (c : tie.At-match-rest) → c .before .args .n ≡ 32
-is-32 c = let r = c .match .rest in size-else (c .before .args .n) (c .before .pre .size) (r .0 .0 .1) (r .0 .1) (r .1)
+is-32 c = let r = c .match .rest in size-else (c .before .args .n) (c .before .pre .low .size) (r .0 .0 .1) (r .0 .1) (r .1)
 
 pass-32-requires : tie.Need-pass-32-requires
 pass-32-requires c κs = passAsk-size (is-32 (c .before)) (c .before .before .pre)

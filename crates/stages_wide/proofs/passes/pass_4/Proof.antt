@@ -6,40 +6,40 @@ use lib.ListN.{length}
 use Rattle.transform_1d.specs.Rows.{Filled}
 use Rattle.transform_1d.proofs.RowsLaws.{filled-zero, filled-all}
 use Rattle.stages_wide.specs.Parts.{passValue}
-use Rattle.stages_wide.proofs.PassLaws.{passAsk-high, passAsk-low, passAsk-place, passAsk-row, lineSums-sums, lineSums-high, filled-line}
+use Rattle.stages_wide.proofs.PassLaws.{linesAsk-line, linesAsk-place, linesAsk-row, lineSums-sums, lineSums-high, filled-lines}
 use Rattle.stages_wide.proofs.passes.pass_4.Statement.{statement}
 use Rattle.stages_wide.proofs.passes.pass_4.Tie as tie
 
 abbrev Inv-loop : tie.InvT-loop
-Inv-loop t h l lines lead stride hg lg shift out₀ c₀ out c = (c ≤ lines) × Filled 4 4 (passValue t h l lead stride hg lg shift) c out₀ out
+Inv-loop t h l lines lead stride groups shift out₀ c₀ out c = (c ≤ lines) × Filled 4 4 (passValue t h l lead stride groups shift) c out₀ out
 
 abbrev μ-loop : tie.MeasureT-loop
-μ-loop t h l lines lead stride hg lg shift out₀ c₀ out c = lines - c
+μ-loop t h l lines lead stride groups shift out₀ c₀ out c = lines - c
 
 loop-holds : tie.Need-loop-holds Inv-loop μ-loop
 loop-holds c = (omega arith, filled-zero)
 
 mul-idct-raw-4 : tie.Need-mul-idct-raw-4 Inv-loop μ-loop
-mul-idct-raw-4 c = omega (arith, passAsk-place (c .before .before .pre) (c .before .loop .c) (omega arith))
+mul-idct-raw-4 c = omega (arith, linesAsk-place (c .before .before .pre .low) (c .before .loop .c) (omega arith))
 
 idct-raw-4-requires : tie.Need-idct-raw-4-requires Inv-loop μ-loop
-idct-raw-4-requires c κs = passAsk-high (c .before .before .pre) (c .before .loop .c) (omega arith)
+idct-raw-4-requires c κs = linesAsk-line (c .before .before .pre .high) (c .before .loop .c) (omega arith)
 
 mul-idct-raw-4-2 : tie.Need-mul-idct-raw-4-2 Inv-loop μ-loop
-mul-idct-raw-4-2 c = omega (arith, passAsk-place (c .before .before .before .pre) (c .before .before .loop .c) (omega arith))
+mul-idct-raw-4-2 c = omega (arith, linesAsk-place (c .before .before .before .pre .low) (c .before .before .loop .c) (omega arith))
 
 idct-raw-4-requires-2 : tie.Need-idct-raw-4-requires-2 Inv-loop μ-loop
-idct-raw-4-requires-2 c κs = passAsk-low (c .before .before .before .pre) (c .before .before .loop .c) (omega arith)
+idct-raw-4-requires-2 c κs = linesAsk-line (c .before .before .before .pre .low) (c .before .before .loop .c) (omega arith)
 
 join-requires : tie.Need-join-requires Inv-loop μ-loop
 join-requires c κs =
-    (lineSums-high (c .before .before .before .before .before .before .pre) (c .before .before .before .before .before .loop .c) (omega arith) (c .before .before .before .idct-raw-4 .ensures), lineSums-sums (c .before .before .idct-raw-42 .ensures), c .before .before .before .before .before .before .pre .least, c .before .before .before .before .before .before .pre .most)
+    (lineSums-high (c .before .before .before .before .before .before .pre) (c .before .before .before .before .before .loop .c) (omega arith) (c .before .before .before .idct-raw-4 .ensures), lineSums-sums (c .before .before .idct-raw-42 .ensures), c .before .before .before .before .before .before .pre .low .shiftLeast, c .before .before .before .before .before .before .pre .low .shiftMost)
 
 mul-put : tie.Need-mul-put Inv-loop μ-loop
-mul-put c = omega (arith, c .before .before .before .before .before .before .before .before .before .pre .few)
+mul-put c = omega (arith, c .before .before .before .before .before .before .before .before .before .pre .low .few)
 
 put-requires : tie.Need-put-requires Inv-loop μ-loop
-put-requires c κs = (omega arith, omega (arith, passAsk-row (c .before .before .before .before .before .before .before .before .before .pre) (c .before .before .before .before .before .before .before .before .loop .c) (omega arith), c .before .before .before .before .before .before .before .before .loop .inv .1 .long))
+put-requires c κs = (omega arith, omega (arith, linesAsk-row (c .before .before .before .before .before .before .before .before .before .pre .low) (c .before .before .before .before .before .before .before .before .loop .c) (omega arith), c .before .before .before .before .before .before .before .before .loop .inv .1 .long))
 
 add-c : tie.Need-add-c Inv-loop μ-loop
 add-c c = omega arith
@@ -50,7 +50,7 @@ loop-less c = omega arith
 loop-again : tie.Need-loop-again Inv-loop μ-loop
 loop-again c = (
   omega arith,
-  filled-line (c .before .before .before .before .before .before .before .before .before .before .before .args .lead) (c .before .before .before .before .before .before .before .before .before .before .before .args .shift) (c .before .before .before .before .join .result) (omega arith) (c .before .before .before .before .before .before .before .before .idct-raw-4 .ensures) (c .before .before .before .before .before .before .before .idct-raw-42 .ensures) (c .before .before .before .before .join .ensures) (c .before .before .before .before .before .before .before .before .before .before .loop .inv .1) (c .before .put .ensures),
+  filled-lines (c .before .before .before .before .before .before .before .before .before .before .before .args .lead) (c .before .before .before .before .before .before .before .before .before .before .before .args .shift) (c .before .before .before .before .join .result) (omega arith) (c .before .before .before .before .before .before .before .before .idct-raw-4 .ensures) (c .before .before .before .before .before .before .before .idct-raw-42 .ensures) (c .before .before .before .before .join .ensures) (c .before .before .before .before .before .before .before .before .before .before .loop .inv .1) (c .before .put .ensures),
 )
 
 same-length : tie.Need-same-length Inv-loop μ-loop

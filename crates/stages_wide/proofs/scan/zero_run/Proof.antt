@@ -7,7 +7,7 @@ use borrow.Author.Count.{below-more}
 use lib.Dec.{T}
 use lib.IntN.{pos}
 use lib.ListN.{getD}
-use mir.Syntax.{w16}
+use mir.Syntax.{w32}
 use Rattle.integers.proofs.MachineLaws.{eq-bits}
 use Rattle.stages_wide.proofs.scan.zero_run.Statement.{statement}
 use Rattle.stages_wide.proofs.scan.zero_run.Tie as tie
@@ -41,7 +41,7 @@ loop-less c = omega arith
 
 loop-again : tie.Need-loop-again Inv-loop μ-loop
 loop-again c =
-    (omega arith, below-more _ _ (c .before .before .before .loop .inv .1) (eq-bits {w = w16} (record { sfits = c .before .if12 .given }) (c .if1 .left)))
+    (omega arith, below-more _ _ (c .before .before .before .loop .inv .1) (eq-bits {w = w32} (record { sfits = c .before .if12 .given }) (c .if1 .left)))
 
 returns-2 : tie.Need-returns-2 Inv-loop μ-loop
 returns-2 c = λ e k l. c .before .loop .inv .1 k (omega arith)
