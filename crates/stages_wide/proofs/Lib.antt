@@ -7,3 +7,4 @@ pub mod StageLaws
 pub mod ColumnLaws
 pub mod LayoutLaws
 pub mod ResultLaws
+pub mod DcLaws

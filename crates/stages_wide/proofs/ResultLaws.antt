@@ -1,9 +1,13 @@
 -- Laws that bring both stages to the standard's definitions.
 --   intermediate-cong, stageTwo-cong   stages by matrices and data that agree
+--   columnsRead-in, -past              a column read, and one that is not
+--   intermediate-past                  the intermediate of a column that is not read
 --   filled-stages                      both stages of a block
 --   filled-residual                    coefficients in the range need no limit: the residual
+--   filled-sized, filled-count         a size, and a column count, by another name
 --   filled-dct, filled-dst, layoutOf-kind-…   a kind of transform by its matrix
---   depth-shift, stagesAsk-size        what a depth and a range make of the shift; a size by another name
+--   depth-shift, stagesAsk-wide        what a depth and a range make of the shift
+--   stagesAsk-size                     a size by another name, with another count
 use mathlib.Core.Path.{_≡_, refl, sym, ap, ap₂, _∙_, subst}
 use mathlib.Core.Bool.{Bool, true, false, cond}
 use mathlib.Core.List.{List}
@@ -44,7 +48,7 @@ module _ (t u : ℕ → ℕ → ℤ) (n : ℕ) where
   unfolding stageTwo stageTwoSum
   stageTwo-cong s f g m j h k = ap (λ (z : ℤ). roundShift z s) (transformLine-cong t u n (λ c. f m c) (λ c. g m c) j h k)
 
-columnsRead-in : (nx : ℕ) (d : ℕ → ℕ → ℤ) (k c : ℕ) → c < nx → columnsRead nx d k c ≡ d k c
+pub columnsRead-in : (nx : ℕ) (d : ℕ → ℕ → ℤ) (k c : ℕ) → c < nx → columnsRead nx d k c ≡ d k c
 unfolding columnsRead
 columnsRead-in nx d k c h = rw (lt-ltb c nx h)
 
@@ -60,6 +64,9 @@ intermediate-zero t n r d m c h =
   where
     times-zero : (a : ℤ) → a *ℤ pos 0 ≡ pos 0
     times-zero a = rw (← split a) (simp ring (diff-ext _ _ _ _ (omega arith)))
+
+pub intermediate-past : (t : ℕ → ℕ → ℤ) (n r nx : ℕ) (d : ℕ → ℕ → ℤ) (m c : ℕ) → nx ≤ c → intermediate t n r (columnsRead nx d) m c ≡ pos 0
+intermediate-past t n r nx d m c h = intermediate-zero t n r (columnsRead nx d) m c (λ k b. columnsRead-past nx d k c h) ∙ clipCoeff-zero r
 
 -- ---- both stages
 module _ {t : ℕ → ℕ → ℤ} {n : ℕ} {xs : List ℤ} (l : LayoutOf t n xs) (coeff : List ℤ) (r gy gx : ℕ) {nx ny : ℕ} (u : RowsUsed coeff n nx ny)
@@ -79,9 +86,6 @@ module _ {t : ℕ → ℕ → ℤ} {n : ℕ} {xs : List ℤ} (l : LayoutOf t n x
       (λ k a. ap (λ (p : ℕ). limitedAt r coeff p) (place-column n c k) ∙ sym (read-in k c h))
       ∙ line-short t n (4 * gy) (λ k. read k c) m (rows .1) (λ k a b. read-in k c h ∙ ap (clipCoeff r) (u .zero k c (omega arith) b h) ∙ clipCoeff-zero r))
 
-  inter-past : (m c : ℕ) → nx ≤ c → intermediate t n r read m c ≡ pos 0
-  inter-past m c h = intermediate-zero t n r read m c (λ k b. columnsRead-past nx (limitedBlock r n coeff) k c h) ∙ clipCoeff-zero r
-
   module _ {g₀ g : List ℤ} (z : Zeros g₀) (f : Filled n n (stageValue xs r coeff 1 n gy 7) nx g₀ g) where
     limited-intermediate : (m c : ℕ) → m < n → limitedAt r g (c * n + m) ≡ intermediate t n r read m c
     unfolding intermediate
@@ -89,7 +93,7 @@ module _ {t : ℕ → ℕ → ℤ} {n : ℕ} {xs : List ℤ} (l : LayoutOf t n x
         elim (decLt c nx) [
           | yes y ↦ ap (clipCoeff r) (f .done c m y i ∙ line-one c m y i)
           | no e ↦ ap (clipCoeff r) (f .kept (c * n + m) (λ k b a h q. e (subst (λ (v : ℕ). v < nx) (sym (row-unique n c k m b i h q)) a)) ∙ z .at (c * n + m))
-              ∙ clipCoeff-zero r ∙ sym (inter-past m c (omega arith))
+              ∙ clipCoeff-zero r ∙ sym (intermediate-past t n r nx (limitedBlock r n coeff) m c (omega arith))
         ]
 
     line-two : (s m j : ℕ) → m < n → j < n → stageValue xs r g 1 n gx s m j ≡ stageTwo t n s (intermediate t n r read) m j
@@ -98,7 +102,7 @@ module _ {t : ℕ → ℕ → ℤ} {n : ℕ} {xs : List ℤ} (l : LayoutOf t n x
         ap (λ (z : ℤ). roundShift z s)
         (transformLine-cong (laneMatrix xs) t (4 * gx) (λ k. limitedAt r g (m * 1 + k * n)) (λ c. intermediate t n r read m c) j (λ k a. l .reads k j (omega arith) h)
         (λ k a. ap (λ (p : ℕ). limitedAt r g p) (place-column n m k) ∙ limited-intermediate m k i)
-        ∙ line-short t n (4 * gx) (λ c. intermediate t n r read m c) j (columns .1) (λ c a b. inter-past m c (omega arith)))
+        ∙ line-short t n (4 * gx) (λ c. intermediate t n r read m c) j (columns .1) (λ c a b. intermediate-past t n r nx (limitedBlock r n coeff) m c (omega arith)))
 
     pub filled-stages : (s : ℕ) {out₀ out : List ℤ} → Filled n n (stageValue xs r g 1 n gx s) n out₀ out → Filled n n (bothStages t n s r nx coeff) n out₀ out
     filled-stages s p = filled-cong (λ m j i h. line-two s m j i h) p
@@ -120,18 +124,24 @@ filled-residual t n b r nx xs {out₀} {out} h a w p =
           | no e ↦ columnsRead-past nx (limitedBlock r n xs) k c (omega arith) ∙ sym (columnsRead-past nx (blockAt n xs) k c (omega arith))
         ]
 
-module _ {kind : Kind} {n m : ℕ} (s r nx : ℕ) (xs : List ℤ) {out₀ out : List ℤ} (e : n ≡ m) where
-  pub filled-dct : kind ≡ Dct → Filled m m (bothStages (transMatrix m) m s r nx xs) m out₀ out → Filled n n (bothStages (matrixOf kind n) n s r nx xs) n out₀ out
-  unfolding matrixOf
-  filled-dct k p =
-      subst (λ (κ : Kind). Filled n n (bothStages (matrixOf κ n) n s r nx xs) n out₀ out) (sym k)
-      (subst (λ (i : ℕ). Filled i i (bothStages (transMatrix i) i s r nx xs) i out₀ out) (sym e) p)
+module _ {n m : ℕ} (s r nx : ℕ) (xs : List ℤ) {out₀ out : List ℤ} (e : n ≡ m) where
+  pub filled-sized : Filled m m (bothStages (transMatrix m) m s r nx xs) m out₀ out → Filled n n (bothStages (transMatrix n) n s r nx xs) n out₀ out
+  filled-sized p = subst (λ (i : ℕ). Filled i i (bothStages (transMatrix i) i s r nx xs) i out₀ out) (sym e) p
 
-  pub filled-dst : kind ≡ Dst → Filled m m (bothStages dstMatrix m s r nx xs) m out₀ out → Filled n n (bothStages (matrixOf kind n) n s r nx xs) n out₀ out
+  pub filled-dst : {kind : Kind} → kind ≡ Dst → Filled m m (bothStages dstMatrix m s r nx xs) m out₀ out → Filled n n (bothStages (matrixOf kind n) n s r nx xs) n out₀ out
   unfolding matrixOf
   filled-dst k p =
       subst (λ (κ : Kind). Filled n n (bothStages (matrixOf κ n) n s r nx xs) n out₀ out) (sym k)
       (subst (λ (i : ℕ). Filled i i (bothStages dstMatrix i s r nx xs) i out₀ out) (sym e) p)
+
+pub filled-count : {n nx mx : ℕ} (t : ℕ → ℕ → ℤ) (s r : ℕ) (xs : List ℤ) {out₀ out : List ℤ} → nx ≡ mx
+    → Filled n n (bothStages t n s r mx xs) n out₀ out → Filled n n (bothStages t n s r nx xs) n out₀ out
+filled-count {n} t s r xs {out₀} {out} e p = subst (λ (i : ℕ). Filled n n (bothStages t n s r i xs) n out₀ out) (sym e) p
+
+pub filled-dct : {kind : Kind} {n : ℕ} (s r nx : ℕ) (xs : List ℤ) {out₀ out : List ℤ} → kind ≡ Dct
+    → Filled n n (bothStages (transMatrix n) n s r nx xs) n out₀ out → Filled n n (bothStages (matrixOf kind n) n s r nx xs) n out₀ out
+unfolding matrixOf
+filled-dct {n = n} s r nx xs {out₀} {out} k p = subst (λ (κ : Kind). Filled n n (bothStages (matrixOf κ n) n s r nx xs) n out₀ out) (sym k) p
 
 module _ {kind : Kind} {n : ℕ} {xs : List ℤ} where
   pub layoutOf-kind-dct : kind ≡ Dct → LayoutOf (transMatrix n) n xs → LayoutOf (matrixOf kind n) n xs
@@ -146,8 +156,13 @@ module _ {kind : Kind} {n : ℕ} {xs : List ℤ} where
 pub depth-shift : {b r : ℕ} → DepthAsk b r → (4 ≤ r + 5 - b) × (r + 5 - b ≤ 12)
 depth-shift a = (a .below, omega (arith, a .above))
 
-pub stagesAsk-size : {kind : Kind} {n m b r nx sourceLength targetLength : ℕ}
-    → n ≡ m → WideAsk kind n r sourceLength targetLength → DepthAsk b r → nx ≤ n → StagesAsk m (r + 5 - b) r nx sourceLength targetLength
-stagesAsk-size {b = b} {r} {nx} {sourceLength} {targetLength} e w d c =
-    subst (λ (i : ℕ). StagesAsk i (r + 5 - b) r nx sourceLength targetLength) e
+pub stagesAsk-wide : {kind : Kind} {n b r nx sourceLength targetLength : ℕ}
+    → WideAsk kind n r sourceLength targetLength → DepthAsk b r → nx ≤ n → StagesAsk n (r + 5 - b) r nx sourceLength targetLength
+stagesAsk-wide w d c =
     record { least = depth-shift d .0; most = depth-shift d .1; rangeLeast = w .least; rangeMost = w .most; columns = c; source = w .source; room = w .room }
+
+pub stagesAsk-size : {n m s r nx mx sourceLength targetLength : ℕ}
+    → n ≡ m → StagesAsk n s r nx sourceLength targetLength → mx ≤ n → StagesAsk m s r mx sourceLength targetLength
+stagesAsk-size {s = s} {r} {mx = mx} {sourceLength} {targetLength} e a c =
+    subst (λ (i : ℕ). StagesAsk i s r mx sourceLength targetLength) e
+    record { least = a .least; most = a .most; rangeLeast = a .rangeLeast; rangeMost = a .rangeMost; columns = c; source = a .source; room = a .room }

@@ -1,14 +1,18 @@
 // Stages of a block over lent buffers, for a layout that the caller lends.
 ghost use mathlib.Core.Path.{_≡_};
 ghost use Prim.Native.Nat.{ℕ, _+_, _*_, _<_, _≤_};
+ghost use lib.Dec.{T};
 ghost use lib.IntN.{pos};
 ghost use lib.ListN.{length, getD};
+ghost use Rattle.h265.specs.Matrix.{transMatrix};
+ghost use Rattle.h265.specs.Range.{isSize};
 ghost use Rattle.h265.specs.Transform.{stageTwo, intermediate};
 ghost use Rattle.transform_1d.specs.Lanes.{laneMatrix};
-ghost use Rattle.transform_1d.specs.Rows.{Filled};
+ghost use Rattle.transform_1d.specs.Rows.{Placed, Filled};
 ghost use Rattle.stages_wide.specs.Wide.{limitedBlock};
-ghost use Rattle.stages_wide.specs.Parts.{limitedAt, ColumnPlaced, StageAsk, stageValue, BlockAsk};
+ghost use Rattle.stages_wide.specs.Parts.{limitedAt, ColumnPlaced, StageAsk, stageValue, RowsUsed, BlockAsk, StagesAsk, bothStages};
 use crate::lines::lines;
+use crate::outputs::rounded;
 use crate::parts::all_narrow;
 use crate::parts::column_of;
 use crate::parts::limited;
@@ -143,4 +147,26 @@ pub fn columns_into(t: &[i16], n: usize, range: u32, coeff: &[i32], inter: &mut 
         column_into(t, n, range, coeff, c, inter);
         c += 1;
     }
+}
+
+// v in the first w places.
+fn fill(v: i32, w: usize, out: &mut [i32])
+    requires { ⌜ w ≤ length (now out) ⌝ }
+    ensures { λ _. ⌜ Placed 0 w (λ i. v) (now (out .entry)) (now (out .exit)) ⌝ }
+{
+    let mut i: usize = 0;
+    while i < w {
+        out[i] = v;
+        i += 1;
+    }
+}
+
+// A DCT's block whose only coefficient is the first: row 0 of every DCT's matrix is 64, so that all outputs are equal.
+pub fn dc_fill(n: usize, shift: u32, range: u32, coeff: &[i32], out: &mut [i32])
+    requires { ⌜ T (isSize n) × StagesAsk n shift range 1 (length (now coeff)) (length (now out)) × RowsUsed (now coeff) n 1 1 ⌝ }
+    ensures { λ _. ⌜ Filled n n (bothStages (transMatrix n) n shift range 1 (now (coeff .entry))) n (now (out .entry)) (now (out .exit)) ⌝ }
+{
+    let d = limited(coeff[0], range);
+    let g = limited(rounded(64 * d, 7), range);
+    fill(rounded(64 * g, shift), n * n, out);
 }

@@ -21,10 +21,7 @@ use crate::blocks::column_into;
 use crate::blocks::columns_into;
 use crate::blocks::rows;
 use crate::layouts::layout;
-use crate::sizes::stages_4;
-use crate::sizes::stages_8;
-use crate::sizes::stages_16;
-use crate::sizes::stages_32;
+use crate::sizes::stages_dct;
 use crate::sizes::stages_dst;
 use transform_1d::Kind;
 
@@ -89,11 +86,6 @@ pub fn residual_wide(
     let shift = range + 5 - (bit_depth as u32);
     match kind {
         Kind::Dst => stages_dst(shift, range, nx, coeff, out),
-        Kind::Dct => match n {
-            4 => stages_4(shift, range, nx, coeff, out),
-            8 => stages_8(shift, range, nx, coeff, out),
-            16 => stages_16(shift, range, nx, coeff, out),
-            _ => stages_32(shift, range, nx, coeff, out),
-        },
+        Kind::Dct => stages_dct(n, shift, range, nx, coeff, out),
     }
 }

@@ -35,8 +35,8 @@ fn mirrored_output(z: &[i32; 32], j: usize) -> i32
     z[j] - z[16 + j]
 }
 
-// The rounded sum of 16-bit values.
-fn rounded(x: i32, shift: u32) -> i32
+// A rounded sum.
+pub fn rounded(x: i32, shift: u32) -> i32
     requires { ⌜ Within (2 ^ 28) x × (4 ≤ shift) × (shift ≤ 12) ⌝ }
     ensures { λ r. ⌜ r ≡ roundShift x shift ⌝ }
 {

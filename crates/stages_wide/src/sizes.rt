@@ -1,10 +1,13 @@
 // Both stages of a block. A size has buffers of its own length: clearing those of size 32 would take longer than a 4 × 4 block.
 ghost use Prim.Native.Nat.{ℕ, _+_, _*_, _<_, _≤_};
+ghost use lib.Dec.{T};
 ghost use lib.ListN.{length};
 ghost use Rattle.h265.specs.Matrix.{transMatrix, dstMatrix};
+ghost use Rattle.h265.specs.Range.{isSize};
 ghost use Rattle.transform_1d.specs.Rows.{Filled};
 ghost use Rattle.stages_wide.specs.Parts.{StagesAsk, bothStages};
 use crate::blocks::columns;
+use crate::blocks::dc_fill;
 use crate::scan::rows_used;
 use transform_1d::lanes_4;
 use transform_1d::lanes_8;
@@ -13,7 +16,7 @@ use transform_1d::lanes_32;
 use transform_1d::lanes_dst;
 
 // Both stages of the 4-point DCT.
-pub fn stages_4(shift: u32, range: u32, nx: usize, coeff: &[i32], out: &mut [i32])
+fn stages_4(shift: u32, range: u32, nx: usize, coeff: &[i32], out: &mut [i32])
     requires { ⌜ StagesAsk 4 shift range nx (length (now coeff)) (length (now out)) ⌝ }
     ensures { λ _. ⌜ Filled 4 4 (bothStages (transMatrix 4) 4 shift range nx (now (coeff .entry))) 4 (now (out .entry)) (now (out .exit)) ⌝ }
 {
@@ -48,7 +51,7 @@ pub fn stages_4(shift: u32, range: u32, nx: usize, coeff: &[i32], out: &mut [i32
 }
 
 // Both stages of the 8-point DCT.
-pub fn stages_8(shift: u32, range: u32, nx: usize, coeff: &[i32], out: &mut [i32])
+fn stages_8(shift: u32, range: u32, nx: usize, coeff: &[i32], out: &mut [i32])
     requires { ⌜ StagesAsk 8 shift range nx (length (now coeff)) (length (now out)) ⌝ }
     ensures { λ _. ⌜ Filled 8 8 (bothStages (transMatrix 8) 8 shift range nx (now (coeff .entry))) 8 (now (out .entry)) (now (out .exit)) ⌝ }
 {
@@ -84,7 +87,7 @@ pub fn stages_8(shift: u32, range: u32, nx: usize, coeff: &[i32], out: &mut [i32
 }
 
 // Both stages of the 16-point DCT.
-pub fn stages_16(shift: u32, range: u32, nx: usize, coeff: &[i32], out: &mut [i32])
+fn stages_16(shift: u32, range: u32, nx: usize, coeff: &[i32], out: &mut [i32])
     requires { ⌜ StagesAsk 16 shift range nx (length (now coeff)) (length (now out)) ⌝ }
     ensures { λ _. ⌜ Filled 16 16 (bothStages (transMatrix 16) 16 shift range nx (now (coeff .entry))) 16 (now (out .entry)) (now (out .exit)) ⌝ }
 {
@@ -120,7 +123,7 @@ pub fn stages_16(shift: u32, range: u32, nx: usize, coeff: &[i32], out: &mut [i3
 }
 
 // Both stages of the 32-point DCT.
-pub fn stages_32(shift: u32, range: u32, nx: usize, coeff: &[i32], out: &mut [i32])
+fn stages_32(shift: u32, range: u32, nx: usize, coeff: &[i32], out: &mut [i32])
     requires { ⌜ StagesAsk 32 shift range nx (length (now coeff)) (length (now out)) ⌝ }
     ensures { λ _. ⌜ Filled 32 32 (bothStages (transMatrix 32) 32 shift range nx (now (coeff .entry))) 32 (now (out .entry)) (now (out .exit)) ⌝ }
 {
@@ -188,4 +191,31 @@ pub fn stages_dst(shift: u32, range: u32, nx: usize, coeff: &[i32], out: &mut [i
         &mut l[..],
         out,
     );
+}
+
+// Both stages of the n-point DCT.
+fn dct_sized(n: usize, shift: u32, range: u32, nx: usize, coeff: &[i32], out: &mut [i32])
+    requires { ⌜ T (isSize n) × StagesAsk n shift range nx (length (now coeff)) (length (now out)) ⌝ }
+    ensures { λ _. ⌜ Filled n n (bothStages (transMatrix n) n shift range nx (now (coeff .entry))) n (now (out .entry)) (now (out .exit)) ⌝ }
+{
+    match n {
+        4 => stages_4(shift, range, nx, coeff, out),
+        8 => stages_8(shift, range, nx, coeff, out),
+        16 => stages_16(shift, range, nx, coeff, out),
+        _ => stages_32(shift, range, nx, coeff, out),
+    }
+}
+
+// Both stages of the n-point DCT; one coefficient alone fills its block.
+pub fn stages_dct(n: usize, shift: u32, range: u32, nx: usize, coeff: &[i32], out: &mut [i32])
+    requires { ⌜ T (isSize n) × StagesAsk n shift range nx (length (now coeff)) (length (now out)) ⌝ }
+    ensures { λ _. ⌜ Filled n n (bothStages (transMatrix n) n shift range nx (now (coeff .entry))) n (now (out .entry)) (now (out .exit)) ⌝ }
+{
+    if nx == 1 {
+        if rows_used(coeff, n, 1) <= 1 {
+            dc_fill(n, shift, range, coeff, out);
+            return;
+        }
+    }
+    dct_sized(n, shift, range, nx, coeff, out);
 }

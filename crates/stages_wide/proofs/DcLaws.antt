@@ -1,0 +1,73 @@
+-- Laws of a DCT's block whose only coefficient is the first.
+--   rowsUsed-one        at most one row in use
+--   first-inside        a block has a first place
+--   line-first          a line over one value: 64 times that value
+--   dcValue             the one value of all outputs
+--   filled-dc           a block filled with that value
+use mathlib.Core.Path.{_≡_, sym, ap, _∙_, subst}
+use mathlib.Core.List.{List}
+use Prim.Native.Nat.{ℕ, _+_, _*_, _-_, _/_, _%_, _≤_, _<_}
+use native.Mathlib.Nat.{add-zero, zero-mul, zero-add, mul-le-mul, div-add-mod', mod-lt, div-lt-iff-lt-mul}
+use native.Mathlib.Omega.{arith}
+use lib.Arith.{digits-lt}
+use lib.IntN.{ℤ, pos, _*ℤ_, +ℤ-idl}
+use lib.ListN.{length, getD}
+use Rattle.integers.specs.Shift.{roundShift}
+use Rattle.integers.specs.Sum.{sum}
+use Rattle.h265.specs.Matrix.{transMatrix32, transMatrix}
+use Rattle.h265.specs.Range.{clipCoeff}
+use Rattle.h265.specs.Transform.{transformLine, blockAt, columnsRead, stageOneSum, stageOneValue, intermediate, stageTwoSum, stageTwo}
+use Rattle.transform_1d.specs.Rows.{Placed, Filled}
+use Rattle.stages_wide.specs.Wide.{limitedBlock}
+use Rattle.stages_wide.specs.Parts.{limitedAt, RowsUsed, bothStages}
+use Rattle.stages_wide.proofs.StageLaws.{clipCoeff-zero, line-short, placed-run}
+use Rattle.stages_wide.proofs.ResultLaws.{columnsRead-in, intermediate-past}
+
+pub rowsUsed-one : {coeff : List ℤ} {n nx r : ℕ} → r ≤ 1 → 1 ≤ n → RowsUsed coeff n nx r → RowsUsed coeff n nx 1
+rowsUsed-one l h u = record { most = h; zero = λ k c a b d. u .zero k c (omega arith) b d }
+
+pub first-inside : {n k : ℕ} → 0 < n → n * n ≤ k → 0 < k
+first-inside h l = omega (arith, l, mul-le-mul h h)
+
+line-first : (n : ℕ) (y : ℕ → ℤ) (m : ℕ) → 0 < n → ((k : ℕ) → 0 < k → k < n → y k ≡ pos 0) → transformLine (transMatrix n) n y m ≡ pos 64 *ℤ y 0
+unfolding transformLine sum transMatrix transMatrix32
+line-first n y m h z =
+    sym (line-short (transMatrix n) n 1 y m h (λ k a b. z k a b))
+    ∙ +ℤ-idl (transMatrix n 0 m *ℤ y 0)
+    ∙ ap (λ (k : ℕ). transMatrix32 k m *ℤ y 0) (zero-mul (32 / n))
+
+abbrev pub dcValue : List ℤ → ℕ → ℕ → ℤ
+dcValue coeff r s = roundShift (pos 64 *ℤ clipCoeff r (roundShift (pos 64 *ℤ limitedAt r coeff 0) 7)) s
+
+module _ (n r s : ℕ) (coeff : List ℤ) (h : 0 < n) (u : RowsUsed coeff n 1 1) where
+  abbrev read : ℕ → ℕ → ℤ
+  read = columnsRead 1 (limitedBlock r n coeff)
+
+  read-first : read 0 0 ≡ limitedAt r coeff 0
+  unfolding blockAt
+  read-first = columnsRead-in 1 (limitedBlock r n coeff) 0 0 (omega arith) ∙ ap (λ (i : ℕ). limitedAt r coeff i) (add-zero (0 * n) ∙ zero-mul n)
+
+  read-below : (k : ℕ) → 0 < k → k < n → read k 0 ≡ pos 0
+  unfolding blockAt
+  read-below k a b = columnsRead-in 1 (limitedBlock r n coeff) k 0 (omega arith) ∙ ap (clipCoeff r) (u .zero k 0 a b (omega arith)) ∙ clipCoeff-zero r
+
+  inter-first : (m : ℕ) → intermediate (transMatrix n) n r read m 0 ≡ clipCoeff r (roundShift (pos 64 *ℤ limitedAt r coeff 0) 7)
+  unfolding intermediate stageOneValue stageOneSum
+  inter-first m =
+      ap (λ (z : ℤ). clipCoeff r (roundShift z 7))
+      (line-first n (λ k. read k 0) m h read-below ∙ ap (λ (z : ℤ). pos 64 *ℤ z) read-first)
+
+  dc-residual : (m j : ℕ) → bothStages (transMatrix n) n s r 1 coeff m j ≡ dcValue coeff r s
+  unfolding stageTwo stageTwoSum
+  dc-residual m j =
+      ap (λ (z : ℤ). roundShift z s)
+      (line-first n (λ c. intermediate (transMatrix n) n r read m c) j h (λ c a b. intermediate-past (transMatrix n) n r 1 (limitedBlock r n coeff) m c a)
+      ∙ ap (λ (z : ℤ). pos 64 *ℤ z) (inter-first m))
+
+  pub filled-dc : {v : ℤ} {xs ys : List ℤ} → v ≡ dcValue coeff r s → Placed 0 (n * n) (λ i. v) xs ys → Filled n n (bothStages (transMatrix n) n s r 1 coeff) n xs ys
+  filled-dc {v} {xs} {ys} e p =
+      record {
+        long = p .long;
+        done = λ m j a b. placed-run p (m * n + j) (digits-lt {q = m} {m = n} {r = j} {c = n} a b) ∙ e ∙ sym (dc-residual m j);
+        kept = λ i k. p .kept i (λ j a b. k (j / n) (j % n) (div-lt-iff-lt-mul h .1 a) (mod-lt j h) (b ∙ zero-add j ∙ sym (div-add-mod' j n)));
+      }
