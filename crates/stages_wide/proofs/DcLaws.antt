@@ -1,5 +1,4 @@
 -- Laws of a DCT's block whose only coefficient is the first.
---   rowsUsed-one        at most one row in use
 --   first-inside        a block has a first place
 --   line-first          a line over one value: 64 times that value
 --   dcValue             the one value of all outputs
@@ -22,9 +21,6 @@ use Rattle.stages_wide.specs.Wide.{limitedBlock}
 use Rattle.stages_wide.specs.Parts.{limitedAt, RowsUsed, bothStages}
 use Rattle.stages_wide.proofs.StageLaws.{clipCoeff-zero, line-short, placed-run}
 use Rattle.stages_wide.proofs.ResultLaws.{columnsRead-in, intermediate-past}
-
-pub rowsUsed-one : {coeff : List ℤ} {n nx r : ℕ} → r ≤ 1 → 1 ≤ n → RowsUsed coeff n nx r → RowsUsed coeff n nx 1
-rowsUsed-one l h u = record { most = h; zero = λ k c a b d. u .zero k c (omega arith) b d }
 
 pub first-inside : {n k : ℕ} → 0 < n → n * n ≤ k → 0 < k
 first-inside h l = omega (arith, l, mul-le-mul h h)

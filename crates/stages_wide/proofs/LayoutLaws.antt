@@ -1,7 +1,8 @@
 -- Laws of layouts, and of buffers of zeros.
 --   zeros-getD, zeros           a list of zeros is zero at every place
 --   Widened, widened-…          the loop that copies a layout before zeros
---   layoutOf-laid, -widened     a layout as transform_1d lays it out, and one with zeros after it
+--   layoutOf-laid, -self        a layout as transform_1d lays it out, and any layout by what it reads back as
+--   layoutOf-widened            a layout with zeros after it
 --   layoutOf-dct, -32, -dst     the layouts of the matrices
 --   layoutOf-size               a size by another name
 use mathlib.Core.Path.{_≡_, refl, sym, ap, ap₂, _∙_, subst}
@@ -63,6 +64,9 @@ widened-all {t} {r} {i} h w =
 -- ---- layouts of matrices
 pub layoutOf-laid : {t : ℕ → ℕ → ℤ} {n : ℕ} {xs : List ℤ} → Laid t n xs → LayoutOf t n xs
 layoutOf-laid l = record { layout = record { long = l .long; small = l .small }; reads = l .reads }
+
+pub layoutOf-self : {n : ℕ} {xs : List ℤ} → Layout xs n → LayoutOf (laneMatrix xs) n xs
+layoutOf-self l = record { layout = l; reads = λ k j a b. refl }
 
 pub layoutOf-widened : {t : ℕ → ℕ → ℤ} {n : ℕ} (xs r : List ℤ) → n ≤ 32 → (length r ≡ 512) × ((i : ℕ) → getD r i (pos 0) ≡ getD xs i (pos 0)) → LayoutOf t n xs → LayoutOf t n r
 unfolding laneMatrix

@@ -2,7 +2,7 @@
 --   intermediate-cong, stageTwo-cong   stages by matrices and data that agree
 --   columnsRead-in, -past              a column read, and one that is not
 --   intermediate-past                  the intermediate of a column that is not read
---   filled-stages                      both stages of a block
+--   filled-stages, filled-laid         both stages of a block, by the matrix that a layout reads back as
 --   filled-residual                    coefficients in the range need no limit: the residual
 --   filled-sized, filled-count         a size, and a column count, by another name
 --   filled-dct, filled-dst, layoutOf-kind-…   a kind of transform by its matrix
@@ -69,8 +69,8 @@ pub intermediate-past : (t : ℕ → ℕ → ℤ) (n r nx : ℕ) (d : ℕ → �
 intermediate-past t n r nx d m c h = intermediate-zero t n r (columnsRead nx d) m c (λ k b. columnsRead-past nx d k c h) ∙ clipCoeff-zero r
 
 -- ---- both stages
-module _ {t : ℕ → ℕ → ℤ} {n : ℕ} {xs : List ℤ} (l : LayoutOf t n xs) (coeff : List ℤ) (r gy gx : ℕ) {nx ny : ℕ} (u : RowsUsed coeff n nx ny)
-    (rows : (ny ≤ 4 * gy) × (4 * gy ≤ n)) (columns : (nx ≤ 4 * gx) × (4 * gx ≤ n)) where
+module _ {t : ℕ → ℕ → ℤ} {n : ℕ} {xs : List ℤ} (l : LayoutOf t n xs) (coeff : List ℤ) (r gy gx : ℕ) {nx : ℕ} (u : RowsUsed coeff n nx (4 * gy))
+    (columns : (nx ≤ 4 * gx) × (4 * gx ≤ n)) where
   abbrev read : ℕ → ℕ → ℤ
   read = columnsRead nx (limitedBlock r n coeff)
 
@@ -82,9 +82,9 @@ module _ {t : ℕ → ℕ → ℤ} {n : ℕ} {xs : List ℤ} (l : LayoutOf t n x
   unfolding stageOneValue stageOneSum
   line-one c m h i =
       ap (λ (z : ℤ). roundShift z 7)
-      (transformLine-cong (laneMatrix xs) t (4 * gy) (λ k. limitedAt r coeff (c * 1 + k * n)) (λ k. read k c) m (λ k a. l .reads k m (omega arith) i)
+      (transformLine-cong (laneMatrix xs) t (4 * gy) (λ k. limitedAt r coeff (c * 1 + k * n)) (λ k. read k c) m (λ k a. l .reads k m (omega (arith, u .most)) i)
       (λ k a. ap (λ (p : ℕ). limitedAt r coeff p) (place-column n c k) ∙ sym (read-in k c h))
-      ∙ line-short t n (4 * gy) (λ k. read k c) m (rows .1) (λ k a b. read-in k c h ∙ ap (clipCoeff r) (u .zero k c (omega arith) b h) ∙ clipCoeff-zero r))
+      ∙ line-short t n (4 * gy) (λ k. read k c) m (u .most) (λ k a b. read-in k c h ∙ ap (clipCoeff r) (u .zero k c a b h) ∙ clipCoeff-zero r))
 
   module _ {g₀ g : List ℤ} (z : Zeros g₀) (f : Filled n n (stageValue xs r coeff 1 n gy 7) nx g₀ g) where
     limited-intermediate : (m c : ℕ) → m < n → limitedAt r g (c * n + m) ≡ intermediate t n r read m c
@@ -106,6 +106,14 @@ module _ {t : ℕ → ℕ → ℤ} {n : ℕ} {xs : List ℤ} (l : LayoutOf t n x
 
     pub filled-stages : (s : ℕ) {out₀ out : List ℤ} → Filled n n (stageValue xs r g 1 n gx s) n out₀ out → Filled n n (bothStages t n s r nx coeff) n out₀ out
     filled-stages s p = filled-cong (λ m j i h. line-two s m j i h) p
+
+pub filled-laid : {t : ℕ → ℕ → ℤ} {n : ℕ} {xs : List ℤ} → LayoutOf t n xs → (s r nx : ℕ) (coeff : List ℤ) {out₀ out : List ℤ}
+    → Filled n n (bothStages (laneMatrix xs) n s r nx coeff) n out₀ out → Filled n n (bothStages t n s r nx coeff) n out₀ out
+filled-laid {t} {n} {xs} l s r nx coeff p =
+    filled-cong
+    (λ m j i h. stageTwo-cong (laneMatrix xs) t n s _ _ m j (λ k a. l .reads k j a h)
+    (λ c a. intermediate-cong (laneMatrix xs) t n r (columnsRead nx (limitedBlock r n coeff)) (columnsRead nx (limitedBlock r n coeff)) m c (λ k b. l .reads k m b i) (λ k b. refl)))
+    p
 
 pub filled-residual : (t : ℕ → ℕ → ℤ) (n b r nx : ℕ) (xs : List ℤ) {out₀ out : List ℤ} → 0 < n → CoeffsInRange r n nx xs → n * n ≤ length out₀
     → Filled n n (bothStages t n (r + 5 - b) r nx xs) n out₀ out → out ≡ overwrite (n * n) (rowOrder n (residual t n b r nx xs)) out₀

@@ -4,6 +4,7 @@
 --   square-most, -bound        a block has at most 1024 places
 --   row-inside                 a run of a row ends inside the block
 --   rowsUsed-all, -pred        no row is left out at the start; a zero row leaves one row less
+--   rowsUsed-more              more rows than are in use
 use mathlib.Core.Path.{_≡_, refl, sym, ap, _∙_, subst}
 use mathlib.Core.List.{List}
 use mathlib.Core.Bool.{Bool, true, false, not}
@@ -52,6 +53,9 @@ rowsUsed-pred {coeff} {n} {nx} {k} h u z =
             | no d ↦ u .zero r c (omega arith) a b
           ];
     }
+
+pub rowsUsed-more : {coeff : List ℤ} {n nx r q : ℕ} → r ≤ q → q ≤ n → RowsUsed coeff n nx r → RowsUsed coeff n nx q
+rowsUsed-more h l u = record { most = l; zero = λ k c a b d. u .zero k c (omega arith) b d }
 
 pub not-false : (b : Bool) → not b ≡ false → b ≡ true
 not-false true e = refl

@@ -10,7 +10,7 @@ ghost use Rattle.h265.specs.Transform.{stageTwo, intermediate};
 ghost use Rattle.transform_1d.specs.Lanes.{laneMatrix};
 ghost use Rattle.transform_1d.specs.Rows.{Placed, Filled};
 ghost use Rattle.stages_wide.specs.Wide.{limitedBlock};
-ghost use Rattle.stages_wide.specs.Parts.{limitedAt, ColumnPlaced, StageAsk, stageValue, RowsUsed, BlockAsk, StagesAsk, bothStages};
+ghost use Rattle.stages_wide.specs.Parts.{limitedAt, ColumnPlaced, StageAsk, stageValue, RowsUsed, Zeros, BlockAsk, StagesAsk, bothStages};
 use crate::lines::lines;
 use crate::outputs::rounded;
 use crate::parts::all_narrow;
@@ -49,7 +49,7 @@ fn stage(
 }
 
 // Lines down the first columns of a block, over groups of four rows. The lines become rows, so that the stage after it reads columns too.
-pub fn columns(
+fn columns(
     t: &[i16],
     n: usize,
     count: usize,
@@ -79,6 +79,28 @@ pub fn columns(
         l,
         out,
     );
+}
+
+// Both stages of a block, the first over groups of four rows: rows after them are zero. Columns from nx on of the intermediate are zero,
+// so that stage two leaves their groups out.
+pub fn stages(
+    t: &[i16],
+    n: usize,
+    shift: u32,
+    range: u32,
+    nx: usize,
+    groups: usize,
+    coeff: &[i32],
+    h: &mut [i16],
+    l: &mut [i16],
+    g: &mut [i32],
+    out: &mut [i32],
+)
+    requires { ⌜ BlockAsk (now t) n range (length (now coeff)) (length (now h)) (length (now l)) (length (now g)) × StagesAsk n shift range nx (length (now coeff)) (length (now out)) × (4 * groups ≤ n) × RowsUsed (now coeff) n nx (4 * groups) × Zeros (now g) ⌝ }
+    ensures { λ _. ⌜ Filled n n (bothStages (laneMatrix (now (t .entry))) n shift range nx (now (coeff .entry))) n (now (out .entry)) (now (out .exit)) ⌝ }
+{
+    columns(t, n, nx, groups, 7, range, coeff, h, l, g);
+    columns(t, n, n, (nx + 3) / 4, shift, range, g, h, l, out);
 }
 
 // Stage two over an intermediate in row order, limited as it is read.

@@ -6,8 +6,8 @@ ghost use Rattle.h265.specs.Matrix.{transMatrix, dstMatrix};
 ghost use Rattle.h265.specs.Range.{isSize};
 ghost use Rattle.transform_1d.specs.Rows.{Filled};
 ghost use Rattle.stages_wide.specs.Parts.{StagesAsk, bothStages};
-use crate::blocks::columns;
 use crate::blocks::dc_fill;
+use crate::blocks::stages;
 use crate::scan::rows_used;
 use transform_1d::lanes_4;
 use transform_1d::lanes_8;
@@ -24,28 +24,17 @@ fn stages_4(shift: u32, range: u32, nx: usize, coeff: &[i32], out: &mut [i32])
     let mut h = [0i16; 16];
     let mut l = [0i16; 16];
     let mut g = [0i32; 16];
-    columns(
+    stages(
         &t[..],
         4,
+        shift,
+        range,
         nx,
         1,
-        7,
-        range,
         coeff,
         &mut h[..],
         &mut l[..],
         &mut g[..],
-    );
-    columns(
-        &t[..],
-        4,
-        4,
-        1,
-        shift,
-        range,
-        &g[..],
-        &mut h[..],
-        &mut l[..],
         out,
     );
 }
@@ -60,28 +49,17 @@ fn stages_8(shift: u32, range: u32, nx: usize, coeff: &[i32], out: &mut [i32])
     let mut l = [0i16; 64];
     let mut g = [0i32; 64];
     let ny = rows_used(coeff, 8, nx);
-    columns(
+    stages(
         &t[..],
         8,
+        shift,
+        range,
         nx,
         (ny + 3) / 4,
-        7,
-        range,
         coeff,
         &mut h[..],
         &mut l[..],
         &mut g[..],
-    );
-    columns(
-        &t[..],
-        8,
-        8,
-        (nx + 3) / 4,
-        shift,
-        range,
-        &g[..],
-        &mut h[..],
-        &mut l[..],
         out,
     );
 }
@@ -96,28 +74,17 @@ fn stages_16(shift: u32, range: u32, nx: usize, coeff: &[i32], out: &mut [i32])
     let mut l = [0i16; 256];
     let mut g = [0i32; 256];
     let ny = rows_used(coeff, 16, nx);
-    columns(
+    stages(
         &t[..],
         16,
+        shift,
+        range,
         nx,
         (ny + 3) / 4,
-        7,
-        range,
         coeff,
         &mut h[..],
         &mut l[..],
         &mut g[..],
-    );
-    columns(
-        &t[..],
-        16,
-        16,
-        (nx + 3) / 4,
-        shift,
-        range,
-        &g[..],
-        &mut h[..],
-        &mut l[..],
         out,
     );
 }
@@ -132,28 +99,17 @@ fn stages_32(shift: u32, range: u32, nx: usize, coeff: &[i32], out: &mut [i32])
     let mut l = [0i16; 1024];
     let mut g = [0i32; 1024];
     let ny = rows_used(coeff, 32, nx);
-    columns(
+    stages(
         &t[..],
         32,
+        shift,
+        range,
         nx,
         (ny + 3) / 4,
-        7,
-        range,
         coeff,
         &mut h[..],
         &mut l[..],
         &mut g[..],
-    );
-    columns(
-        &t[..],
-        32,
-        32,
-        (nx + 3) / 4,
-        shift,
-        range,
-        &g[..],
-        &mut h[..],
-        &mut l[..],
         out,
     );
 }
@@ -167,28 +123,17 @@ pub fn stages_dst(shift: u32, range: u32, nx: usize, coeff: &[i32], out: &mut [i
     let mut h = [0i16; 16];
     let mut l = [0i16; 16];
     let mut g = [0i32; 16];
-    columns(
+    stages(
         &t[..],
         4,
+        shift,
+        range,
         nx,
         1,
-        7,
-        range,
         coeff,
         &mut h[..],
         &mut l[..],
         &mut g[..],
-    );
-    columns(
-        &t[..],
-        4,
-        4,
-        1,
-        shift,
-        range,
-        &g[..],
-        &mut h[..],
-        &mut l[..],
         out,
     );
 }

@@ -4,9 +4,8 @@ use mathlib.Core.Path.{_≡_, refl}
 use Prim.Native.Nat.{_≤_, _<_}
 use native.Mathlib.Omega.{arith}
 use Rattle.h265.specs.Matrix.{transMatrix}
-use Rattle.stages_wide.proofs.ScanLaws.{size-most}
+use Rattle.stages_wide.proofs.ScanLaws.{size-most, rowsUsed-more}
 use Rattle.stages_wide.proofs.ResultLaws.{stagesAsk-size, filled-count}
-use Rattle.stages_wide.proofs.DcLaws.{rowsUsed-one}
 use Rattle.stages_wide.proofs.sizes.stages_dct.Statement.{statement}
 use Rattle.stages_wide.proofs.sizes.stages_dct.Tie as tie
 
@@ -17,7 +16,7 @@ rows-used-requires c κs =
 dc-fill-requires : tie.Need-dc-fill-requires
 dc-fill-requires c κs =
     let m = size-most (c .before .before .before .before .args .n) (c .before .before .before .before .pre .0) in
-    (c .before .before .before .before .pre .0, stagesAsk-size refl (c .before .before .before .before .pre .1) (omega (arith, m)), rowsUsed-one (c .before .if2 .taken) (omega (arith, m)) (c .before .before .rows-used .ensures))
+    (c .before .before .before .before .pre .0, stagesAsk-size refl (c .before .before .before .before .pre .1) (omega (arith, m)), rowsUsed-more (c .before .if2 .taken) (omega (arith, m)) (c .before .before .rows-used .ensures))
 
 same-length : tie.Need-same-length
 same-length c = search needs
