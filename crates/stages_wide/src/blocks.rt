@@ -49,6 +49,7 @@ fn stage(
 }
 
 // Lines down the first columns of a block, over groups of four rows. The lines become rows, so that the stage after it reads columns too.
+// The rows are narrowed or split whole, which is faster than by parts of them: what stands in other columns decides which of the two.
 fn columns(
     t: &[i16],
     n: usize,
