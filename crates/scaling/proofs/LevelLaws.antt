@@ -3,18 +3,19 @@
 --   manageable-ends               32 bits hold the ends of every range
 --   levelBy-within                a coefficient is at most 2^22 in size
 --   flatLevel-…, listedLevel-…    the same of a level without a list, and of one with the m of a list
+--   raised-high, raised-within    a limit by one end after the other is the limit
 --   dequantOf-manageable          the numbers of every block are manageable
 --   flatLevel-eq, listedLevel-eq  the machine's numbers of a block give clause 8.6's coefficient
 --   level-refused, level-ready    the answer for one level, by that for the numbers of its block
-use mathlib.Core.Path.{_≡_, sym, ap, subst, _∙_}
-use mathlib.Core.Bool.{Bool}
+use mathlib.Core.Path.{_≡_, refl, sym, ap, subst, _∙_}
+use mathlib.Core.Bool.{Bool, true, false, cond}
 use mathlib.Core.List.{List, [], _∷_}
 use Prim.Native.Nat.{ℕ, _+_, _-_, _*_}
 use native.Mathlib.Nat.{mul-le-mul-left}
 use native.Mathlib.Omega.{arith}
 use lib.IntN.{ℤ, pos, negsuc, natAbs, _*ℤ_, *ℤ-comm, pos-*ℤ-pos}
 use lib.Pow.{pow-mono}
-use lib.Signed.{_≤ℤ_}
+use lib.Signed.{ltZ, _≤ℤ_, clashℤ}
 use mir.Syntax.{Width, w32}
 use mir.Val.{SFits}
 use Rattle.integers.specs.Clip.{clip3}
@@ -22,7 +23,7 @@ use Rattle.integers.specs.Shift.{shiftRight, roundShift}
 use Rattle.integers.specs.Within.{Within}
 use Rattle.integers.proofs.LinearLaws.{le-in}
 use Rattle.integers.proofs.OrderLaws.{*ℤ-assoc}
-use Rattle.integers.proofs.MachineLaws.{sfits-posPart, sfits-negPart}
+use Rattle.integers.proofs.MachineLaws.{ltZ-true, sfits-posPart, sfits-negPart}
 use Rattle.integers.proofs.BoundLaws.{within-fits, within-pos, within-le}
 use Rattle.integers.proofs.ClipLaws.{clip3-cases, clip3-within}
 use Rattle.h265.specs.Range.{log2Size, transformRange, clipCoeff}
@@ -72,6 +73,24 @@ listedLevel-fits {p = p} k level e = levelBy-fits (shiftRight (p .factor) 4 *ℤ
 pub listedLevel-within : {p : DequantParams} (k : ℕ) (level : ℤ) → Manageable p → Within 4194304 (listedLevel p k level)
 unfolding listedLevel
 listedLevel-within {p} k level m = levelBy-within (shiftRight (p .factor) 4 *ℤ pos k) level m
+
+-- ---- a limit by one end after the other
+module _ (lo hi x : ℤ) (h : lo ≤ℤ hi) where
+  pub raised-high : {v : ℤ} → v ≡ cond (ltZ x lo) lo x → ltZ hi v ≡ true → hi ≡ clip3 lo hi x
+  unfolding clip3
+  raised-high {v} e k = by-test (ltZ x lo) (subst (λ (y : ℤ). ltZ hi y ≡ true) e k)
+    where
+      by-test : (b : Bool) → ltZ hi (cond b lo x) ≡ true → hi ≡ cond b lo (cond (ltZ hi x) hi x)
+      by-test true q = clashℤ (ltZ-true q) h
+      by-test false q = rw q
+
+  pub raised-within : {v : ℤ} → v ≡ cond (ltZ x lo) lo x → ltZ hi v ≡ false → v ≡ clip3 lo hi x
+  unfolding clip3
+  raised-within {v} e k = e ∙ by-test (ltZ x lo) (subst (λ (y : ℤ). ltZ hi y ≡ false) e k)
+    where
+      by-test : (b : Bool) → ltZ hi (cond b lo x) ≡ false → cond b lo x ≡ cond b lo (cond (ltZ hi x) hi x)
+      by-test true q = refl
+      by-test false q = rw q
 
 -- ---- clause 8.6
 pub dequantOf-manageable : (l : ℕ) (q : ℤ) (b : ℕ) (x : Bool) → KnownSize l b → Manageable (dequantOf l q b x)
