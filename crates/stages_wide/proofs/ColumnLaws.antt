@@ -5,15 +5,15 @@
 --   columnPlaced-replaced           a whole column: the list with that column replaced
 --   filled-columns-zero, -all       no column; the same columns by another name of their number
 --   filled-column                   one column more of a block
-use mathlib.Core.Path.{_≡_, refl, sym, ap, ap₂, _∙_, subst}
-use mathlib.Core.Bool.{Bool, true, false, cond, _&&_}
+use mathlib.Core.Path.{_≡_, refl, sym, ap, _∙_, subst}
+use mathlib.Core.Bool.{cond, _&&_}
 use mathlib.Core.List.{List}
 use Prim.Native.Nat.{ℕ, zero, suc, _+_, _*_, _-_, _/_, _%_, _≤_, _<_}
-use native.Mathlib.Nat.{not-suc-le-zero, div-add-mod', mod-lt}
+use native.Mathlib.Nat.{not-suc-le-zero, div-add-mod'}
 use native.Mathlib.Decide.{ℕ-discrete, decLt}
 use native.Mathlib.Omega.{arith}
 use borrow.Author.Tests.{lt-ltb, le-ltb, eq-eqb, ne-eqb}
-use lib.Arith.{digits-lt, digits-div, digits-mod}
+use lib.Arith.{digits-div, digits-mod}
 use lib.Dec.{ltb, eqb}
 use lib.IntN.{ℤ, pos}
 use lib.ListN.{length, getD, set, length-set}

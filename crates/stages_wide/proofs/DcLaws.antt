@@ -3,14 +3,13 @@
 --   line-first          a line over one value: 64 times that value
 --   dcValue             the one value of all outputs
 --   filled-dc           a block filled with that value
-use mathlib.Core.Path.{_≡_, sym, ap, _∙_, subst}
+use mathlib.Core.Path.{_≡_, sym, ap, _∙_}
 use mathlib.Core.List.{List}
 use Prim.Native.Nat.{ℕ, _+_, _*_, _-_, _/_, _%_, _≤_, _<_}
 use native.Mathlib.Nat.{add-zero, zero-mul, zero-add, mul-le-mul, div-add-mod', mod-lt, div-lt-iff-lt-mul}
 use native.Mathlib.Omega.{arith}
 use lib.Arith.{digits-lt}
 use lib.IntN.{ℤ, pos, _*ℤ_, +ℤ-idl}
-use lib.ListN.{length, getD}
 use Rattle.integers.specs.Shift.{roundShift}
 use Rattle.integers.specs.Sum.{sum}
 use Rattle.h265.specs.Matrix.{transMatrix32, transMatrix}

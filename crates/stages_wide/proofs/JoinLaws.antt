@@ -1,9 +1,9 @@
 -- Laws of a line's outputs.
 --   laneOutput-low, laneOutput-mirrored   outputs 0 to 15 are sums of both halves, and outputs 31 to 16 their differences
 --   Joined, joined-…                      the loop that stores outputs j and 31 - j in turn j
-use mathlib.Core.Path.{_≡_, refl, sym, ap, ap₂, _∙_, subst}
+use mathlib.Core.Path.{_≡_, ap, ap₂, _∙_, subst}
 use mathlib.Core.List.{List}
-use Prim.Native.Nat.{ℕ, zero, suc, _+_, _*_, _-_, _^_, _≤_, _<_}
+use Prim.Native.Nat.{ℕ, zero, suc, _+_, _-_, _≤_, _<_}
 use native.Mathlib.Nat.{not-suc-le-zero}
 use native.Mathlib.Decide.{ℕ-discrete, decLt}
 use native.Mathlib.Omega.{arith}

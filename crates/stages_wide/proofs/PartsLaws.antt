@@ -7,14 +7,14 @@
 --   limited-within                        a limited value is at most 2^22 in size
 --   tests-narrow                          what two tests say of a value that fits 16 bits
 --   narrow-zero, -suc                     no value; one value more
-use mathlib.Core.Path.{_≡_, refl, sym, ap, ap₂, _∙_, subst}
+use mathlib.Core.Path.{_≡_, refl, sym, ap, _∙_, subst}
 use mathlib.Core.Bool.{false}
 use mathlib.Core.List.{List}
 use Prim.Native.Nat.{ℕ, zero, suc, _+_, _*_, _-_, _^_, _≤_, _<_}
 use native.Mathlib.Nat.{not-suc-le-zero}
 use native.Mathlib.Decide.{ℕ-discrete}
 use native.Mathlib.Omega.{arith}
-use lib.IntN.{ℤ, pos, negsuc, negℤ, natAbs, _+ℤ_, _-ℤ_, _*ℤ_, pos-*ℤ-pos}
+use lib.IntN.{ℤ, pos, negsuc, negℤ, _+ℤ_, _-ℤ_, _*ℤ_, pos-*ℤ-pos}
 use lib.ListN.{getD}
 use lib.Pow.{pow-pos, pow-add, pow-mono}
 use lib.Signed.{shrZ, ltZ, _≤ℤ_}
@@ -23,11 +23,11 @@ use mir.Val.{SFits}
 use Rattle.integers.specs.Shift.{shiftRight, roundShift}
 use Rattle.integers.specs.Sum.{sum}
 use Rattle.integers.specs.Within.{Within}
-use Rattle.integers.proofs.LinearLaws.{posPart, negPart, split, ring, diff-ext, parts-add, parts-mul, parts-neg, le-in}
-use Rattle.integers.proofs.MachineLaws.{abs-parts, ltZ-false}
+use Rattle.integers.proofs.LinearLaws.{split, ring, diff-ext, parts-add, parts-mul, parts-neg, le-in}
+use Rattle.integers.proofs.MachineLaws.{ltZ-false}
 use Rattle.integers.proofs.OrderLaws.{*ℤ-assoc, shr-floor, shr-shift}
 use Rattle.integers.proofs.BoundLaws.{within-out, within-in, within-le}
-use Rattle.integers.proofs.SumLaws.{sum-zero, sum-suc, sum-cong}
+use Rattle.integers.proofs.SumLaws.{sum-cong}
 use Rattle.h265.specs.Range.{clipCoeff}
 use Rattle.h265.specs.Transform.{transformLine}
 use Rattle.h265.proofs.RangeLaws.{clipCoeff-within}

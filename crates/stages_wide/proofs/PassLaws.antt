@@ -5,15 +5,15 @@
 --   filled-line, filled-lines       one line more; one line more over both parts
 --   linesAsk-size, passAsk-size, filled-size   a size by another name
 --   laneMatrix-within               entries read back from a layout are at most 90 in size
-use mathlib.Core.Path.{_≡_, refl, sym, ap, ap₂, _∙_, subst}
+use mathlib.Core.Path.{_≡_, sym, ap, ap₂, _∙_, subst}
 use mathlib.Core.List.{List}
 use mathlib.Core.Bool.{Bool, true, false, cond}
-use Prim.Native.Nat.{ℕ, zero, suc, _+_, _*_, _-_, _%_, _^_, _≤_, _<_}
+use Prim.Native.Nat.{ℕ, suc, _+_, _*_, _-_, _%_, _≤_, _<_}
 use native.Mathlib.Nat.{mul-le-mul, mul-le-mul-right, suc-mul}
 use native.Mathlib.Omega.{arith}
 use lib.Dec.{ltb, eqb}
 use lib.IntN.{ℤ, pos, negℤ, _*ℤ_}
-use lib.ListN.{length, getD}
+use lib.ListN.{getD}
 use Rattle.integers.specs.Shift.{roundShift}
 use Rattle.integers.specs.Within.{Within}
 use Rattle.integers.proofs.BoundLaws.{within-eq, within-le, within-mul, within-neg}

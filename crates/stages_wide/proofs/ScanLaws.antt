@@ -5,7 +5,7 @@
 --   row-inside                 a run of a row ends inside the block
 --   rowsUsed-all, -pred        no row is left out at the start; a zero row leaves one row less
 --   rowsUsed-more              more rows than are in use
-use mathlib.Core.Path.{_≡_, refl, sym, ap, _∙_, subst}
+use mathlib.Core.Path.{_≡_, refl, sym, subst}
 use mathlib.Core.List.{List}
 use mathlib.Core.Bool.{Bool, true, false, not}
 use Prim.Native.Nat.{ℕ, zero, suc, _+_, _*_, _-_, _/_, _≤_, _<_}
@@ -14,7 +14,7 @@ use native.Mathlib.Decide.{ℕ-discrete}
 use native.Mathlib.Omega.{arith}
 use lib.Dec.{T}
 use lib.IntN.{ℤ, pos}
-use lib.ListN.{length, getD}
+use lib.ListN.{getD}
 use Rattle.h265.specs.Range.{isSize}
 use Rattle.h265.proofs.RangeLaws.{size-cases}
 use Rattle.stages_wide.specs.Parts.{RowsUsed}

@@ -9,7 +9,7 @@
 --   stageValue-all                    a line that leaves nothing out
 --   line-short                        what a line leaves out is zero
 --   filled-first, filled-cong         the one row of one line; rows of equal values
-use mathlib.Core.Path.{_≡_, refl, sym, ap, ap₂, _∙_, subst}
+use mathlib.Core.Path.{_≡_, refl, sym, ap, ap₂, _∙_}
 use mathlib.Core.List.{List}
 use Prim.Native.Nat.{ℕ, zero, suc, _+_, _*_, _-_, _/_, _^_, _≤_, _<_}
 use native.Mathlib.Nat.{mul-le-mul-right, mul-le-mul-left, mul-one, mul-add, suc-mul, zero-add, mul-zero}
@@ -22,7 +22,6 @@ use lib.Pow.{pow-mono, pow-pos}
 use mir.Syntax.{w16}
 use mir.Val.{SFits}
 use Rattle.integers.specs.Shift.{roundShift}
-use Rattle.integers.specs.Within.{Within}
 use Rattle.integers.proofs.LinearLaws.{posPart, negPart, split, ring, diff-ext, parts-add, parts-neg, le-out}
 use Rattle.integers.proofs.MachineLaws.{sfits-posPart, sfits-negPart}
 use Rattle.integers.proofs.BoundLaws.{within-eq}
@@ -33,7 +32,7 @@ use Rattle.h265.proofs.RangeLaws.{clipCoeff-id}
 use Rattle.transform_1d.specs.Lanes.{laneMatrix}
 use Rattle.transform_1d.specs.Rows.{Placed, Filled}
 use Rattle.transform_1d.proofs.MatrixLaws.{transformLine-cong}
-use Rattle.stages_wide.specs.Parts.{highPart, lowPart, joinParts, limitedAt, Layout, LinesAsk, lineValue, PassAsk, passValue, Narrow, StageAsk, stageValue, BlockAsk}
+use Rattle.stages_wide.specs.Parts.{highPart, lowPart, joinParts, limitedAt, LinesAsk, lineValue, PassAsk, passValue, Narrow, StageAsk, stageValue, BlockAsk}
 use Rattle.stages_wide.proofs.PartsLaws.{parts-join, highPart-within, transformLine-parts, limited-within}
 use Rattle.stages_wide.proofs.ScanLaws.{size-most, size-fours}
 

@@ -1,9 +1,8 @@
 // Stages of a block over lent buffers, for a layout that the caller lends.
 ghost use mathlib.Core.Path.{_≡_};
-ghost use Prim.Native.Nat.{ℕ, _+_, _*_, _<_, _≤_};
+ghost use Prim.Native.Nat.{_+_, _*_, _<_, _≤_};
 ghost use lib.Dec.{T};
-ghost use lib.IntN.{pos};
-ghost use lib.ListN.{length, getD};
+ghost use lib.ListN.{length};
 ghost use Rattle.h265.specs.Matrix.{transMatrix};
 ghost use Rattle.h265.specs.Range.{isSize};
 ghost use Rattle.h265.specs.Transform.{stageTwo, intermediate};

@@ -11,7 +11,7 @@ mod layouts; // layouts by kind and size
 mod sizes; // both stages with buffers of a size's own length
 
 ghost use mathlib.Core.Path.{_≡_};
-ghost use Prim.Native.Nat.{ℕ, _+_, _*_, _<_, _≤_};
+ghost use Prim.Native.Nat.{_+_, _*_, _<_};
 ghost use lib.ListN.{length};
 ghost use Rattle.integers.specs.Lists.{overwrite};
 ghost use Rattle.h265.specs.Transform.{rowOrder, intermediate, stageTwoShift, stageTwo, residual};

@@ -1,5 +1,5 @@
 // Both stages of a block. A size has buffers of its own length: clearing those of size 32 would take longer than a 4 × 4 block.
-ghost use Prim.Native.Nat.{ℕ, _+_, _*_, _<_, _≤_};
+ghost use Prim.Native.Nat.{_+_, _<_};
 ghost use lib.Dec.{T};
 ghost use lib.ListN.{length};
 ghost use Rattle.h265.specs.Matrix.{transMatrix, dstMatrix};

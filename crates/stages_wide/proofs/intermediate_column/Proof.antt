@@ -1,13 +1,12 @@
 -- `stages_wide::intermediate_column` meets its contract: the layout reads back as the matrix, and the column stored is the column replaced.
 use borrow.Author.Needs.{needs}
-use mathlib.Core.Path.{_≡_, refl}
-use Prim.Native.Nat.{ℕ, _+_, _-_, _*_, _≤_, _<_}
-use native.Mathlib.Omega.{arith}
+use mathlib.Core.Path.{refl}
+use Prim.Native.Nat.{_-_}
 use lib.ListN.{length}
 use Rattle.transform_1d.specs.MatrixOf.{matrixOf}
 use Rattle.transform_1d.specs.Lanes.{laneMatrix}
 use Rattle.stages_wide.specs.Wide.{limitedBlock}
-use Rattle.stages_wide.proofs.ScanLaws.{size-most, square-most}
+use Rattle.stages_wide.proofs.ScanLaws.{square-most}
 use Rattle.stages_wide.proofs.ColumnLaws.{columnPlaced-cong, columnPlaced-replaced}
 use Rattle.stages_wide.proofs.ResultLaws.{intermediate-cong}
 use Rattle.stages_wide.proofs.intermediate_column.Statement.{statement}

@@ -1,7 +1,7 @@
 -- `stages_wide::intermediate_of` meets its contract: the layout reads back as the matrix, and all columns stored are the whole block.
 use borrow.Author.Needs.{needs}
-use mathlib.Core.Path.{_≡_, refl}
-use Prim.Native.Nat.{ℕ, _+_, _-_, _*_, _≤_, _<_}
+use mathlib.Core.Path.{refl}
+use Prim.Native.Nat.{_-_}
 use native.Mathlib.Omega.{arith}
 use lib.ListN.{length}
 use Rattle.transform_1d.specs.MatrixOf.{matrixOf}

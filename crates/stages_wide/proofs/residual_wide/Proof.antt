@@ -1,7 +1,7 @@
 -- `stages_wide::residual_wide` meets its contract: a kind is one of two matrices, and coefficients in the range need no limit.
 use borrow.Author.Needs.{needs}
-use mathlib.Core.Path.{_≡_, refl}
-use Prim.Native.Nat.{ℕ, _+_, _-_, _*_, _≤_, _<_}
+use mathlib.Core.Path.{_≡_}
+use Prim.Native.Nat.{_+_, _-_}
 use native.Mathlib.Omega.{arith}
 use Rattle.transform_1d.specs.MatrixOf.{matrixOf}
 use Rattle.stages_wide.proofs.ScanLaws.{size-most}

@@ -1,8 +1,8 @@
 -- `stages_wide::blocks::column_into` meets its contract: one line over the column, limited as it is stored.
 use borrow.Author.Needs.{needs}
-use mathlib.Core.Path.{_≡_, ap, _∙_}
-use Prim.Native.Nat.{ℕ, _+_, _*_, _≤_, _<_}
-use lib.IntN.{ℤ, pos}
+use mathlib.Core.Path.{ap, _∙_}
+use Prim.Native.Nat.{ℕ}
+use lib.IntN.{pos}
 use lib.ListN.{getD}
 use Rattle.h265.specs.Range.{clipCoeff}
 use Rattle.h265.specs.Transform.{blockAt, stageOneSum, stageOneValue, intermediate}

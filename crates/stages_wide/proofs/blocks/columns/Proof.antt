@@ -1,6 +1,5 @@
 -- `stages_wide::blocks::columns` meets its contract: line c reads places c, c + n, .. of the rows in its groups.
 use borrow.Author.Needs.{needs}
-use Prim.Native.Nat.{_*_, _≤_}
 use native.Mathlib.Nat.{mul-le-mul-right}
 use native.Mathlib.Omega.{arith}
 use Rattle.stages_wide.proofs.ScanLaws.{square-most}

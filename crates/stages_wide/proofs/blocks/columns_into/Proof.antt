@@ -1,6 +1,5 @@
 -- `stages_wide::blocks::columns_into` meets its contract: the loop has stored the columns passed. The measure is the columns left.
-use mathlib.Core.Path.{refl}
-use Prim.Native.Nat.{_+_, _*_, _≤_, _<_, _-_}
+use Prim.Native.Nat.{_≤_, _-_}
 use native.Mathlib.Omega.{arith}
 use lib.ListN.{length}
 use Rattle.h265.specs.Transform.{intermediate}

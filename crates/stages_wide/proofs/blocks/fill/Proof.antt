@@ -1,6 +1,6 @@
 -- `stages_wide::blocks::fill` meets its contract: the loop has filled the places passed. The measure is what is left.
 use mathlib.Core.Path.{refl}
-use Prim.Native.Nat.{_+_, _≤_, _<_, _-_}
+use Prim.Native.Nat.{_≤_, _-_}
 use native.Mathlib.Omega.{arith}
 use lib.ListN.{length}
 use mir.Syntax.{w32}

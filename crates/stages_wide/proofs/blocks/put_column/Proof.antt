@@ -1,10 +1,10 @@
 -- `stages_wide::blocks::put_column` meets its contract: the loop has stored the rows passed. The measure is the rows left.
-use mathlib.Core.Path.{_≡_, _∙_}
-use Prim.Native.Nat.{ℕ, _+_, _*_, _≤_, _<_, _-_}
+use mathlib.Core.Path.{_≡_}
+use Prim.Native.Nat.{_+_, _*_, _≤_, _-_}
 use native.Mathlib.Nat.{mul-le-mul}
 use native.Mathlib.Omega.{arith}
 use borrow.Author.Needs.{sfits-of}
-use lib.IntN.{ℤ, pos}
+use lib.IntN.{pos}
 use lib.ListN.{getD, length}
 use mir.Syntax.{w32}
 use mir.Val.{SFits}

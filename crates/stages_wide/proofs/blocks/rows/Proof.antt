@@ -1,7 +1,7 @@
 -- `stages_wide::blocks::rows` meets its contract: line m reads row m of a block in row order, and leaves nothing out.
 use borrow.Author.Needs.{needs}
-use mathlib.Core.Path.{_≡_, ap}
-use Prim.Native.Nat.{ℕ, _+_, _*_, _≤_, _<_}
+use mathlib.Core.Path.{ap}
+use Prim.Native.Nat.{ℕ}
 use native.Mathlib.Omega.{arith}
 use Rattle.h265.specs.Transform.{blockAt, stageTwoSum, stageTwo}
 use Rattle.stages_wide.specs.Wide.{limitedBlock}

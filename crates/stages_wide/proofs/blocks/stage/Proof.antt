@@ -1,6 +1,6 @@
 -- `stages_wide::blocks::stage` meets its contract: values that fit 16 bits are their own limits, and others are made of their parts.
 use borrow.Author.Needs.{needs}
-use mathlib.Core.Path.{_≡_, refl}
+use mathlib.Core.Path.{refl}
 use Rattle.stages_wide.proofs.StageLaws.{stage-lines, stage-pass, lineValue-stage, passValue-stage, filled-cong}
 use Rattle.stages_wide.proofs.blocks.stage.Statement.{statement}
 use Rattle.stages_wide.proofs.blocks.stage.Tie as tie

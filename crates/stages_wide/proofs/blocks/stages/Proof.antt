@@ -1,6 +1,6 @@
 -- `stages_wide::blocks::stages` meets its contract: stage two reads the columns that stage one left zero as zero.
 use borrow.Author.Needs.{needs}
-use Prim.Native.Nat.{ℕ, _+_, _*_, _/_, _≤_}
+use Prim.Native.Nat.{_+_, _/_}
 use native.Mathlib.Omega.{arith}
 use lib.ListN.{length}
 use Rattle.stages_wide.proofs.ScanLaws.{size-fours}

@@ -1,9 +1,7 @@
 -- `stages_wide::layouts::dct_layout` meets its contract: a layout with zeros after it reads back as the same matrix.
 use borrow.Author.Needs.{needs}
-use mathlib.Core.Path.{_≡_, refl}
-use Prim.Native.Nat.{ℕ}
+use mathlib.Core.Path.{refl}
 use native.Mathlib.Omega.{arith}
-use lib.ListN.{length}
 use Rattle.stages_wide.proofs.ScanLaws.{size-else}
 use Rattle.stages_wide.proofs.LayoutLaws.{layoutOf-dct, layoutOf-32, layoutOf-widened, layoutOf-size}
 use Rattle.stages_wide.proofs.layouts.dct_layout.Statement.{statement}

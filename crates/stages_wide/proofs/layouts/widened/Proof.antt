@@ -1,9 +1,9 @@
 -- `stages_wide::layouts::widened` meets its contract: the loop has copied the entries passed, and zeros stand after them. The measure is
 -- what is left of the entries.
-use mathlib.Core.Path.{_≡_, refl}
-use Prim.Native.Nat.{ℕ, _+_, _≤_, _<_, _-_}
+use mathlib.Core.Path.{refl}
+use Prim.Native.Nat.{_≤_, _-_}
 use native.Mathlib.Omega.{arith}
-use lib.IntN.{ℤ, pos}
+use lib.IntN.{pos}
 use lib.ListN.{length, getD}
 use mir.Syntax.{w16}
 use mir.Val.{SFits}

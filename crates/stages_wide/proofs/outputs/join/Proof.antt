@@ -1,16 +1,14 @@
 -- `stages_wide::outputs::join` meets its contract: after j turns outputs below j and their mirrors stand. The measure is what is left of
 -- the sixteen turns.
 use mathlib.Core.Path.{_≡_, refl, ap₂, _∙_}
-use Prim.Native.Nat.{ℕ, _+_, _^_, _≤_, _<_, _-_}
+use Prim.Native.Nat.{_≤_, _-_}
 use native.Mathlib.Omega.{arith}
 use borrow.Author.Needs.{sfits-of}
-use lib.IntN.{ℤ, pos}
-use lib.ListN.{getD}
+use lib.IntN.{ℤ}
 use mir.Syntax.{w32}
 use mir.Val.{SFits}
 use mir.Facts.{toZ-ofZ}
 use Rattle.integers.specs.Shift.{roundShift}
-use Rattle.integers.specs.Within.{Within}
 use Rattle.integers.proofs.BoundLaws.{within-eq}
 use Rattle.stages_wide.specs.Parts.{joinParts, partsOutput}
 use Rattle.stages_wide.proofs.JoinLaws.{Joined, joined-zero, joined-suc, joined-all}

@@ -1,5 +1,5 @@
 -- `stages_wide::outputs::joined` meets its contract: the shift of the low sum and a multiple of the high sum make the shift of the whole.
-use mathlib.Core.Path.{_≡_, refl}
+use mathlib.Core.Path.{_≡_}
 use Prim.Native.Nat.{_+_, _-_, _*_, _%_, _^_}
 use borrow.Author.Needs.{needs}
 use native.Mathlib.Omega.{arith}

@@ -1,7 +1,6 @@
 -- `stages_wide::outputs::mirrored_output` meets its contract: both sums are at most 2^26 in size, so that their difference fits 32 bits.
 use borrow.Author.Needs.{needs}
-use mathlib.Core.Path.{_≡_}
-use Prim.Native.Nat.{ℕ, _+_, _^_, _<_}
+use Prim.Native.Nat.{_+_, _^_}
 use native.Mathlib.Omega.{arith}
 use lib.IntN.{ℤ, pos, _-ℤ_}
 use lib.ListN.{getD}
@@ -9,7 +8,7 @@ use mir.Syntax.{w32}
 use mir.Val.{SFits}
 use mir.Facts.{toZ-ofZ}
 use Rattle.integers.specs.Within.{Within}
-use Rattle.integers.proofs.BoundLaws.{within-add, within-neg, within-fits, within-eq}
+use Rattle.integers.proofs.BoundLaws.{within-add, within-neg, within-fits}
 use Rattle.stages_wide.proofs.JoinLaws.{laneOutput-mirrored}
 use Rattle.stages_wide.proofs.outputs.mirrored_output.Statement.{statement}
 use Rattle.stages_wide.proofs.outputs.mirrored_output.Tie as tie

@@ -1,5 +1,5 @@
 -- `stages_wide::outputs::rounded` meets its contract: half the divisor is a power of two of at most 2^11, so that the sum fits 32 bits.
-use mathlib.Core.Path.{_≡_, refl}
+use mathlib.Core.Path.{_≡_}
 use borrow.Author.Needs.{needs}
 use Prim.Native.Nat.{_+_, _-_, _*_, _%_, _^_}
 use native.Mathlib.Omega.{arith}

@@ -1,10 +1,10 @@
 -- `stages_wide::parts::all_narrow` meets its contract: as long as `fits` is true the values passed fit. The measure is what is left.
 use mathlib.Core.Path.{_≡_, sym, subst, _∙_}
 use mathlib.Core.Bool.{true, false}
-use Prim.Native.Nat.{ℕ, _+_, _≤_, _<_, _-_}
+use Prim.Native.Nat.{_≤_, _-_}
 use native.Mathlib.Omega.{arith}
-use lib.IntN.{ℤ, pos}
-use lib.ListN.{getD, length}
+use lib.IntN.{pos}
+use lib.ListN.{getD}
 use lib.Dec.{T}
 use mathlib.Core.Logic.{⊎-elim}
 use mir.Syntax.{w16, w32}

@@ -1,8 +1,8 @@
 -- `stages_wide::parts::column_of` meets its contract: the loop has placed the rows passed. The measure is the rows left.
 use mathlib.Core.Path.{_≡_, refl, _∙_}
-use Prim.Native.Nat.{ℕ, _+_, _*_, _≤_, _<_, _-_}
+use Prim.Native.Nat.{_+_, _*_, _≤_, _-_}
 use native.Mathlib.Omega.{arith}
-use lib.IntN.{ℤ, pos}
+use lib.IntN.{pos}
 use lib.ListN.{getD, length}
 use mir.Syntax.{w32}
 use mir.Val.{SFits}

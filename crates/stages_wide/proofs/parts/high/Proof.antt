@@ -1,5 +1,5 @@
 -- `stages_wide::parts::high` meets its contract: a value shifted by 15 is at most 256 in size.
-use mathlib.Core.Path.{_≡_, refl}
+use mathlib.Core.Path.{refl}
 use Prim.Native.Nat.{ℕ, _+_, _^_, _≤_}
 use native.Mathlib.Omega.{arith}
 use lib.IntN.{ℤ, pos, _+ℤ_}

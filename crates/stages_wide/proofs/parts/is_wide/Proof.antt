@@ -1,5 +1,5 @@
 -- `stages_wide::parts::is_wide` meets its contract: a value that passes both tests fits 16 bits.
-use mathlib.Core.Path.{_≡_, sym, subst}
+use mathlib.Core.Path.{subst}
 use lib.Dec.{T}
 use mir.Facts.{toZ-ofZ}
 use Rattle.stages_wide.proofs.PartsLaws.{tests-narrow}

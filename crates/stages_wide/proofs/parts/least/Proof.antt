@@ -8,7 +8,6 @@ use lib.Pow.{pow-mono}
 use mir.Syntax.{w32}
 use mir.Val.{SFits, toZ}
 use mir.Facts.{toZ-ofZ}
-use Rattle.integers.specs.Within.{Within}
 use Rattle.integers.proofs.LinearLaws.{split, ring, diff-ext}
 use Rattle.integers.proofs.MachineLaws.{shl-one}
 use Rattle.integers.proofs.BoundLaws.{within-add, within-neg, within-pos, within-fits}

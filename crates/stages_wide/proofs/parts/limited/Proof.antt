@@ -1,5 +1,5 @@
 -- `stages_wide::parts::limited` meets its contract: the two tests are the three cases of the limit.
-use mathlib.Core.Path.{_≡_, sym, _∙_}
+use mathlib.Core.Path.{sym, _∙_}
 use borrow.Author.Needs.{needs, sfits-of}
 use lib.IntN.{ℤ}
 use lib.Signed.{_≤ℤ_, _<ℤ_}

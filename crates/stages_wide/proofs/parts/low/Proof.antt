@@ -1,5 +1,5 @@
 -- `stages_wide::parts::low` meets its contract: the low part is at most 2^14 in size, and 32768 times the high part at most 2^22.
-use mathlib.Core.Path.{_≡_, refl}
+use mathlib.Core.Path.{refl}
 use Prim.Native.Nat.{_+_, _*_, _^_}
 use native.Mathlib.Omega.{arith}
 use lib.IntN.{ℤ, pos, _+ℤ_, _-ℤ_, _*ℤ_}

@@ -1,8 +1,7 @@
 -- `stages_wide::parts::narrow` meets its contract: the loop has placed the values passed. The measure is what is left.
-use mathlib.Core.Path.{_≡_, refl, sym, ap, _∙_}
-use Prim.Native.Nat.{ℕ, _+_, _≤_, _<_, _-_}
+use Prim.Native.Nat.{_≤_, _-_}
 use native.Mathlib.Omega.{arith}
-use lib.IntN.{ℤ, pos}
+use lib.IntN.{pos}
 use lib.ListN.{getD, length}
 use mir.Syntax.{w16, w32}
 use mir.Val.{SFits}

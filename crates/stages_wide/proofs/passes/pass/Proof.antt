@@ -1,9 +1,7 @@
 -- `stages_wide::passes::pass` meets its contract: a size is 4, 8 or 16, or else 32.
 use borrow.Author.Needs.{needs}
-use mathlib.Core.Path.{_≡_, refl}
-use Prim.Native.Nat.{ℕ}
+use mathlib.Core.Path.{_≡_}
 use lib.Dec.{T}
-use Rattle.h265.specs.Range.{isSize}
 use Rattle.stages_wide.proofs.ScanLaws.{size-else}
 use Rattle.stages_wide.proofs.PassLaws.{passAsk-size, filled-size}
 use Rattle.stages_wide.proofs.passes.pass.Statement.{statement}

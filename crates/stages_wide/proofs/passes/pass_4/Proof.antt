@@ -1,6 +1,5 @@
 -- `stages_wide::passes::pass_4` meets its contract: the loop has stored the lines passed. The measure is the lines left.
-use mathlib.Core.Path.{refl}
-use Prim.Native.Nat.{_+_, _*_, _≤_, _<_, _-_}
+use Prim.Native.Nat.{_≤_, _-_}
 use native.Mathlib.Omega.{arith}
 use lib.ListN.{length}
 use Rattle.transform_1d.specs.Rows.{Filled}

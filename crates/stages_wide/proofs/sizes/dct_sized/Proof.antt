@@ -1,7 +1,6 @@
 -- `stages_wide::sizes::dct_sized` meets its contract: a size is 4, 8 or 16, or else 32.
 use borrow.Author.Needs.{needs}
 use mathlib.Core.Path.{_≡_}
-use Prim.Native.Nat.{_≤_}
 use native.Mathlib.Omega.{arith}
 use Rattle.stages_wide.proofs.ScanLaws.{size-else}
 use Rattle.stages_wide.proofs.ResultLaws.{stagesAsk-size, filled-sized}

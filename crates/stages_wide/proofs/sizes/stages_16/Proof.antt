@@ -1,7 +1,6 @@
 -- `stages_wide::sizes::stages_16` meets its contract: its layout reads back as the matrix, and its buffers begin as zeros.
 use borrow.Author.Needs.{needs}
-use mathlib.Core.Path.{_≡_, refl}
-use Prim.Native.Nat.{ℕ, _+_, _*_, _/_, _≤_, _<_}
+use mathlib.Core.Path.{refl}
 use native.Mathlib.Omega.{arith}
 use Rattle.h265.specs.Matrix.{transMatrix}
 use Rattle.stages_wide.specs.Parts.{LayoutOf}

@@ -1,7 +1,6 @@
 -- `stages_wide::sizes::stages_dct` meets its contract: with one column read and one row in use the first coefficient is alone.
 use borrow.Author.Needs.{needs}
-use mathlib.Core.Path.{_≡_, refl}
-use Prim.Native.Nat.{_≤_, _<_}
+use mathlib.Core.Path.{refl}
 use native.Mathlib.Omega.{arith}
 use Rattle.h265.specs.Matrix.{transMatrix}
 use Rattle.stages_wide.proofs.ScanLaws.{size-most, rowsUsed-more}
