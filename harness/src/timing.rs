@@ -162,24 +162,27 @@ fn edit_work() -> Vec<Work> {
     let mut list = Vec::new();
     for (dst, n) in [(true, 4), (false, 4), (false, 8), (false, 16), (false, 32)] {
         for (bit_depth, extended_precision) in [(8, false), (12, true)] {
-            let mut random = Random::of(1, "edit");
-            let mut coeff: Vec<i32> = blocks::block(&mut random, Shape::Full, n, n * n, -2000, 2000);
-            let (mut inter, mut residual, mut again) = (vec![0i32; n * n], vec![0i32; n * n], vec![0i32; n * n]);
-            let block = archive::edits::open_block(dst, n, bit_depth, extended_precision, &coeff, &mut inter, &mut residual);
-            let held = inter.clone();
-            let kind = if dst { "DST" } else { "DCT" };
-            let range = if extended_precision { " extended" } else { "" };
-            let mut value = 1;
-            list.push(Work {
-                label: format!("edit beside stage two, {kind} {n} depth {bit_depth}{range}"),
-                ours: Box::new(move || {
-                    value = 2000 - value;
-                    black_box(archive::edits::edit(dst, n, bit_depth, extended_precision, block.columns, &mut coeff, &mut inter, black_box(&mut residual), n / 2, n - 1, black_box(value)));
-                }),
-                rust: Box::new(move || {
-                    black_box(archive::edits::refresh_residual(dst, n, bit_depth, extended_precision, black_box(&held), black_box(&mut again)));
-                }),
-            });
+            for (shape_name, shape) in [("dense", Shape::Full), ("quarter", Shape::Quarter), ("dc", Shape::Dc)] {
+                let mut random = Random::of(1, "edit");
+                let mut coeff: Vec<i32> = blocks::block(&mut random, shape, n, n * n, -2000, 2000);
+                let (mut inter, mut residual, mut again) = (vec![0i32; n * n], vec![0i32; n * n], vec![0i32; n * n]);
+                let block = archive::edits::open_block(dst, n, bit_depth, extended_precision, &coeff, &mut inter, &mut residual);
+                let held = inter.clone();
+                let kind = if dst { "DST" } else { "DCT" };
+                let range = if extended_precision { " extended" } else { "" };
+                let mut value = 1;
+                list.push(Work {
+                    label: format!("edit beside stage two, {kind} {n} depth {bit_depth}{range} {shape_name}"),
+                    // the value at index 0 goes to and fro, so that the block keeps its shape
+                    ours: Box::new(move || {
+                        value = 2000 - value;
+                        black_box(archive::edits::edit(dst, n, bit_depth, extended_precision, block.columns, &mut coeff, &mut inter, black_box(&mut residual), 0, 0, black_box(value)));
+                    }),
+                    rust: Box::new(move || {
+                        black_box(archive::edits::refresh_residual(dst, n, bit_depth, extended_precision, black_box(&held), black_box(&mut again)));
+                    }),
+                });
+            }
         }
     }
     list
