@@ -121,8 +121,7 @@ fn edit_stages(
     ensures { λ _. ⌜ (now (coeff .exit) ≡ set (now (coeff .entry)) (row * n + column) value) × Staged (editedBuffers kind n «bit_depth» range (buffers (now (coeff .entry)) (now (inter .entry)) (now (residual .entry))) row column value) (now (inter .exit)) (now (residual .exit)) ⌝ }
 {
     coeff[row * n + column] = value;
-    stages_wide::intermediate_column(kind, n, range, coeff, column, inter);
-    stages_wide::residual_of(kind, n, bit_depth, range, inter, residual);
+    stages_wide::column_and_residual(kind, n, bit_depth, range, coeff, column, inter, residual);
 }
 
 // One edit of a block whose record is given by value; the new column count is in the answer.

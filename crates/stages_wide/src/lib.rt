@@ -11,7 +11,7 @@ mod layouts; // layouts by kind and size
 mod sizes; // both stages with buffers of a size's own length
 
 ghost use mathlib.Core.Path.{_≡_};
-ghost use Prim.Native.Nat.{_+_, _*_, _<_};
+ghost use Prim.Native.Nat.{_+_, _*_, _<_, _≤_};
 ghost use lib.ListN.{length};
 ghost use Rattle.integers.specs.Lists.{overwrite};
 ghost use Rattle.h265.specs.Transform.{rowOrder, intermediate, stageTwoShift, stageTwo, residual};
@@ -58,6 +58,36 @@ pub fn residual_of(kind: Kind, n: usize, bit_depth: u8, range: u32, inter: &[i32
     let t = layout(kind, n);
     let mut h = [0i16; 1024];
     let mut l = [0i16; 1024];
+    rows(
+        &t[..],
+        n,
+        range + 5 - (bit_depth as u32),
+        range,
+        inter,
+        &mut h[..],
+        &mut l[..],
+        out,
+    );
+}
+
+// One column of the intermediate and then the residual of the whole: what an edit takes, with one layout for both stages.
+pub fn column_and_residual(
+    kind: Kind,
+    n: usize,
+    bit_depth: u8,
+    range: u32,
+    coeff: &[i32],
+    column: usize,
+    inter: &mut [i32],
+    out: &mut [i32],
+)
+    requires { ⌜ WideAsk kind n range (length (now coeff)) (length (now inter)) × (column < n) × (n * n ≤ length (now out)) × DepthAsk «bit_depth» range ⌝ }
+    ensures { λ _. ⌜ (now (inter .exit) ≡ columnReplaced n column (λ m. intermediate (matrixOf kind n) n range (limitedBlock range n (now (coeff .entry))) m column) (now (inter .entry))) × (now (out .exit) ≡ overwrite (n * n) (rowOrder n (stageTwo (matrixOf kind n) n (stageTwoShift «bit_depth» range) (limitedBlock range n (now (inter .exit))))) (now (out .entry))) ⌝ }
+{
+    let t = layout(kind, n);
+    let mut h = [0i16; 1024];
+    let mut l = [0i16; 1024];
+    column_into(&t[..], n, range, coeff, column, inter);
     rows(
         &t[..],
         n,

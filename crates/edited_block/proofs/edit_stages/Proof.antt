@@ -6,7 +6,7 @@ use native.Mathlib.Omega.{arith}
 use borrow.Author.Needs.{needs}
 use lib.Arith.{digits-lt}
 use lib.IntN.{ℤ}
-use lib.ListN.{length, set, length-set}
+use lib.ListN.{set, length-set}
 use mir.Facts.{toZ-ofZ}
 use mir.Syntax.{w32}
 use mir.Val.{toZ, ofZ}
@@ -15,7 +15,6 @@ use Rattle.h265.specs.Transform.{rowOrder}
 use Rattle.h265.proofs.RangeLaws.{size-square}
 use Rattle.stages_wide.specs.Wide.{columnReplaced}
 use Rattle.edited_block.specs.Edit.{intermediateOf, residualOf, editedBuffers}
-use Rattle.edited_block.proofs.ColumnsLaws.{columnReplaced-length}
 use Rattle.edited_block.proofs.edit_stages.Statement.{statement}
 use Rattle.edited_block.proofs.edit_stages.Tie as tie
 
@@ -35,18 +34,14 @@ mul-value-2 c = record { fits = omega (arith, in-block c, size-square (c .args .
 slice-set-from-value : tie.Need-slice-set-from-value
 slice-set-from-value c = omega (arith, in-block c, c .pre .0 .coeff)
 
-intermediate-column-requires : tie.Need-intermediate-column-requires
-intermediate-column-requires c κs =
-    let p = c .before .before .pre in
-    (record { size = p .0 .size; dst = p .0 .dst; least = p .0 .range .0; most = p .0 .range .1; source = simp length-set (p .0 .coeff); room = p .0 .inter }, omega arith)
-
-residual-of-requires : tie.Need-residual-of-requires
-residual-of-requires c κs =
-    let s = c .before .before .before .before .before .before in
-    let p = s .pre .0 in
-    let l = ap length (c .before .before .before .intermediate-column .ensures) ∙ columnReplaced-length (s .args .n) _ _ (s .args .inter .now) in (
-      record { size = p .size; dst = p .dst; least = p .range .0; most = p .range .1; source = rw l (p .inter); room = p .res },
-      record { least = p .depth .0; most = p .depth .1; above = p .range .2; below = omega arith },
+column-and-residual-requires : tie.Need-column-and-residual-requires
+column-and-residual-requires c κs =
+    let p = c .before .before .before .pre in
+    let a = p .0 in (
+      record { size = a .size; dst = a .dst; least = a .range .0; most = a .range .1; source = simp length-set (a .coeff); room = a .inter },
+      p .2,
+      a .res,
+      record { least = a .depth .0; most = a .depth .1; above = a .range .2; below = omega (arith, a .range .3) },
     )
 
 same-length : tie.Need-same-length
@@ -61,15 +56,16 @@ same-length-3 c = search needs
 returns : tie.Need-returns
 unfolding editedBuffers intermediateOf residualOf
 returns c =
-    let s = c .before .before .before .before .before .before .before .before in
+    let called = c .before .before .column-and-residual in
+    let s = c .before .before .before .before .before .before in
     let n = s .args .n in
     let z : toZ w32 (ofZ w32 (s .args .value)) ≡ s .args .value = toZ-ofZ (s .fits .value) in
-    let e = c .before .before .before .before .before .intermediate-column .ensures
+    let e = called .ensures .0
     ∙ ap (λ (v : ℤ). columnReplaced n (s .args .column) (λ m. intermediateOf (s .args .kind) n (s .args .range) (set (s .args .coeff .now) (s .args .row * n + s .args .column) v) m (s .args .column)) (s .args .inter .now)) z in (
       ap (set (s .args .coeff .now) (s .args .row * n + s .args .column)) z,
       record {
         inter = e;
-        res = c .before .residual-of .ensures
+        res = called .ensures .1
             ∙ ap (λ (g : List ℤ). overwrite (n * n) (rowOrder n (residualOf (s .args .kind) n (s .args .bit-depth) (s .args .range) g)) (s .args .residual .now)) e;
       },
     )
@@ -78,5 +74,5 @@ pub edit-stages-spec : {M : Type 1} → statement M
 edit-stages-spec =
     tie.close
     (tie.spec
-    mul-value add-value mul-value-2 slice-set-from-value intermediate-column-requires residual-of-requires same-length same-length-2
+    mul-value add-value mul-value-2 slice-set-from-value column-and-residual-requires same-length same-length-2
     same-length-3 returns)
