@@ -43,12 +43,20 @@ pub fn limited(x: i32, range: u32) -> i32
     x
 }
 
+// x in 16 bits. It fits as it stands: limited to them, several values at a time take one instruction that packs them.
+fn packed(x: i32) -> i16
+    requires { ⌜ SFits w16 x ⌝ }
+    ensures { λ r. ⌜ r ≡ x ⌝ }
+{
+    limited(x, 15) as i16
+}
+
 // The high part of x.
 fn high(x: i32) -> i16
     requires { ⌜ Within (2 ^ 22) x ⌝ }
     ensures { λ r. ⌜ r ≡ highPart x ⌝ }
 {
-    ((x + 16384) >> 15) as i16
+    packed((x + 16384) >> 15)
 }
 
 // The low part of x.
@@ -56,7 +64,7 @@ fn low(x: i32) -> i16
     requires { ⌜ Within (2 ^ 22) x ⌝ }
     ensures { λ r. ⌜ r ≡ lowPart x ⌝ }
 {
-    (x - 32768 * ((x + 16384) >> 15)) as i16
+    packed(x - 32768 * ((x + 16384) >> 15))
 }
 
 // Whether x takes more than 16 bits.

@@ -1,7 +1,8 @@
 -- `stages_wide::parts::low` meets its contract: the low part is at most 2^14 in size, and 32768 times the high part at most 2^22.
-use mathlib.Core.Path.{refl}
+use mathlib.Core.Path.{_∙_}
 use Prim.Native.Nat.{_+_, _*_, _^_}
 use native.Mathlib.Omega.{arith}
+use borrow.Author.Needs.{sfits-of}
 use lib.IntN.{ℤ, pos, _+ℤ_, _-ℤ_, _*ℤ_}
 use lib.Signed.{shrZ}
 use mir.Syntax.{w16, w32}
@@ -37,21 +38,23 @@ module _ (c : tie.Start) where
   unfolding lowPart highPart shiftRight
   low-16 = within-fits {b = 2 ^ 14} tt (lowPart-within (c .args .x))
 
-add-result : tie.Need-add-result
-add-result c = simp (toZ-ofZ, c .fits .x) (sum-fits c)
+add-packed : tie.Need-add-packed
+add-packed c = simp (toZ-ofZ, c .fits .x) (sum-fits c)
 
-mul-result : tie.Need-mul-result
-mul-result c = simp (toZ-ofZ, c .fits .x, sum-fits c, high-fits c) (multiple-fits c)
+mul-packed : tie.Need-mul-packed
+mul-packed c = simp (toZ-ofZ, c .fits .x, sum-fits c, high-fits c) (multiple-fits c)
 
-sub-result : tie.Need-sub-result
-sub-result c = simp (toZ-ofZ, c .fits .x, sum-fits c, high-fits c, multiple-fits c) (low-32 c)
+sub-packed : tie.Need-sub-packed
+sub-packed c = simp (toZ-ofZ, c .fits .x, sum-fits c, high-fits c, multiple-fits c) (low-32 c)
 
-cast-result : tie.Need-cast-result
-cast-result c = simp (toZ-ofZ, c .fits .x, sum-fits c, high-fits c, multiple-fits c, low-32 c) (low-16 c)
+packed-requires : tie.Need-packed-requires
+packed-requires c κs = simp (toZ-ofZ, c .fits .x, sum-fits c, high-fits c, multiple-fits c, low-32 c) (low-16 c)
 
 returns : tie.Need-returns
 unfolding lowPart highPart shiftRight
-returns c = simp (toZ-ofZ, c .fits .x, sum-fits c, high-fits c, multiple-fits c, low-32 c, low-16 c) refl
+returns c =
+    toZ-ofZ (sfits-of (c .packed .ok))
+    ∙ (simp (toZ-ofZ, c .before .fits .x, sum-fits (c .before), high-fits (c .before), multiple-fits (c .before), low-32 (c .before)) at (c .packed .ensures))
 
 pub low-spec : {M : Type 1} → statement M
-low-spec = tie.close (tie.spec add-result mul-result sub-result cast-result returns)
+low-spec = tie.close (tie.spec add-packed mul-packed sub-packed packed-requires returns)
