@@ -1,0 +1,117 @@
+-- Which m scaling uses at each index of a block, and which rule supplies it: a listing over a feed. Document 02, R-1; the rules are
+-- those of document 01, "Scaling", as `h265` has them.
+--   reasonText src        the rule's word: none, four, eight, dc, repeat
+--   positionText src      the position in the list; a hyphen where the rule has none
+--   ruleText src          both, and the line end
+--   lineText list n i     index, m, reason and position of one index
+--   linesFrom list n i k  the lines of k indices from i on
+--   blockLines list n     those of a whole block, in row order
+--   recordLines kind s    what an accepted record adds: lines for levels, nothing for the others
+--   traceEffect s k body  one record: the feed's answer and state, with the listing for its text
+--   traceRoom len         the bytes that the listing of a record with a body of len bytes may take: 20 for each level of four
+--   tracing               the answer to one record, the state and the text, for a buffer of some length
+--   Traces r l m w        a call of `step` handed back w: l is its buffer before, m after
+--   traceFrom fuel s bytes  the listing of the bytes from the state's offset on, which begin with a record's kind
+--   traceText bytes       the listing of a whole feed: its lines, then that of a refusal
+--   listingRoom len       the bytes that the listing of a feed of len bytes may take
+--   Lists r l m bytes     a call of `run` on a feed, as `Traces`
+use mathlib.Core.Path.{_≡_}
+use mathlib.Core.Bool.{cond}
+use mathlib.Core.List.{List, [], _∷_, _++_}
+use Prim.Native.Nat.{ℕ, zero, suc, _+_, _*_, _≤_, _<_}
+use lib.Dec.{eqb, ltb}
+use lib.ListN.{length, take, drop}
+use Rattle.h265.specs.ScalingFactor.{ScalingList, FactorSource, factorSource, scalingFactor}
+use Rattle.h265.specs.ScalingFactor.FactorSource.{none, four, eight, dc, repeated}
+use Rattle.refusal.specs.Outcome.{Outcome}
+use Rattle.text.specs.Text.{space, lineEnd, minus, unsignedText, Wrote, Counts}
+use Rattle.feed.specs.declared.Kind.{Kind}
+use Rattle.feed.specs.declared.Kind.the-variants.{Parameters, List as ListKind, NoList, Levels, Unknown}
+use Rattle.feed.specs.declared.Stepped.{Stepped}
+use Rattle.feed.specs.declared.Ran.{Ran}
+use Rattle.feed.specs.declared.Ran.the-variants.{Text, NoRoom}
+use Rattle.feed.specs.Format.{kindOf, recordLength}
+use Rattle.feed.specs.Record.{FeedState, Effect, recordEffect}
+use Rattle.feed.specs.Feed.{opening, andThen}
+use Rattle.feed.specs.Answers.{stateOf, capped, stepAnswer, answerOf, Stepping}
+use Rattle.feed.specs.Answers.Room.{tooLittle, enough}
+
+-- ---- one line
+abbrev pub reasonText : FactorSource → List ℕ
+reasonText none = 110 ∷ 111 ∷ 110 ∷ 101 ∷ []
+reasonText (four p) = 102 ∷ 111 ∷ 117 ∷ 114 ∷ []
+reasonText (eight p) = 101 ∷ 105 ∷ 103 ∷ 104 ∷ 116 ∷ []
+reasonText dc = 100 ∷ 99 ∷ []
+reasonText (repeated p) = 114 ∷ 101 ∷ 112 ∷ 101 ∷ 97 ∷ 116 ∷ []
+
+abbrev pub positionText : FactorSource → List ℕ
+positionText none = minus ∷ []
+positionText (four p) = unsignedText p
+positionText (eight p) = unsignedText p
+positionText dc = minus ∷ []
+positionText (repeated p) = unsignedText p
+
+unfoldable pub ruleText : FactorSource → List ℕ
+ruleText src = reasonText src ++ (space ∷ (positionText src ++ (lineEnd ∷ [])))
+
+unfoldable pub lineText : ScalingList → ℕ → ℕ → List ℕ
+lineText list n i =
+    unsignedText i ++ (space ∷ (unsignedText (scalingFactor list n i) ++ (space ∷ ruleText (factorSource list n i))))
+
+-- ---- one block
+unfoldable pub linesFrom : ScalingList → ℕ → ℕ → ℕ → List ℕ
+linesFrom list n i zero = []
+linesFrom list n i (suc k) = lineText list n i ++ linesFrom list n (suc i) k
+
+unfoldable pub blockLines : ScalingList → ℕ → List ℕ
+blockLines list n = linesFrom list n 0 (n * n)
+
+-- ---- one record
+abbrev pub recordLines : Kind → FeedState → List ℕ
+recordLines Parameters s = []
+recordLines ListKind s = []
+recordLines NoList s = []
+recordLines (Levels n) s = blockLines (s .list) n
+recordLines Unknown s = []
+
+unfoldable pub traceEffect : FeedState → ℕ → List ℕ → Outcome Effect
+traceEffect s k body =
+    let o : Outcome Effect = recordEffect s k body in
+    record {
+      number = o .number;
+      place = o .place;
+      value = record { text = cond (eqb (o .number) 0) (recordLines (kindOf k) s) []; state = o .value .state };
+    }
+
+abbrev pub traceRoom : ℕ → ℕ
+traceRoom len = 5 * len
+
+unfoldable pub tracing : FeedState → ℕ → List ℕ → ℕ → Stepping
+tracing s k body room =
+    cond (ltb room (traceRoom (length body))) (record { answer = tooLittle; state = s; text = [] })
+    (let o : Outcome Effect = traceEffect s k body in record { answer = enough (answerOf o); state = o .value .state; text = o .value .text })
+
+pub record Traces (r : Stepped) (l m : List ℕ) (w : Stepping) : Type 0 where
+  pub answered : stepAnswer (r .answer) ≡ w .answer
+  pub state : stateOf (r .state) ≡ capped (w .state)
+  pub wrote : Wrote l 0 (w .text) m (r .end)
+  pub counts : Counts (r .end) m
+
+-- ---- a whole feed
+unfoldable pub traceFrom : ℕ → FeedState → List ℕ → List ℕ
+traceFrom zero s bytes = []
+traceFrom (suc fuel) s [] = []
+traceFrom (suc fuel) s (k ∷ bytes) =
+    andThen (traceEffect s k (take (recordLength k) bytes)) (s .offset)
+    (traceFrom fuel (traceEffect s k (take (recordLength k) bytes) .value .state) (drop (recordLength k) bytes))
+
+-- a record takes at least a byte, so there are no more records than bytes
+unfoldable pub traceText : List ℕ → List ℕ
+traceText bytes = traceFrom (length bytes + 1) opening bytes
+
+abbrev pub listingRoom : ℕ → ℕ
+listingRoom len = 5 * len + 40
+
+abbrev pub Lists : Ran → List ℕ → List ℕ → List ℕ → Type 0
+Lists (Text end) l m bytes = (listingRoom (length bytes) ≤ length l) × Wrote l 0 (traceText bytes) m end × Counts end m
+Lists NoRoom l m bytes = (length l < listingRoom (length bytes)) × (m ≡ l)

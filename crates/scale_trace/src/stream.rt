@@ -1,0 +1,143 @@
+// The listing of a feed: one record, and a whole input. The feed's own step gives answer and state.
+ghost use mathlib.Core.Path.{_≡_};
+ghost use Prim.Native.Nat.{_+_, min, _≤_};
+ghost use lib.ListN.{length};
+ghost use Rattle.text.specs.Text.{Wrote, WroteUpTo, Counts};
+ghost use Rattle.feed.specs.Format.{kindOf};
+ghost use Rattle.feed.specs.Answers.{stateOf};
+ghost use Rattle.scale_trace.specs.Trace.{traceEffect, traceRoom, tracing, Traces, traceText, listingRoom, Lists};
+ghost use Rattle.scale_trace.specs.Work.{isDone, sizeOf, refusalOf, TracesAt};
+use crate::lines;
+use feed::Ran;
+use feed::State;
+use feed::StepAnswer;
+use feed::Stepped;
+
+fn least(a: usize, b: usize) -> usize
+    ensures { λ r. ⌜ r ≡ min a b ⌝ }
+{
+    if a < b { a } else { b }
+}
+
+fn is_done(answer: StepAnswer) -> bool
+    ensures { λ r. ⌜ r ≡ isDone answer ⌝ }
+{
+    match answer {
+        StepAnswer::Done => true,
+        StepAnswer::Refused(_) => false,
+        StepAnswer::NoRoom => false,
+    }
+}
+
+// The size of a kind's block; 0 where a kind has none.
+fn size_of(kind: u8) -> usize
+    ensures { λ r. ⌜ r ≡ sizeOf (kindOf kind) ⌝ }
+{
+    match kind {
+        4 => 4,
+        5 => 8,
+        6 => 16,
+        7 => 32,
+        _ => 0,
+    }
+}
+
+// A record, whole or not: its lines at a place of the buffer. The rows that the feed writes are put aside; a body that is longer than
+// its kind's is cut, so that they fit.
+fn take_record(state: State, kind: u8, body: &[u8], out: &mut [u8], at: usize) -> Stepped
+    requires { ⌜ at + traceRoom (length (now body)) ≤ length (now out) ⌝ }
+    ensures { λ r. ⌜ TracesAt r (now (out .entry)) at (now (out .exit)) (traceEffect (stateOf state) kind (now (body .entry))) (traceRoom (length (now (body .entry)))) ⌝ }
+{
+    let mut rows = [0u8; 12288];
+    let whole = least(feed::record_length(kind), body.len());
+    let stepped = feed::step(state, kind, &body[..whole], &mut rows);
+    let answer = stepped.answer;
+    let next = stepped.state;
+    if !is_done(answer) {
+        return Stepped {
+            answer,
+            state: next,
+            end: at,
+        };
+    }
+    let entries = state.entries;
+    let n = size_of(kind);
+    let end = lines::put_lines(state.listed, &entries, state.dc, n, out, at);
+    Stepped {
+        answer,
+        state: next,
+        end,
+    }
+}
+
+// One record: its kind, and as much of its body as there is; answer and state are those of the feed's step. Its lines go to the
+// start of `out`, which must have five bytes for each byte of the body; else `NoRoom` is answered before anything else, and state
+// and buffer are as given. A refused record too leaves both as given.
+pub fn step(state: State, kind: u8, body: &[u8], out: &mut [u8]) -> Stepped
+    ensures { λ r. ⌜ Traces r (now (out .entry)) (now (out .exit)) (tracing (stateOf state) kind (now (body .entry)) (length (now (out .entry)))) ⌝ }
+{
+    if out.len() / 5 < body.len() {
+        return Stepped {
+            answer: StepAnswer::NoRoom,
+            state,
+            end: 0,
+        };
+    }
+    take_record(state, kind, body, out, 0)
+}
+
+// The line of a refusal.
+fn put_refusal(answer: StepAnswer, offset: u64, out: &mut [u8], at: usize) -> usize
+    requires { ⌜ at + 40 ≤ length (now out) ⌝ }
+    ensures { λ r. ⌜ WroteUpTo (now (out .entry)) at (refusalOf answer offset) (now (out .exit)) r (at + 40) ⌝ }
+{
+    match answer {
+        StepAnswer::Done => at,
+        StepAnswer::Refused(why) => {
+            let line = feed::refusal_line(why, offset);
+            let bytes = line.bytes;
+            let end = line.end;
+            text::put_bytes(&bytes[..end], out, at)
+        }
+        StepAnswer::NoRoom => at,
+    }
+}
+
+// The listing of a whole feed, where there is room for it.
+fn run_within(input: &[u8], out: &mut [u8]) -> usize
+    requires { ⌜ listingRoom (length (now input)) ≤ length (now out) ⌝ }
+    ensures { λ r. ⌜ Wrote (now (out .entry)) 0 (traceText (now (input .entry))) (now (out .exit)) r × Counts r (now (out .exit)) ⌝ }
+{
+    let mut state = feed::start();
+    let mut end = 0;
+    while (state.offset as usize) < input.len() {
+        let at = state.offset as usize;
+        let kind = input[at];
+        let from = at + 1;
+        let stop = least(from + feed::record_length(kind), input.len());
+        let taken = take_record(state, kind, &input[from..stop], out, end);
+        let answer = taken.answer;
+        let reached = taken.end;
+        if !is_done(answer) {
+            return put_refusal(answer, state.offset, out, reached);
+        }
+        let next = taken.state;
+        state = next;
+        end = reached;
+    }
+    end
+}
+
+// The listing of a whole feed at the start of `out`: the lines of its blocks, then the line of a refusal. With fewer than five bytes
+// for each byte of the input and 40 more, `NoRoom` is answered and the buffer is as lent.
+pub fn run(input: &[u8], out: &mut [u8]) -> Ran
+    ensures { λ r. ⌜ Lists r (now (out .entry)) (now (out .exit)) (now (input .entry)) ⌝ }
+{
+    if out.len() < 40 {
+        return Ran::NoRoom;
+    }
+    if (out.len() - 40) / 5 < input.len() {
+        return Ran::NoRoom;
+    }
+    Ran::Text(run_within(input, out))
+}
