@@ -168,6 +168,16 @@ fn lent(random: &mut Random, o: &Opening) -> Buffers {
     Buffers { coeff, inter: Lent::filled(random, inter_len), residual: Lent::filled(random, residual_len) }
 }
 
+/// An opening with its buffers, one in four of them damaged.
+fn perhaps_damaged(random: &mut Random) -> (Opening, Buffers) {
+    let mut o = Opening::random(random);
+    let mut buffers = lent(random, &o);
+    if random.one_in(4) {
+        damage(random, &mut o, &mut buffers);
+    }
+    (o, buffers)
+}
+
 struct Matrices(Vec<(bool, usize, Vec<i128>)>);
 
 impl Matrices {
@@ -193,11 +203,7 @@ fn refreshes(tally: &mut Tally, matrices: &Matrices, seed: u64, cases: usize) {
     tally.begin("refresh_residual");
     let mut random = Random::of(seed, "refresh_residual");
     for _ in 0..cases {
-        let mut o = Opening::random(&mut random);
-        let mut ours = lent(&mut random, &o);
-        if random.one_in(4) {
-            damage(&mut random, &mut o, &mut ours);
-        }
+        let (o, mut ours) = perhaps_damaged(&mut random);
         let mut expected = ours.copy();
         let room = ours.residual.seen().len();
         let number = o.refusal(ours.inter.seen().len(), room, room);
@@ -214,11 +220,7 @@ fn openings(tally: &mut Tally, matrices: &Matrices, seed: u64, cases: usize) {
     tally.begin("open_block");
     let mut random = Random::of(seed, "open_block");
     for _ in 0..cases {
-        let mut o = Opening::random(&mut random);
-        let mut ours = lent(&mut random, &o);
-        if random.one_in(4) {
-            damage(&mut random, &mut o, &mut ours);
-        }
+        let (o, mut ours) = perhaps_damaged(&mut random);
         let mut expected = ours.copy();
         let number = o.refusal(ours.coeff.seen().len(), ours.inter.seen().len(), ours.residual.seen().len());
         let outside = if number == 0 {
