@@ -39,7 +39,7 @@ column-and-residual-requires c κs =
     let p = c .before .before .before .pre in
     let a = p .0 in (
       record { size = a .size; dst = a .dst; least = a .range .0; most = a .range .1; source = simp length-set (a .coeff); room = a .inter },
-      p .2,
+      omega (arith, p .1, p .2),
       a .res,
       record { least = a .depth .0; most = a .depth .1; above = a .range .2; below = omega (arith, a .range .3) },
     )
