@@ -67,14 +67,9 @@ typedef struct {
     size_t columns;
 } residual_block_answered;
 
+/* The same, with how many edits were given to the block. */
 typedef struct {
-    uint32_t number;
-    size_t place;
-    bool dst;
-    size_t size;
-    uint8_t depth;
-    bool extended;
-    size_t columns;
+    residual_block_answered block;
     size_t edits;
 } residual_list_answered;
 

@@ -131,7 +131,7 @@ static void edits(void) {
     int32_t values[2] = {1, 0};
     uint8_t numbers[2] = {9, 9};
     residual_list_answered l = residual_open_and_edit(false, 4, 8, false, coeff, 16, inter, 16, residual, 17, rows, 2, columns, 2, values, 2, numbers, 2, places, 2);
-    same = l.number == 0 && l.columns == 0 && l.edits == 2 && numbers[0] == 8 && places[0] == 0 && numbers[1] == 0 && places[1] == 0;
+    same = l.block.number == 0 && l.block.columns == 0 && l.edits == 2 && numbers[0] == 8 && places[0] == 0 && numbers[1] == 0 && places[1] == 0;
     for (int i = 0; i < 16; i++) same = same && residual[i] == 0 && coeff[i] == 0;
     expect(same && residual[16] == 7, "open_and_edit");
     residual[3] = 9;

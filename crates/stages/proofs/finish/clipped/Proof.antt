@@ -22,7 +22,7 @@ module _ (c : tie.Start) where
   y-fits = sfits-shr 128 more-fits
 
 add-y : tie.Need-add-y
-add-y c = simp (toZ-ofZ, c .fits .x) (more-fits c)
+add-y c = simp (toZ-ofZ, c .fits .x) (within-fits {b = 2 ^ 27 + 64} tt (within-add (c .pre) (within-pos {b = 64} (omega arith))))
 
 returns : tie.Need-returns
 unfolding roundShift shiftRight
