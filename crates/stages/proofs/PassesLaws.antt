@@ -2,7 +2,6 @@
 --   passAsk-line       a pass meets what each of its lines asks
 --   passAsk-row        each row ends inside the block
 --   lineSums-halves    the sums of a line have room
---   placed-cong        a run of equal values
 --   placed-mirror      both halves of a 32-point line, as one run
 --   folded-inside, folded-back   a place of a folded row is one of the row's; folded twice, a row is in order
 --   placed-folded      sums, then differences, are a folded row
@@ -26,7 +25,7 @@ use mir.Syntax.{w16}
 use mir.Val.{SFits}
 use Rattle.transform_1d.specs.Lanes.{laneOutput, lineSum, LineAsk, LineSums}
 use Rattle.transform_1d.specs.Rows.{Placed, Filled}
-use Rattle.transform_1d.proofs.RowsLaws.{placed-append, filled-suc}
+use Rattle.transform_1d.proofs.RowsLaws.{placed-cong, placed-append, filled-suc}
 use Rattle.stages.specs.Passes.{Halves, PassAsk, folded, foldedLane, Turned}
 use Rattle.stages.proofs.ScanLaws.{row-inside}
 
@@ -45,9 +44,6 @@ module _ {n : ℕ} {t x : List ℤ} {count groups d : ℕ} (a : PassAsk n t x co
 
 pub lineSums-halves : {t x : List ℤ} {base stride groups : ℕ} {z : List ℤ} → LineSums t x base stride groups z → Halves z
 lineSums-halves s = record { at = s .bound }
-
-pub placed-cong : {at w : ℕ} {f g : ℕ → ℤ} {xs ys : List ℤ} → ((j : ℕ) → j < w → f j ≡ g j) → Placed at w f xs ys → Placed at w g xs ys
-placed-cong h p = record { long = p .long; done = λ j l. p .done j l ∙ h j l; kept = p .kept }
 
 pub placed-mirror : (f : ℤ → ℤ) {at : ℕ} (z r : List ℤ) {xs ys zs : List ℤ} → ((j : ℕ) → j < 16 → laneOutput r j ≡ laneOutput z (16 + j))
     → Placed at 16 (λ j. f (laneOutput z j)) xs ys → Placed (at + 16) 16 (λ j. f (laneOutput r j)) ys zs → Placed at 32 (λ j. f (laneOutput z j)) xs zs

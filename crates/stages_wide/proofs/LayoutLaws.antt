@@ -62,8 +62,8 @@ widened-all {t} {r} {i} h w =
     (w .long, λ k. elim (decLt k i) [ yes y ↦ w .done k y | no d ↦ w .rest k (omega arith) ∙ sym (getD-past t k (omega arith)) ])
 
 -- ---- layouts of matrices
-pub layoutOf-laid : {t : ℕ → ℕ → ℤ} {n : ℕ} {xs : List ℤ} → Laid t n xs → LayoutOf t n xs
-layoutOf-laid l = record { layout = record { long = l .long; small = l .small }; reads = l .reads }
+pub layoutOf-laid : {t : ℕ → ℕ → ℤ} {n : ℕ} {xs : List ℤ} → (8 ≤ n → (k j : ℕ) → t k j ≡ transMatrix n k j) → Laid t n xs → LayoutOf t n xs
+layoutOf-laid e l = record { layout = record { long = l .long; small = l .small; dct = λ h k j a b. l .reads k j a b ∙ e h k j }; reads = l .reads }
 
 pub layoutOf-self : {n : ℕ} {xs : List ℤ} → Layout xs n → LayoutOf (laneMatrix xs) n xs
 layoutOf-self l = record { layout = l; reads = λ k j a b. refl }
@@ -72,19 +72,21 @@ pub layoutOf-widened : {t : ℕ → ℕ → ℤ} {n : ℕ} (xs r : List ℤ) →
 unfolding laneMatrix
 layoutOf-widened xs r m e l =
     record {
-      layout = record { long = omega (arith, e .0); small = record { at = λ i. within-eq (e .1 i) (l .layout .small .at i) } };
-      reads = λ k j a b.
-          ap₂ (λ (x y : ℤ). cond (ltb j 16) x (mirrored k y)) (e .1 (lanePlace k j)) (e .1 (lanePlace k (31 - j))) ∙ l .reads k j a b;
+      layout = record { long = omega (arith, e .0); small = record { at = λ i. within-eq (e .1 i) (l .layout .small .at i) }; dct = λ h k j a b. same k j ∙ l .layout .dct h k j a b };
+      reads = λ k j a b. same k j ∙ l .reads k j a b;
     }
+  where
+    same : (k j : ℕ) → laneMatrix r k j ≡ laneMatrix xs k j
+    same k j = ap₂ (λ (x y : ℤ). cond (ltb j 16) x (mirrored k y)) (e .1 (lanePlace k j)) (e .1 (lanePlace k (31 - j)))
 
 pub layoutOf-dct : (n : ℕ) {xs : List ℤ} → xs ≡ lanes (transMatrix n) n → 0 < n → n ≡ 4 * (n / 4) → n ≤ 16 → LayoutOf (transMatrix n) n xs
-layoutOf-dct n e a b c = layoutOf-laid (laid (transMatrix n) n e (transMatrix-within n) a b c)
+layoutOf-dct n e a b c = layoutOf-laid (λ h k j. refl) (laid (transMatrix n) n e (transMatrix-within n) a b c)
 
 pub layoutOf-32 : {xs : List ℤ} → xs ≡ lanes (transMatrix 32) 32 → LayoutOf (transMatrix 32) 32 xs
-layoutOf-32 e = layoutOf-laid (laid-32 e)
+layoutOf-32 e = layoutOf-laid (λ h k j. refl) (laid-32 e)
 
 pub layoutOf-dst : {xs : List ℤ} → xs ≡ lanes dstMatrix 4 → LayoutOf dstMatrix 4 xs
-layoutOf-dst e = layoutOf-laid (laid dstMatrix 4 e dstMatrix-within (omega arith) refl (omega arith))
+layoutOf-dst e = layoutOf-laid (λ h k j. absurd (not-suc-le-zero {n = 0} (omega arith))) (laid dstMatrix 4 e dstMatrix-within (omega arith) refl (omega arith))
 
 pub layoutOf-size : {n m : ℕ} {xs : List ℤ} → n ≡ m → LayoutOf (transMatrix m) m xs → LayoutOf (transMatrix n) n xs
 layoutOf-size {xs = xs} e l = subst (λ (k : ℕ). LayoutOf (transMatrix k) k xs) (sym e) l

@@ -12,7 +12,7 @@
 use mathlib.Core.Path.{_≡_, refl, sym, ap, ap₂, _∙_}
 use mathlib.Core.List.{List}
 use Prim.Native.Nat.{ℕ, zero, suc, _+_, _*_, _-_, _/_, _^_, _≤_, _<_}
-use native.Mathlib.Nat.{mul-le-mul-right, mul-le-mul-left, mul-one, mul-add, suc-mul, zero-add, mul-zero}
+use native.Mathlib.Nat.{not-suc-le-zero, mul-le-mul-right, mul-le-mul-left, mul-one, mul-add, suc-mul, zero-add, mul-zero}
 use native.Mathlib.Omega.{arith}
 use lib.Arith.{digits-lt}
 use lib.Dec.{T}
@@ -137,6 +137,9 @@ module _ {t : List ℤ} {n r sourceLength highLength lowLength targetLength : �
         size = a .size;
         most = d;
         reads = λ c k i j. omega (arith, place-column n c k, digits-lt {q = k} {m = 4 * groups} {r = c} {c = n} j (omega arith));
+        past = λ c k i j h. omega (arith, place-column n c k, mul-le-mul-right n j);
+        inside = λ c k i j. place-inside n 1 n c k (omega arith) (omega arith) j;
+        whole = m;
         leadMost = omega (arith, size-most n (a .size));
         shiftLeast = e;
         shiftMost = f;
@@ -149,14 +152,17 @@ module _ {t : List ℤ} {n r sourceLength highLength lowLength targetLength : �
         room = omega (arith, mul-le-mul-right n b, a .room);
       }
 
-  pub stageAsk-whole : {lead stride groups s : ℕ} → lead ≤ n → lead + stride ≤ n + 1 → 4 * groups ≤ n → 4 ≤ s → s ≤ 12
+  pub stageAsk-whole : {lead stride groups s : ℕ} → lead ≤ n → lead + stride ≤ n + 1 → n ≡ 4 * groups → 4 ≤ s → s ≤ 12
       → StageAsk n t n lead stride groups s r (n * n) sourceLength highLength lowLength targetLength
   stageAsk-whole {lead} {stride} b d g e f =
       record {
         layout = a .layout;
         size = a .size;
-        most = g;
-        reads = λ c k i j. place-inside n lead stride c k d i (omega arith);
+        most = omega (arith, g);
+        reads = λ c k i j. place-inside n lead stride c k d i (omega (arith, g));
+        past = λ c k i j h. absurd (not-suc-le-zero {n = 0} (omega (arith, g)));
+        inside = λ c k i j. place-inside n lead stride c k d i j;
+        whole = omega arith;
         leadMost = b;
         shiftLeast = e;
         shiftMost = f;
@@ -172,11 +178,15 @@ module _ {t : List ℤ} {n r sourceLength highLength lowLength targetLength : �
   pub stageAsk-column : {length : ℕ} → length ≡ 32 → StageAsk n t 1 0 1 (n / 4) 7 r n length 32 32 32
   stageAsk-column e =
       let m = size-most n (a .size) in
+      let n-square : n ≤ n * n = omega (arith, mul-le-mul-right n (m .0)) in
       record {
         layout = a .layout;
         size = a .size;
         most = omega (arith, size-fours n (a .size));
         reads = λ c k i j. omega (arith, mul-zero c, mul-one k, size-fours n (a .size));
+        past = λ c k i j h. absurd (not-suc-le-zero {n = 0} (omega (arith, size-fours n (a .size))));
+        inside = λ c k i j. omega (arith, mul-zero c, mul-one k, n-square);
+        whole = n-square;
         leadMost = omega arith;
         shiftLeast = omega arith;
         shiftMost = omega arith;

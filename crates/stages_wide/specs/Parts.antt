@@ -5,14 +5,15 @@
 --   limitedAt r xs i       place i of xs, limited to the range
 --   partsSum               a line over both parts: 32768 × the line over the high parts + the line over the low parts
 --   partsOutput            the same of the sums that two lines give
---   Layout t n             t is a layout for n points: its length, and its small entries
+--   Layout t n             t is a layout for n points: its length, its small entries, and from 8 points on the DCT's matrix in it
 --   Sums z                 the sums of a line, with room for those of two halves; HighSums: and outputs of high parts are small
 --   LinesAsk               what a pass over lines of 16-bit values asks: line c reads places c × lead, c × lead + stride, .. of x
 --   lineValue              output j of line c, rounded
 --   PassAsk                what a pass over both parts asks: no high part is above 128 in size, as for values of at most 2^22
 --   passValue              output j of line c over both parts, rounded
 --   Narrow w s             the first w values of s fit 16 bits
---   StageAsk               what lines over values of any width ask: of the first w values of s, limited as they are read
+--   StageAsk               what lines over values of any width ask: of the first w values of s, limited as they are read; what a line
+--                          leaves out stands past them
 --   stageValue             output j of line c over limited values, rounded
 --   RowsUsed               rows from r on are zero in the first nx columns
 --   ColumnPlaced           ys is xs with f 0, .., f (m - 1) down column c
@@ -31,6 +32,7 @@ use mir.Syntax.{w16}
 use mir.Val.{SFits}
 use Rattle.integers.specs.Shift.{shiftRight, roundShift}
 use Rattle.integers.specs.Within.{Within}
+use Rattle.h265.specs.Matrix.{transMatrix}
 use Rattle.h265.specs.Range.{clipCoeff, isSize}
 use Rattle.h265.specs.Transform.{transformLine, columnsRead, intermediate, stageTwo}
 use Rattle.transform_1d.specs.Lanes.{laneMatrix, lineSum, laneOutput, SmallEntries}
@@ -57,6 +59,7 @@ partsOutput zh zl s j = roundShift (joinParts (laneOutput zh j) (laneOutput zl j
 pub record Layout (t : List ℤ) (n : ℕ) : Type 0 where
   pub long : 16 * n ≤ length t
   pub small : SmallEntries t
+  pub dct : 8 ≤ n → (k j : ℕ) → k < n → j < n → laneMatrix t k j ≡ transMatrix n k j
 
 pub record Sums (z : List ℤ) : Type 0 where
   pub at : (p : ℕ) → p < 32 → Within (2 ^ 26) (getD z p (pos 0))
@@ -95,6 +98,9 @@ pub record StageAsk (n : ℕ) (t : List ℤ) (lines lead stride groups s r w sou
   pub size : T (isSize n)
   pub most : 4 * groups ≤ n
   pub reads : (c k : ℕ) → c < lines → k < 4 * groups → c * lead + k * stride < w
+  pub past : (c k : ℕ) → c < lines → 4 * groups ≤ k → k < n → w ≤ c * lead + k * stride
+  pub inside : (c k : ℕ) → c < lines → k < n → c * lead + k * stride < n * n
+  pub whole : w ≤ n * n
   pub leadMost : lead ≤ n
   pub shiftLeast : 4 ≤ s
   pub shiftMost : s ≤ 12

@@ -28,7 +28,7 @@ fn lines_4(
     while c < count {
         let z = idct_raw_4(t, x, c * lead, stride, groups);
         let r = round(&z, shift);
-        put(&r, 4, out, c * 4);
+        put(&r, 0, 4, out, c * 4);
         c += 1;
     }
 }
@@ -51,7 +51,7 @@ fn lines_8(
     while c < count {
         let z = idct_raw_8(t, x, c * lead, stride, groups);
         let r = round(&z, shift);
-        put(&r, 8, out, c * 8);
+        put(&r, 0, 8, out, c * 8);
         c += 1;
     }
 }
@@ -74,7 +74,7 @@ fn lines_16(
     while c < count {
         let z = idct_raw_16(t, x, c * lead, stride, groups);
         let r = round(&z, shift);
-        put(&r, 16, out, c * 16);
+        put(&r, 0, 16, out, c * 16);
         c += 1;
     }
 }
@@ -97,7 +97,7 @@ fn lines_32(
     while c < count {
         let z = idct_raw_32(t, x, c * lead, stride, groups);
         let r = round(&z, shift);
-        put(&r, 32, out, c * 32);
+        put(&r, 0, 32, out, c * 32);
         c += 1;
     }
 }

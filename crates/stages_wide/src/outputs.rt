@@ -78,14 +78,14 @@ pub fn join(h: &[i32; 32], l: &[i32; 32], shift: u32) -> [i32; 32]
     r
 }
 
-// The first w outputs, from place at on.
-pub fn put(r: &[i32; 32], w: usize, out: &mut [i32], at: usize)
-    requires { ⌜ (w ≤ 32) × (at + w ≤ length (now out)) ⌝ }
-    ensures { λ _. ⌜ Placed at w (λ j. getD (now (r .entry)) j (pos 0)) (now (out .entry)) (now (out .exit)) ⌝ }
+// w outputs from output `from` on, from place at on.
+pub fn put(r: &[i32; 32], from: usize, w: usize, out: &mut [i32], at: usize)
+    requires { ⌜ (from + w ≤ 32) × (at + w ≤ length (now out)) ⌝ }
+    ensures { λ _. ⌜ Placed at w (λ j. getD (now (r .entry)) (from + j) (pos 0)) (now (out .entry)) (now (out .exit)) ⌝ }
 {
     let mut j: usize = 0;
     while j < w {
-        out[at + j] = r[j];
+        out[at + j] = r[from + j];
         j += 1;
     }
 }

@@ -29,7 +29,7 @@ fn pass_4(
         let zh = idct_raw_4(t, h, c * lead, stride, groups);
         let zl = idct_raw_4(t, l, c * lead, stride, groups);
         let r = join(&zh, &zl, shift);
-        put(&r, 4, out, c * 4);
+        put(&r, 0, 4, out, c * 4);
         c += 1;
     }
 }
@@ -54,12 +54,13 @@ fn pass_8(
         let zh = idct_raw_8(t, h, c * lead, stride, groups);
         let zl = idct_raw_8(t, l, c * lead, stride, groups);
         let r = join(&zh, &zl, shift);
-        put(&r, 8, out, c * 8);
+        put(&r, 0, 8, out, c * 8);
         c += 1;
     }
 }
 
-// Lines of 16 points over both parts: line c becomes row c of out.
+// Lines of 16 points over both parts: line c becomes row c of out. Outputs 8 to 15 mirror outputs 7 to 0, so that they are the last of
+// 32, and half of the lanes do.
 fn pass_16(
     t: &[i16],
     h: &[i16],
@@ -79,7 +80,8 @@ fn pass_16(
         let zh = idct_raw_16(t, h, c * lead, stride, groups);
         let zl = idct_raw_16(t, l, c * lead, stride, groups);
         let r = join(&zh, &zl, shift);
-        put(&r, 16, out, c * 16);
+        put(&r, 0, 8, out, c * 16);
+        put(&r, 24, 8, out, c * 16 + 8);
         c += 1;
     }
 }
@@ -104,7 +106,7 @@ fn pass_32(
         let zh = idct_raw_32(t, h, c * lead, stride, groups);
         let zl = idct_raw_32(t, l, c * lead, stride, groups);
         let r = join(&zh, &zl, shift);
-        put(&r, 32, out, c * 32);
+        put(&r, 0, 32, out, c * 32);
         c += 1;
     }
 }

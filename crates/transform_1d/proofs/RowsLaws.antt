@@ -2,6 +2,7 @@
 --   row-unique             two places of one block are in one row only if their rows are equal
 --   placed-zero, -suc      no store; one store more
 --   placed-all             a run by another name of its length
+--   placed-cong            a run of equal values
 --   placed-append          a run after a run
 --   filled-zero, -suc      no row; one row more, stored as a run
 --   filled-all             the same rows by another name of their number
@@ -43,6 +44,9 @@ placed-suc {at} {w} {f} {xs} {ys} {i} {v} p q h e =
 
 pub placed-all : {at : ℕ} (w : ℕ) {v : ℕ} {f : ℕ → ℤ} {xs ys : List ℤ} → v ≡ w → Placed at v f xs ys → Placed at w f xs ys
 placed-all {at} w {f = f} {xs} {ys} e p = subst (λ (k : ℕ). Placed at k f xs ys) e p
+
+pub placed-cong : {at w : ℕ} {f g : ℕ → ℤ} {xs ys : List ℤ} → ((j : ℕ) → j < w → f j ≡ g j) → Placed at w f xs ys → Placed at w g xs ys
+placed-cong h p = record { long = p .long; done = λ j l. p .done j l ∙ h j l; kept = p .kept }
 
 pub placed-append : {at w v : ℕ} {f : ℕ → ℤ} {xs ys zs : List ℤ}
     → Placed at w f xs ys → Placed (at + w) v (λ j. f (w + j)) ys zs → Placed at (w + v) f xs zs

@@ -4,7 +4,8 @@ use Prim.Native.Nat.{ℕ, _+_, _*_, _/_, _≤_, _<_, _-_}
 use native.Mathlib.Omega.{arith}
 use Rattle.stages.specs.Passes.{Run, Turned}
 use Rattle.stages.proofs.ScanLaws.{row-inside, square-bound}
-use Rattle.stages.proofs.PassesLaws.{placed-cong, turned-zero, turned-suc, turned-all}
+use Rattle.transform_1d.proofs.RowsLaws.{placed-cong}
+use Rattle.stages.proofs.PassesLaws.{turned-zero, turned-suc, turned-all}
 use Rattle.stages.proofs.turn.turn16.Statement.{statement}
 use Rattle.stages.proofs.turn.turn16.Tie as tie
 

@@ -1,6 +1,6 @@
 -- `stages_wide::outputs::put` meets its contract: the loop has placed the outputs passed. The measure is what is left of them.
 use mathlib.Core.Path.{refl}
-use Prim.Native.Nat.{_≤_, _-_}
+use Prim.Native.Nat.{_≤_, _+_, _-_}
 use native.Mathlib.Omega.{arith}
 use lib.IntN.{pos}
 use lib.ListN.{getD, length}
@@ -13,13 +13,16 @@ use Rattle.stages_wide.proofs.outputs.put.Statement.{statement}
 use Rattle.stages_wide.proofs.outputs.put.Tie as tie
 
 abbrev Inv-loop : tie.InvT-loop
-Inv-loop r w out₀ at j₀ out j = (j ≤ w) × Placed at j (λ i. getD r i (pos 0)) out₀ out
+Inv-loop r from w out₀ at j₀ out j = (j ≤ w) × Placed at j (λ i. getD r (from + i) (pos 0)) out₀ out
 
 abbrev μ-loop : tie.MeasureT-loop
-μ-loop r w out₀ at j₀ out j = w - j
+μ-loop r from w out₀ at j₀ out j = w - j
 
 loop-holds : tie.Need-loop-holds Inv-loop μ-loop
 loop-holds c = (omega arith, placed-zero)
+
+add-out : tie.Need-add-out Inv-loop μ-loop
+add-out c = omega arith
 
 mul-out : tie.Need-mul-out Inv-loop μ-loop
 mul-out c = omega arith
@@ -27,11 +30,11 @@ mul-out c = omega arith
 element-copy-out-out : tie.Need-element-copy-out-out Inv-loop μ-loop
 element-copy-out-out c = omega arith
 
-add-t11 : tie.Need-add-t11 Inv-loop μ-loop
-add-t11 c = omega arith
+add-t13 : tie.Need-add-t13 Inv-loop μ-loop
+add-t13 c = omega arith
 
-mul-t12 : tie.Need-mul-t12 Inv-loop μ-loop
-mul-t12 c = omega arith
+mul-t14 : tie.Need-mul-t14 Inv-loop μ-loop
+mul-t14 c = omega arith
 
 slice-set-from-out : tie.Need-slice-set-from-out Inv-loop μ-loop
 slice-set-from-out c = omega (arith, c .before .before .loop .inv .1 .long)
@@ -42,7 +45,7 @@ add-j c = omega arith
 loop-less : tie.Need-loop-less Inv-loop μ-loop
 loop-less c = omega arith
 
-value-fits : (c : tie.After-out Inv-loop μ-loop) → SFits w32 (getD (c .before .before .before .args .r .now) (c .before .before .loop .j) (pos 0))
+value-fits : (c : tie.After-out Inv-loop μ-loop) → SFits w32 (getD (c .before .before .before .args .r .now) (c .before .before .before .args .from + c .before .before .loop .j) (pos 0))
 value-fits c = record { sfits = c .out .given }
 
 loop-again : tie.Need-loop-again Inv-loop μ-loop
@@ -61,10 +64,11 @@ put-spec =
     Inv-loop
     μ-loop
     loop-holds
+    add-out
     mul-out
     element-copy-out-out
-    add-t11
-    mul-t12
+    add-t13
+    mul-t14
     slice-set-from-out
     add-j
     loop-less

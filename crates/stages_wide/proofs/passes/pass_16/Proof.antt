@@ -5,7 +5,7 @@ use lib.ListN.{length}
 use Rattle.transform_1d.specs.Rows.{Filled}
 use Rattle.transform_1d.proofs.RowsLaws.{filled-zero, filled-all}
 use Rattle.stages_wide.specs.Parts.{passValue}
-use Rattle.stages_wide.proofs.PassLaws.{linesAsk-line, linesAsk-place, linesAsk-row, lineSums-sums, lineSums-high, filled-lines}
+use Rattle.stages_wide.proofs.PassLaws.{linesAsk-line, linesAsk-place, linesAsk-row, lineSums-sums, lineSums-high, filled-ends}
 use Rattle.stages_wide.proofs.passes.pass_16.Statement.{statement}
 use Rattle.stages_wide.proofs.passes.pass_16.Tie as tie
 
@@ -40,6 +40,15 @@ mul-put c = omega (arith, c .before .before .before .before .before .before .bef
 put-requires : tie.Need-put-requires Inv-loop μ-loop
 put-requires c κs = (omega arith, omega (arith, linesAsk-row (c .before .before .before .before .before .before .before .before .before .pre .low) (c .before .before .before .before .before .before .before .before .loop .c) (omega arith), c .before .before .before .before .before .before .before .before .loop .inv .1 .long))
 
+mul-put-2 : tie.Need-mul-put-2 Inv-loop μ-loop
+mul-put-2 c = omega (arith, c .before .before .before .before .before .before .before .before .before .before .before .before .before .pre .low .few)
+
+add-put : tie.Need-add-put Inv-loop μ-loop
+add-put c = omega (arith, c .before .before .before .before .before .before .before .before .before .before .before .before .before .pre .low .few)
+
+put-requires-2 : tie.Need-put-requires-2 Inv-loop μ-loop
+put-requires-2 c κs = (omega arith, omega (arith, linesAsk-row (c .before .before .before .before .before .before .before .before .before .before .before .before .before .pre .low) (c .before .before .before .before .before .before .before .before .before .before .before .before .loop .c) (omega arith), c .before .before .before .before .before .before .before .before .before .before .before .before .loop .inv .1 .long, c .before .before .before .put .ensures .long))
+
 add-c : tie.Need-add-c Inv-loop μ-loop
 add-c c = omega arith
 
@@ -49,7 +58,7 @@ loop-less c = omega arith
 loop-again : tie.Need-loop-again Inv-loop μ-loop
 loop-again c = (
   omega arith,
-  filled-lines (c .before .before .before .before .before .before .before .before .before .before .before .args .lead) (c .before .before .before .before .before .before .before .before .before .before .before .args .shift) (c .before .before .before .before .join .result) (omega arith) (c .before .before .before .before .before .before .before .before .idct-raw-16 .ensures) (c .before .before .before .before .before .before .before .idct-raw-162 .ensures) (c .before .before .before .before .join .ensures) (c .before .before .before .before .before .before .before .before .before .before .loop .inv .1) (c .before .put .ensures),
+  filled-ends (c .before .before .before .before .before .before .before .before .before .before .before .before .before .before .before .pre .low .layout) (c .before .before .before .before .before .before .before .before .before .before .before .before .before .before .before .args .lead) (c .before .before .before .before .before .before .before .before .before .before .before .before .before .before .before .args .shift) (c .before .before .before .before .before .before .before .before .join .result) (c .before .before .before .before .before .before .before .before .before .before .before .before .before .before .before .pre .low .most) (c .before .before .before .before .before .before .before .before .before .before .before .before .idct-raw-16 .ensures) (c .before .before .before .before .before .before .before .before .before .before .before .idct-raw-162 .ensures) (c .before .before .before .before .before .before .before .before .join .ensures) (c .before .before .before .before .before .before .before .before .before .before .before .before .before .before .loop .inv .1) (c .before .before .before .before .before .put .ensures) (c .before .put2 .ensures),
 )
 
 same-length : tie.Need-same-length Inv-loop μ-loop
@@ -72,6 +81,9 @@ pass-16-spec =
     join-requires
     mul-put
     put-requires
+    mul-put-2
+    add-put
+    put-requires-2
     add-c
     loop-less
     loop-again
