@@ -48,7 +48,7 @@ array-copy-out-t8 : tie.Need-array-copy-out-t8
 array-copy-out-t8 c = search needs
 
 add-t11 : tie.Need-add-t11
-add-t11 c = low-fits (halves (c .before .before)) 0 (omega arith)
+add-t11 c = low-fits (halves (c .before .before)) _ (omega arith)
 
 array-copy-out-t14 : tie.Need-array-copy-out-t14
 array-copy-out-t14 c = search needs
@@ -57,7 +57,7 @@ array-copy-out-t34 : tie.Need-array-copy-out-t34
 array-copy-out-t34 c = search needs
 
 add-t35 : tie.Need-add-t35
-add-t35 c = low-fits (halves (c .before .before .before .before)) 1 (omega arith)
+add-t35 c = low-fits (halves (c .before .before .before .before)) _ (omega arith)
 
 array-copy-out-t38 : tie.Need-array-copy-out-t38
 array-copy-out-t38 c = search needs
@@ -66,7 +66,7 @@ array-copy-out-t41 : tie.Need-array-copy-out-t41
 array-copy-out-t41 c = search needs
 
 add-t42 : tie.Need-add-t42
-add-t42 c = low-fits (halves (c .before .before .before .before .before .before)) 2 (omega arith)
+add-t42 c = low-fits (halves (c .before .before .before .before .before .before)) _ (omega arith)
 
 array-copy-out-t45 : tie.Need-array-copy-out-t45
 array-copy-out-t45 c = search needs
@@ -75,7 +75,7 @@ array-copy-out-t48 : tie.Need-array-copy-out-t48
 array-copy-out-t48 c = search needs
 
 add-t49 : tie.Need-add-t49
-add-t49 c = low-fits (halves (c .before .before .before .before .before .before .before .before)) 3 (omega arith)
+add-t49 c = low-fits (halves (c .before .before .before .before .before .before .before .before)) _ (omega arith)
 
 array-copy-out-t52 : tie.Need-array-copy-out-t52
 array-copy-out-t52 c = search needs
@@ -84,7 +84,7 @@ array-copy-out-t55 : tie.Need-array-copy-out-t55
 array-copy-out-t55 c = search needs
 
 sub-t56 : tie.Need-sub-t56
-sub-t56 c = high-fits (halves (c .before .before .before .before .before .before .before .before .before .before)) 3 (omega arith)
+sub-t56 c = high-fits (halves (c .before .before .before .before .before .before .before .before .before .before)) _ (omega arith)
 
 array-copy-out-t59 : tie.Need-array-copy-out-t59
 array-copy-out-t59 c = search needs
@@ -93,7 +93,7 @@ array-copy-out-t62 : tie.Need-array-copy-out-t62
 array-copy-out-t62 c = search needs
 
 sub-t63 : tie.Need-sub-t63
-sub-t63 c = high-fits (halves (c .before .before .before .before .before .before .before .before .before .before .before .before)) 2 (omega arith)
+sub-t63 c = high-fits (halves (c .before .before .before .before .before .before .before .before .before .before .before .before)) _ (omega arith)
 
 array-copy-out-t66 : tie.Need-array-copy-out-t66
 array-copy-out-t66 c = search needs
@@ -102,7 +102,7 @@ array-copy-out-t69 : tie.Need-array-copy-out-t69
 array-copy-out-t69 c = search needs
 
 sub-t70 : tie.Need-sub-t70
-sub-t70 c = high-fits (halves (c .before .before .before .before .before .before .before .before .before .before .before .before .before .before)) 1 (omega arith)
+sub-t70 c = high-fits (halves (c .before .before .before .before .before .before .before .before .before .before .before .before .before .before)) _ (omega arith)
 
 array-copy-out-t73 : tie.Need-array-copy-out-t73
 array-copy-out-t73 c = search needs
@@ -111,7 +111,7 @@ array-copy-out-t76 : tie.Need-array-copy-out-t76
 array-copy-out-t76 c = search needs
 
 sub-t77 : tie.Need-sub-t77
-sub-t77 c = high-fits (halves (c .before .before .before .before .before .before .before .before .before .before .before .before .before .before .before .before)) 0 (omega arith)
+sub-t77 c = high-fits (halves (c .before .before .before .before .before .before .before .before .before .before .before .before .before .before .before .before)) _ (omega arith)
 
 returns : tie.Need-returns
 returns c = outputs-8 (halves (c .before .before .before .before .before .before .before .before .before .before .before .before .before .before .before .before))
