@@ -7,4 +7,5 @@ pub mod StageLaws
 pub mod ColumnLaws
 pub mod LayoutLaws
 pub mod ResultLaws
+pub mod ProductsLaws
 pub mod DcLaws

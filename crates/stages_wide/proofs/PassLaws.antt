@@ -121,7 +121,7 @@ module _ {t : List ℤ} (a : Layout t 16) where
       (placed-cong
       (λ j i. e (24 + j) (omega arith)
       ∙ joined-from (x .output (24 + j) (omega arith) ∙ lineSum-mirrored h (c * lead) stride groups j m i)
-        (y .output (24 + j) (omega arith) ∙ lineSum-mirrored l (c * lead) stride groups j m i))
+      (y .output (24 + j) (omega arith) ∙ lineSum-mirrored l (c * lead) stride groups j m i))
       q₂))
     where
       joined-from : {a b d f : ℤ} → a ≡ d → b ≡ f → roundShift (joinParts a b) s ≡ roundShift (joinParts d f) s

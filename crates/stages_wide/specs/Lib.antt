@@ -1,2 +1,3 @@
 pub mod Wide
 pub mod Parts
+pub mod Products

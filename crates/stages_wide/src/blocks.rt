@@ -18,6 +18,34 @@ use crate::parts::limited;
 use crate::parts::narrow;
 use crate::parts::split;
 use crate::passes::pass;
+use crate::products::products_8;
+
+// Lines over the first w values of s, of which some take more than 16 bits: in 32-bit products where their sums fit, else in two parts.
+fn wide(
+    t: &[i16],
+    n: usize,
+    count: usize,
+    lead: usize,
+    stride: usize,
+    groups: usize,
+    shift: u32,
+    range: u32,
+    s: &[i32],
+    w: usize,
+    h: &mut [i16],
+    l: &mut [i16],
+    out: &mut [i32],
+)
+    requires { ⌜ StageAsk n (now t) count lead stride groups shift range w (length (now s)) (length (now h)) (length (now l)) (length (now out)) ⌝ }
+    ensures { λ _. ⌜ Filled n n (stageValue (now (t .entry)) range (now (s .entry)) lead stride groups shift) count (now (out .entry)) (now (out .exit)) × (length (now (h .exit)) ≡ length (now (h .entry))) × (length (now (l .exit)) ≡ length (now (l .entry))) ⌝ }
+{
+    if n == 8 {
+        products_8(s, w, count, lead, stride, shift, range, out);
+    } else {
+        split(s, w, range, h, l);
+        pass(t, n, h, l, count, lead, stride, groups, shift, out);
+    }
+}
 
 // Lines over the first w values of s, limited as they are read: line c becomes row c of out. Values that fit 16 bits are in the range.
 fn stage(
@@ -42,8 +70,21 @@ fn stage(
         narrow(s, w, l);
         lines(t, n, l, count, lead, stride, groups, shift, out);
     } else {
-        split(s, w, range, h, l);
-        pass(t, n, h, l, count, lead, stride, groups, shift, out);
+        wide(
+            t,
+            n,
+            count,
+            lead,
+            stride,
+            groups,
+            shift,
+            range,
+            s,
+            w,
+            h,
+            l,
+            out,
+        );
     }
 }
 

@@ -6,6 +6,7 @@ mod scan; // which rows of a block are in use
 mod outputs; // the outputs of a line, rounded or joined of both parts
 mod lines; // lines over 16-bit values
 mod passes; // lines over both parts
+mod products; // lines of 4 and 8 points in 32-bit products
 mod blocks; // stages of a block over lent buffers
 mod layouts; // layouts by kind and size
 mod sizes; // both stages with buffers of a size's own length
@@ -21,8 +22,8 @@ use crate::blocks::column_into;
 use crate::blocks::columns_into;
 use crate::blocks::rows;
 use crate::layouts::layout;
+use crate::products::both_4;
 use crate::sizes::stages_dct;
-use crate::sizes::stages_dst;
 use transform_1d::Kind;
 
 // One column of the intermediate, every coefficient limited as it is read.
@@ -115,7 +116,7 @@ pub fn residual_wide(
 {
     let shift = range + 5 - (bit_depth as u32);
     match kind {
-        Kind::Dst => stages_dst(shift, range, nx, coeff, out),
+        Kind::Dst => both_4(Kind::Dst, shift, range, nx, coeff, out),
         Kind::Dct => stages_dct(n, shift, range, nx, coeff, out),
     }
 }

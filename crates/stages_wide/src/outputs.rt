@@ -37,7 +37,7 @@ fn mirrored_output(z: &[i32; 32], j: usize) -> i32
 
 // A rounded sum.
 pub fn rounded(x: i32, shift: u32) -> i32
-    requires { ⌜ Within (2 ^ 28) x × (4 ≤ shift) × (shift ≤ 12) ⌝ }
+    requires { ⌜ Within (480 * 2 ^ 22) x × (4 ≤ shift) × (shift ≤ 12) ⌝ }
     ensures { λ r. ⌜ r ≡ roundShift x shift ⌝ }
 {
     let half = 1i32 << (shift - 1);

@@ -1,11 +1,11 @@
 // Lines over both parts, joined and rounded. Sizes are literals, as in the lines over 16-bit values.
+ghost use mathlib.Core.Path.{_≡_};
 ghost use lib.ListN.{length};
 ghost use Rattle.transform_1d.specs.Rows.{Filled};
 ghost use Rattle.stages_wide.specs.Parts.{PassAsk, passValue};
 use crate::outputs::join;
 use crate::outputs::put;
 use transform_1d::idct_raw_4;
-use transform_1d::idct_raw_8;
 use transform_1d::idct_raw_16;
 use transform_1d::idct_raw_32;
 
@@ -30,31 +30,6 @@ fn pass_4(
         let zl = idct_raw_4(t, l, c * lead, stride, groups);
         let r = join(&zh, &zl, shift);
         put(&r, 0, 4, out, c * 4);
-        c += 1;
-    }
-}
-
-// Lines of 8 points over both parts: line c becomes row c of out.
-fn pass_8(
-    t: &[i16],
-    h: &[i16],
-    l: &[i16],
-    lines: usize,
-    lead: usize,
-    stride: usize,
-    groups: usize,
-    shift: u32,
-    out: &mut [i32],
-)
-    requires { ⌜ PassAsk 8 (now t) (now h) (now l) lines lead stride groups shift (length (now out)) ⌝ }
-    ensures { λ _. ⌜ Filled 8 8 (passValue (now (t .entry)) (now (h .entry)) (now (l .entry)) lead stride groups shift) lines (now (out .entry)) (now (out .exit)) ⌝ }
-{
-    let mut c: usize = 0;
-    while c < lines {
-        let zh = idct_raw_8(t, h, c * lead, stride, groups);
-        let zl = idct_raw_8(t, l, c * lead, stride, groups);
-        let r = join(&zh, &zl, shift);
-        put(&r, 0, 8, out, c * 8);
         c += 1;
     }
 }
@@ -111,7 +86,7 @@ fn pass_32(
     }
 }
 
-// Lines of n points over both parts: line c becomes row c of out.
+// Lines of n points over both parts: line c becomes row c of out. Those of 8 points need no parts.
 pub fn pass(
     t: &[i16],
     n: usize,
@@ -124,12 +99,11 @@ pub fn pass(
     shift: u32,
     out: &mut [i32],
 )
-    requires { ⌜ PassAsk n (now t) (now h) (now l) lines lead stride groups shift (length (now out)) ⌝ }
+    requires { ⌜ PassAsk n (now t) (now h) (now l) lines lead stride groups shift (length (now out)) × (n ≡ 8 → ⊥) ⌝ }
     ensures { λ _. ⌜ Filled n n (passValue (now (t .entry)) (now (h .entry)) (now (l .entry)) lead stride groups shift) lines (now (out .entry)) (now (out .exit)) ⌝ }
 {
     match n {
         4 => pass_4(t, h, l, lines, lead, stride, groups, shift, out),
-        8 => pass_8(t, h, l, lines, lead, stride, groups, shift, out),
         16 => pass_16(t, h, l, lines, lead, stride, groups, shift, out),
         _ => pass_32(t, h, l, lines, lead, stride, groups, shift, out),
     }

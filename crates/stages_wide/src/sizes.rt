@@ -2,42 +2,18 @@
 ghost use Prim.Native.Nat.{_+_, _<_};
 ghost use lib.Dec.{T};
 ghost use lib.ListN.{length};
-ghost use Rattle.h265.specs.Matrix.{transMatrix, dstMatrix};
+ghost use Rattle.h265.specs.Matrix.{transMatrix};
 ghost use Rattle.h265.specs.Range.{isSize};
 ghost use Rattle.transform_1d.specs.Rows.{Filled};
 ghost use Rattle.stages_wide.specs.Parts.{StagesAsk, bothStages};
 use crate::blocks::dc_fill;
 use crate::blocks::stages;
+use crate::products::both_4;
 use crate::scan::rows_used;
-use transform_1d::lanes_4;
+use transform_1d::Kind;
 use transform_1d::lanes_8;
 use transform_1d::lanes_16;
 use transform_1d::lanes_32;
-use transform_1d::lanes_dst;
-
-// Both stages of the 4-point DCT.
-fn stages_4(shift: u32, range: u32, nx: usize, coeff: &[i32], out: &mut [i32])
-    requires { ⌜ StagesAsk 4 shift range nx (length (now coeff)) (length (now out)) ⌝ }
-    ensures { λ _. ⌜ Filled 4 4 (bothStages (transMatrix 4) 4 shift range nx (now (coeff .entry))) 4 (now (out .entry)) (now (out .exit)) ⌝ }
-{
-    let t = lanes_4();
-    let mut h = [0i16; 16];
-    let mut l = [0i16; 16];
-    let mut g = [0i32; 16];
-    stages(
-        &t[..],
-        4,
-        shift,
-        range,
-        nx,
-        1,
-        coeff,
-        &mut h[..],
-        &mut l[..],
-        &mut g[..],
-        out,
-    );
-}
 
 // Both stages of the 8-point DCT.
 fn stages_8(shift: u32, range: u32, nx: usize, coeff: &[i32], out: &mut [i32])
@@ -114,37 +90,13 @@ fn stages_32(shift: u32, range: u32, nx: usize, coeff: &[i32], out: &mut [i32])
     );
 }
 
-// Both stages of the DST.
-pub fn stages_dst(shift: u32, range: u32, nx: usize, coeff: &[i32], out: &mut [i32])
-    requires { ⌜ StagesAsk 4 shift range nx (length (now coeff)) (length (now out)) ⌝ }
-    ensures { λ _. ⌜ Filled 4 4 (bothStages dstMatrix 4 shift range nx (now (coeff .entry))) 4 (now (out .entry)) (now (out .exit)) ⌝ }
-{
-    let t = lanes_dst();
-    let mut h = [0i16; 16];
-    let mut l = [0i16; 16];
-    let mut g = [0i32; 16];
-    stages(
-        &t[..],
-        4,
-        shift,
-        range,
-        nx,
-        1,
-        coeff,
-        &mut h[..],
-        &mut l[..],
-        &mut g[..],
-        out,
-    );
-}
-
 // Both stages of the n-point DCT.
 fn dct_sized(n: usize, shift: u32, range: u32, nx: usize, coeff: &[i32], out: &mut [i32])
     requires { ⌜ T (isSize n) × StagesAsk n shift range nx (length (now coeff)) (length (now out)) ⌝ }
     ensures { λ _. ⌜ Filled n n (bothStages (transMatrix n) n shift range nx (now (coeff .entry))) n (now (out .entry)) (now (out .exit)) ⌝ }
 {
     match n {
-        4 => stages_4(shift, range, nx, coeff, out),
+        4 => both_4(Kind::Dct, shift, range, nx, coeff, out),
         8 => stages_8(shift, range, nx, coeff, out),
         16 => stages_16(shift, range, nx, coeff, out),
         _ => stages_32(shift, range, nx, coeff, out),

@@ -21,8 +21,8 @@ enum-told c = search needs
 at-dst : (c : tie.After-enum-told) → c .before .before .args .n ≡ 4
 at-dst c = c .before .before .pre .0 .dst (c .enum-told .given .1)
 
-stages-dst-requires : tie.Need-stages-dst-requires
-stages-dst-requires c κs =
+both-4-requires : tie.Need-both-4-requires
+both-4-requires c κs =
     let p = c .before .before .before .pre in stagesAsk-size (at-dst (c .before)) (stagesAsk-wide (p .0) (p .1) (p .2 .columns)) (omega (arith, p .2 .columns))
 
 enum-told-2 : tie.Need-enum-told-2
@@ -35,11 +35,12 @@ same-length : tie.Need-same-length
 same-length c = search needs
 
 returns : tie.Need-returns
+unfolding matrixOf
 returns c =
     let k = c .before .before .before .before .before .args in
     let p = c .before .before .before .before .before .pre in
     filled-residual (matrixOf (k .kind) (k .n)) (k .n) (k .bit-depth) (k .range) (k .nx) (k .coeff .now) (omega (arith, size-most (k .n) (p .0 .size))) (p .2) (p .0 .room)
-    (filled-dst (k .range + 5 - k .bit-depth) (k .range) (k .nx) (k .coeff .now) (at-dst (c .before .before .before)) (c .before .before .before .enum-told .given .1) (c .before .stages-dst .ensures))
+    (filled-dst (k .range + 5 - k .bit-depth) (k .range) (k .nx) (k .coeff .now) (at-dst (c .before .before .before)) (c .before .before .before .enum-told .given .1) (c .before .both-4 .ensures))
 
 same-length-2 : tie.Need-same-length-2
 same-length-2 c = search needs
@@ -58,7 +59,7 @@ residual-wide-spec =
     add-shift
     sub-shift
     enum-told
-    stages-dst-requires
+    both-4-requires
     enum-told-2
     stages-dct-requires
     same-length

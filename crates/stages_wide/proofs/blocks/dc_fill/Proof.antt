@@ -10,7 +10,7 @@ use mir.Val.{SFits}
 use mir.Facts.{toZ-ofZ}
 use Rattle.integers.specs.Shift.{roundShift}
 use Rattle.integers.specs.Within.{Within}
-use Rattle.integers.proofs.BoundLaws.{within-eq, within-lit-mul, within-fits}
+use Rattle.integers.proofs.BoundLaws.{within-eq, within-le, within-lit-mul, within-fits}
 use Rattle.h265.specs.Range.{clipCoeff}
 use Rattle.stages_wide.specs.Parts.{limitedAt}
 use Rattle.stages_wide.proofs.PartsLaws.{limited-within}
@@ -19,11 +19,11 @@ use Rattle.stages_wide.proofs.DcLaws.{first-inside, dcValue, filled-dc}
 use Rattle.stages_wide.proofs.blocks.dc_fill.Statement.{statement}
 use Rattle.stages_wide.proofs.blocks.dc_fill.Tie as tie
 
-product-within : {z : ℤ} → Within (2 ^ 22) z → Within (2 ^ 28) (pos 64 *ℤ z)
-product-within h = within-lit-mul 64 h
+product-within : {z : ℤ} → Within (2 ^ 22) z → Within (480 * 2 ^ 22) (pos 64 *ℤ z)
+product-within h = within-le (omega arith) (within-lit-mul 64 h)
 
 product-fits : {z : ℤ} → Within (2 ^ 22) z → SFits w32 (pos 64 *ℤ z)
-product-fits h = within-fits {b = 2 ^ 28} tt (product-within h)
+product-fits h = within-fits {b = 480 * 2 ^ 22} tt (product-within h)
 
 shared-slice-copy-out-limited : tie.Need-shared-slice-copy-out-limited
 shared-slice-copy-out-limited c = first-inside (omega (arith, size-most (c .args .n) (c .pre .0))) (c .pre .1 .source)

@@ -1,7 +1,7 @@
--- `stages_wide::blocks::stage` meets its contract: values that fit 16 bits are their own limits, and others are made of their parts.
+-- `stages_wide::blocks::stage` meets its contract: values that fit 16 bits are their own limits.
 use borrow.Author.Needs.{needs}
 use mathlib.Core.Path.{refl}
-use Rattle.stages_wide.proofs.StageLaws.{stage-lines, stage-pass, lineValue-stage, passValue-stage, filled-cong}
+use Rattle.stages_wide.proofs.StageLaws.{stage-lines, lineValue-stage, filled-cong}
 use Rattle.stages_wide.proofs.blocks.stage.Statement.{statement}
 use Rattle.stages_wide.proofs.blocks.stage.Tie as tie
 
@@ -14,11 +14,8 @@ narrow-requires c κs = let a = c .before .before .before .pre in (a .source, a 
 lines-requires : tie.Need-lines-requires
 lines-requires c κs = let a = c .before .before .before .before .before .before .before .pre in stage-lines a (c .before .before .before .before .before .before .before .args .s .now) (c .before .before .before .narrow .ensures) (a .lows)
 
-split-requires : tie.Need-split-requires
-split-requires c κs = search needs
-
-pass-requires : tie.Need-pass-requires
-pass-requires c κs = let a = c .before .before .before .before .before .before .before .before .before .before .pre in stage-pass a (c .before .before .before .before .before .before .before .before .before .before .args .s .now) (c .before .before .before .before .before .split .ensures .0) (c .before .before .before .before .before .split .ensures .1) (a .highs) (a .lows)
+wide-requires : tie.Need-wide-requires
+wide-requires c κs = search needs
 
 same-length : tie.Need-same-length
 same-length c = search needs
@@ -43,11 +40,7 @@ same-length-5 : tie.Need-same-length-5
 same-length-5 c = search needs
 
 returns-2 : tie.Need-returns-2
-returns-2 c = (
-  filled-cong (λ k j i b. passValue-stage (c .before .before .before .before .before .before .before .before .before .before .before .before .pre) (c .before .before .before .before .before .before .before .before .before .before .before .before .args .s .now) (c .before .before .before .before .before .before .before .split .ensures .0) (c .before .before .before .before .before .before .before .split .ensures .1) k j i) (c .before .pass .ensures),
-  c .before .before .before .before .before .before .before .split .ensures .0 .long,
-  c .before .before .before .before .before .before .before .split .ensures .1 .long,
-)
+returns-2 c = search needs
 
 pub stage-spec : {M : Type 1} → statement M
 stage-spec =
@@ -56,8 +49,7 @@ stage-spec =
     all-narrow-requires
     narrow-requires
     lines-requires
-    split-requires
-    pass-requires
+    wide-requires
     same-length
     same-length-2
     returns

@@ -22,7 +22,7 @@ module _ (c : tie.Start) where
   half-is = shl-one w32 (c .args .shift - 1) (omega (arith, c .pre))
 
   sum-fits : SFits w32 (c .args .x +ℤ half)
-  sum-fits = within-fits {b = 2 ^ 28 + 2 ^ 11} tt (within-add (c .pre .0) (within-pos (pow-mono {i = c .args .shift - 1} {j = 11} (omega (arith, c .pre)))))
+  sum-fits = within-fits {b = 480 * 2 ^ 22 + 2 ^ 11} tt (within-add (c .pre .0) (within-pos (pow-mono {i = c .args .shift - 1} {j = 11} (omega (arith, c .pre)))))
 
 sub-half : tie.Need-sub-half
 sub-half c = search needs

@@ -2,6 +2,7 @@
 use borrow.Author.Needs.{needs}
 use mathlib.Core.Path.{_≡_}
 use native.Mathlib.Omega.{arith}
+use Rattle.transform_1d.specs.MatrixOf.{matrixOf}
 use Rattle.stages_wide.proofs.ScanLaws.{size-else}
 use Rattle.stages_wide.proofs.ResultLaws.{stagesAsk-size, filled-sized}
 use Rattle.stages_wide.proofs.sizes.dct_sized.Statement.{statement}
@@ -10,8 +11,8 @@ use Rattle.stages_wide.proofs.sizes.dct_sized.Tie as tie
 is-32 : (c : tie.At-match-rest) → c .before .args .n ≡ 32
 is-32 c = let r = c .match .rest in size-else (c .before .args .n) (c .before .pre .0) (r .0 .0 .1) (r .0 .1) (r .1)
 
-stages-4-requires : tie.Need-stages-4-requires
-stages-4-requires c κs = stagesAsk-size (c .before .match .keys1) (c .before .before .pre .1) (omega (arith, c .before .before .pre .1 .columns))
+both-4-requires : tie.Need-both-4-requires
+both-4-requires c κs = stagesAsk-size (c .before .match .keys1) (c .before .before .pre .1) (omega (arith, c .before .before .pre .1 .columns))
 
 stages-8-requires : tie.Need-stages-8-requires
 stages-8-requires c κs = stagesAsk-size (c .before .match .keys2) (c .before .before .pre .1) (omega (arith, c .before .before .pre .1 .columns))
@@ -26,7 +27,8 @@ same-length : tie.Need-same-length
 same-length c = search needs
 
 returns : tie.Need-returns
-returns c = let k = c .before .before .before .before .args in filled-sized (k .shift) (k .range) (k .nx) (k .coeff .now) (c .before .before .before .match .keys1) (c .before .stages-4 .ensures)
+unfolding matrixOf
+returns c = let k = c .before .before .before .before .args in filled-sized (k .shift) (k .range) (k .nx) (k .coeff .now) (c .before .before .before .match .keys1) (c .before .both-4 .ensures)
 
 same-length-2 : tie.Need-same-length-2
 same-length-2 c = search needs
@@ -50,7 +52,7 @@ pub dct-sized-spec : {M : Type 1} → statement M
 dct-sized-spec =
     tie.close
     (tie.spec
-    stages-4-requires
+    both-4-requires
     stages-8-requires
     stages-16-requires
     stages-32-requires

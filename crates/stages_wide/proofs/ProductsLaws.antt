@@ -1,0 +1,178 @@
+-- Laws of lines in 32-bit products.
+--   limitedUpTo-in, -past, -small          a value that is read, one that is not, and the size of both
+--   limited-values                         what limiting the first values into zeros leaves
+--   limitedAsk-products, filled-limited    lines over limited values meet what they ask, and give what is said of the values
+--   wideValues-picked, roundAsk-outputs    a line meets what it asks, and its outputs what rounding asks
+--   filled-products, picked-four           one line more; the values of a column of four
+--   limitedAsk-four                        what a stage of 4 points asks
+--   matrixValue-laid                       a line by a matrix is the line by a layout that reads back as that matrix
+--   layoutOf-kind, filled-four             such a layout for each kind at 4 points, and lines by it
+--   limitedAsk-eight, filled-eight         what a stage of 8 points asks and gives, where the layout is the DCT's
+use mathlib.Core.Path.{_≡_, refl, sym, ap, _∙_, subst}
+use mathlib.Core.List.{List, [], _∷_}
+use Prim.Native.Nat.{ℕ, zero, suc, _+_, _*_, _^_, _≤_, _<_}
+use native.Mathlib.Nat.{not-suc-le-zero, mul-le-mul-right, mul-le-mul, suc-mul}
+use native.Mathlib.Decide.{decLt}
+use native.Mathlib.Omega.{arith}
+use borrow.Author.Tests.{lt-ltb, le-ltb}
+use lib.IntN.{ℤ, pos}
+use lib.ListN.{length, getD, replicate}
+use Rattle.integers.specs.Shift.{roundShift}
+use Rattle.integers.specs.Within.{Within}
+use Rattle.integers.proofs.BoundLaws.{within-eq, within-le, within-pos}
+use Rattle.h265.specs.Matrix.{transMatrix}
+use Rattle.h265.specs.Transform.{transformLine}
+use Rattle.lines_wide.specs.Values.{WideValues, WideOutputs}
+use Rattle.transform_1d.specs.Lanes.{lanes, laneMatrix}
+use Rattle.transform_1d.specs.MatrixOf.{matrixOf}
+use Rattle.transform_1d.specs.Rows.{Placed, Filled}
+use Rattle.transform_1d.specs.declared.Kind.{Kind}
+use Rattle.transform_1d.specs.declared.Kind.the-variants.{Dct, Dst}
+use Rattle.transform_1d.proofs.RowsLaws.{placed-cong, filled-suc}
+use Rattle.transform_1d.proofs.MatrixLaws.{transformLine-cong}
+use Rattle.stages_wide.specs.Parts.{limitedAt, LayoutOf, StageAsk, StagesAsk, stageValue}
+use Rattle.stages_wide.specs.Products.{limitedUpTo, matrixValue, Picked, RoundAsk, ProductsAsk, LimitedAsk}
+use Rattle.stages_wide.proofs.PartsLaws.{limited-within}
+use Rattle.stages_wide.proofs.StageLaws.{placed-run, line-short, place-inside, filled-cong}
+use Rattle.stages_wide.proofs.LayoutLaws.{zeros-getD, layoutOf-dct, layoutOf-dst}
+
+pub limitedUpTo-in : (r : ℕ) (xs : List ℤ) (w i : ℕ) → i < w → limitedUpTo r xs w i ≡ limitedAt r xs i
+unfolding limitedUpTo
+limitedUpTo-in r xs w i h = rw (lt-ltb i w h)
+
+pub limitedUpTo-past : (r : ℕ) (xs : List ℤ) (w i : ℕ) → w ≤ i → limitedUpTo r xs w i ≡ pos 0
+unfolding limitedUpTo
+limitedUpTo-past r xs w i h = rw (le-ltb i w h)
+
+limitedUpTo-small : {r : ℕ} (xs : List ℤ) (w i : ℕ) → r ≤ 22 → Within (2 ^ 22) (limitedUpTo r xs w i)
+limitedUpTo-small {r} xs w i h =
+    elim (decLt i w) [
+      | yes y ↦ within-eq (limitedUpTo-in r xs w i y) (limited-within _ h)
+      | no d ↦ within-eq (limitedUpTo-past r xs w i (omega arith)) (within-pos (omega arith))
+    ]
+
+-- ---- values that are limited as they are read
+module _ (r w m : ℕ) (xs : List ℤ) {x : List ℤ} (p : Placed 0 w (limitedAt r xs) (replicate m (pos 0)) x) where
+  pub limited-values : (i : ℕ) → getD x i (pos 0) ≡ limitedUpTo r xs w i
+  limited-values i =
+      elim (decLt i w) [
+        | yes y ↦ placed-run p i y ∙ sym (limitedUpTo-in r xs w i y)
+        | no d ↦ p .kept i (λ j h e. omega arith) ∙ zeros-getD m i ∙ sym (limitedUpTo-past r xs w i (omega arith))
+      ]
+
+  pub limitedAsk-products : {n lines lead stride s sourceLength room : ℕ} → LimitedAsk n lines lead stride s r w sourceLength room → length x ≡ n * n → ProductsAsk n x lines lead stride s room
+  limitedAsk-products a e =
+      record {
+        reads = λ c k i j. omega (arith, a .inside c k i j, e);
+        small = λ i. within-eq (limited-values i) (limitedUpTo-small xs w i (a .rangeMost));
+        few = a .few;
+        leadMost = a .leadMost;
+        shiftLeast = a .shiftLeast;
+        shiftMost = a .shiftMost;
+        room = a .room;
+      }
+
+  pub filled-limited : (t : ℕ → ℕ → ℤ) (n lead stride s : ℕ) {rows : ℕ} {ys zs : List ℤ}
+      → Filled n n (matrixValue t n (λ i. getD x i (pos 0)) lead stride s) rows ys zs → Filled n n (matrixValue t n (limitedUpTo r xs w) lead stride s) rows ys zs
+  filled-limited t n lead stride s f =
+      filled-cong
+      (λ c j a b. ap (λ (z : ℤ). roundShift z s)
+      (transformLine-cong t t n (λ k. getD x (c * lead + k * stride) (pos 0)) (λ k. limitedUpTo r xs w (c * lead + k * stride)) j (λ k h. refl) (λ k h. limited-values (c * lead + k * stride))))
+      f
+
+-- ---- one line
+pub wideValues-picked : {n : ℕ} {at : ℕ → ℕ} {x v : List ℤ} → ((i : ℕ) → Within (2 ^ 22) (getD x i (pos 0))) → Picked n at x v → WideValues n v
+wideValues-picked {at = at} h p = record { at = λ k i. within-eq (p .same k i) (h (at k)) }
+
+pub roundAsk-outputs : {t : ℕ → ℕ → ℤ} {n : ℕ} {v z : List ℤ} {s : ℕ} → WideOutputs t n v z → 4 ≤ s → s ≤ 12 → RoundAsk n z s
+roundAsk-outputs o a b = record { long = omega (arith, o .long); room = λ j i. within-le (omega arith) (o .bound j i); least = a; most = b }
+
+pub filled-products : {t : ℕ → ℕ → ℤ} {n : ℕ} (x : List ℤ) (lead stride s : ℕ) {c : ℕ} {v z xs ys zs : List ℤ}
+    → Picked n (λ k. c * lead + k * stride) x v → WideOutputs t n v z
+    → Filled n n (matrixValue t n (λ i. getD x i (pos 0)) lead stride s) c xs ys → Placed (c * n) n (λ j. roundShift (getD z j (pos 0)) s) ys zs
+    → Filled n n (matrixValue t n (λ i. getD x i (pos 0)) lead stride s) (c + 1) xs zs
+filled-products {t} {n} x lead stride s {c} {v} p o f q =
+    filled-suc (omega arith) f
+    (placed-cong
+    (λ j i. ap (λ (z : ℤ). roundShift z s)
+    (o .output j i ∙ transformLine-cong t t n (λ k. getD v k (pos 0)) (λ k. getD x (c * lead + k * stride) (pos 0)) j (λ k h. refl) (λ k h. p .same k h)))
+    q)
+
+pub picked-four : (x : List ℤ) (c : ℕ)
+    → Picked 4 (λ k. c * 1 + k * 4) x (getD x c (pos 0) ∷ getD x (c + 4) (pos 0) ∷ getD x (c + 8) (pos 0) ∷ getD x (c + 12) (pos 0) ∷ [])
+picked-four x c = record { long = refl; same = at }
+  where
+    at : (k : ℕ) → k < 4
+        → getD (getD x c (pos 0) ∷ getD x (c + 4) (pos 0) ∷ getD x (c + 8) (pos 0) ∷ getD x (c + 12) (pos 0) ∷ []) k (pos 0) ≡ getD x (c * 1 + k * 4) (pos 0)
+    at zero h = ap (λ (i : ℕ). getD x i (pos 0)) (let e : c ≡ c * 1 + 0 * 4 = omega arith in e)
+    at (suc zero) h = ap (λ (i : ℕ). getD x i (pos 0)) (let e : c + 4 ≡ c * 1 + 1 * 4 = omega arith in e)
+    at (suc (suc zero)) h = ap (λ (i : ℕ). getD x i (pos 0)) (let e : c + 8 ≡ c * 1 + 2 * 4 = omega arith in e)
+    at (suc (suc (suc zero))) h = ap (λ (i : ℕ). getD x i (pos 0)) (let e : c + 12 ≡ c * 1 + 3 * 4 = omega arith in e)
+    at (suc (suc (suc (suc k)))) h = absurd (not-suc-le-zero {n = k} (omega arith))
+
+-- ---- what stages ask
+limitedAsk-stage : {n : ℕ} {t : List ℤ} {lines lead stride groups s r w sourceLength highLength lowLength room : ℕ}
+    → StageAsk n t lines lead stride groups s r w sourceLength highLength lowLength room → LimitedAsk n lines lead stride s r w sourceLength room
+limitedAsk-stage a =
+    record {
+      inside = a .inside;
+      whole = a .whole;
+      few = a .few;
+      leadMost = a .leadMost;
+      shiftLeast = a .shiftLeast;
+      shiftMost = a .shiftMost;
+      rangeMost = a .rangeMost;
+      source = a .source;
+      room = a .room;
+    }
+
+pub limitedAsk-four : {lines s r sourceLength room : ℕ} → lines ≤ 4 → 4 ≤ s → s ≤ 12 → r ≤ 22 → 16 ≤ sourceLength → 16 ≤ room → LimitedAsk 4 lines 1 4 s r 16 sourceLength room
+limitedAsk-four h a b d e f =
+    record {
+      inside = λ c k i j. place-inside 4 1 4 c k (omega arith) (omega arith) j;
+      whole = omega arith;
+      few = h;
+      leadMost = omega arith;
+      shiftLeast = a;
+      shiftMost = b;
+      rangeMost = d;
+      source = e;
+      room = omega arith;
+    }
+
+-- ---- a matrix and its layout
+pub matrixValue-laid : (u : ℕ → ℕ → ℤ) (t : List ℤ) (n r w lead stride groups s : ℕ) (xs : List ℤ) (c j : ℕ)
+    → ((k : ℕ) → k < n → laneMatrix t k j ≡ u k j) → 4 * groups ≤ n
+    → ((k : ℕ) → k < 4 * groups → c * lead + k * stride < w) → ((k : ℕ) → 4 * groups ≤ k → k < n → w ≤ c * lead + k * stride)
+    → matrixValue u n (limitedUpTo r xs w) lead stride s c j ≡ stageValue t r xs lead stride groups s c j
+matrixValue-laid u t n r w lead stride groups s xs c j l m reads past =
+    ap (λ (z : ℤ). roundShift z s)
+    (sym (line-short u n (4 * groups) (λ k. limitedUpTo r xs w (c * lead + k * stride)) j m (λ k a b. limitedUpTo-past r xs w (c * lead + k * stride) (past k a b)))
+    ∙ transformLine-cong u (laneMatrix t) (4 * groups) (λ k. limitedUpTo r xs w (c * lead + k * stride)) (λ k. limitedAt r xs (c * lead + k * stride)) j
+    (λ k a. sym (l k (omega arith))) (λ k a. limitedUpTo-in r xs w (c * lead + k * stride) (reads k a)))
+
+pub layoutOf-kind : (kind : Kind) → LayoutOf (matrixOf kind 4) 4 (lanes (matrixOf kind 4) 4)
+unfolding matrixOf
+layoutOf-kind Dct = layoutOf-dct 4 refl (omega arith) refl (omega arith)
+layoutOf-kind Dst = layoutOf-dst refl
+
+pub filled-four : (kind : Kind) (r s : ℕ) (xs : List ℤ) {rows : ℕ} {ys zs : List ℤ} → rows ≤ 4
+    → Filled 4 4 (matrixValue (matrixOf kind 4) 4 (limitedUpTo r xs 16) 1 4 s) rows ys zs → Filled 4 4 (stageValue (lanes (matrixOf kind 4) 4) r xs 1 4 1 s) rows ys zs
+filled-four kind r s xs h f =
+    filled-cong
+    (λ c j a b. matrixValue-laid (matrixOf kind 4) (lanes (matrixOf kind 4) 4) 4 r 16 1 4 1 s xs c j (λ k i. layoutOf-kind kind .reads k j i b) (omega arith)
+    (λ k i. place-inside 4 1 4 c k (omega arith) (omega arith) i) (λ k i m. absurd (not-suc-le-zero {n = 0} (omega arith))))
+    f
+
+-- ---- 8 points, where a layout is the DCT's
+module _ {n : ℕ} {t : List ℤ} {lines lead stride groups s r w sourceLength highLength lowLength room : ℕ} (e : n ≡ 8)
+    (a : StageAsk n t lines lead stride groups s r w sourceLength highLength lowLength room) where
+  pub limitedAsk-eight : LimitedAsk 8 lines lead stride s r w sourceLength room
+  limitedAsk-eight = subst (λ (m : ℕ). LimitedAsk m lines lead stride s r w sourceLength room) e (limitedAsk-stage a)
+
+  pub filled-eight : (xs : List ℤ) {ys zs : List ℤ}
+      → Filled 8 8 (matrixValue (transMatrix 8) 8 (limitedUpTo r xs w) lead stride s) lines ys zs → Filled n n (stageValue t r xs lead stride groups s) lines ys zs
+  filled-eight xs {ys} {zs} f =
+      filled-cong
+      (λ c j i b. matrixValue-laid (transMatrix n) t n r w lead stride groups s xs c j (λ k h. a .layout .dct (omega (arith, e)) k j h b) (a .most) (λ k h. a .reads c k i h) (λ k h m. a .past c k i h m))
+      (subst (λ (m : ℕ). Filled m m (matrixValue (transMatrix m) m (limitedUpTo r xs w) lead stride s) lines ys zs) (sym e) f)
