@@ -21,11 +21,12 @@ use Rattle.h265.specs.Transform.{rowOrder}
 use Rattle.h265.proofs.RangeLaws.{transformRange-least, transformRange-most, transformRange-depth}
 use Rattle.refusal.specs.declared.Answer.the-variants.{Done, Refused}
 use Rattle.refusal.specs.declared.Refusal.{Refusal}
-use Rattle.refusal.specs.declared.Refusal.the-variants.{SizeInvalid, DepthInvalid, WidthTooNarrow, DstSizeInvalid, ListLengthInvalid, InputTooShort, OutputTooShort, PlaceOutside, CoefficientOutside, KindUnknown, BodyTooShort, LevelsBeforeParameters, ParameterInvalid}
+use Rattle.refusal.specs.declared.Refusal.the-variants.{SizeInvalid, DepthInvalid, DstSizeInvalid, InputTooShort, OutputTooShort, PlaceOutside, CoefficientOutside}
 use Rattle.refusal.specs.Refusal.{number}
 use Rattle.refusal.specs.Condition.{sizeRefused, depthRefused, blockRefused}
 use Rattle.refusal.specs.Outcome.{Outcome, accepted, refused, answer}
 use Rattle.refusal.specs.Written.{left, wrote}
+use Rattle.refusal.proofs.RefusalLaws.{number-least}
 use Rattle.refusal.proofs.ConditionLaws.{size-accepted, depth-accepted}
 use Rattle.coefficients.specs.Outside.{firstOutside}
 use Rattle.transform_1d.specs.declared.Kind.{Kind}
@@ -36,21 +37,6 @@ use Rattle.edited_block.specs.Edit.{Buffers, Left, buffers, zeroBlock, d
 use Rattle.edited_block.specs.History.{Opening, rangeOf}
 use Rattle.edited_block.specs.Run.{openedAs, blockOf}
 use Rattle.edited_block.proofs.OpeningLaws.{Fits, coeff-long, inter-long, res-long, opened-is}
-
-number-least : (e : Refusal) → 1 ≤ number e
-number-least SizeInvalid = omega arith
-number-least DepthInvalid = omega arith
-number-least WidthTooNarrow = omega arith
-number-least DstSizeInvalid = omega arith
-number-least ListLengthInvalid = omega arith
-number-least InputTooShort = omega arith
-number-least OutputTooShort = omega arith
-number-least PlaceOutside = omega arith
-number-least (CoefficientOutside at) = omega arith
-number-least KindUnknown = omega arith
-number-least BodyTooShort = omega arith
-number-least LevelsBeforeParameters = omega arith
-number-least ParameterInvalid = omega arith
 
 -- one condition of a ladder that answers 0
 past : (t : Bool) (f : Refusal) (x : Outcome (Unit {0})) → accepted tt ≡ cond t (refused tt f) x → (t ≡ false) × (accepted tt ≡ x)

@@ -6,6 +6,7 @@ use mathlib.Core.Bool.{Bool, true, false, _||_, cond, true≢false}
 use mathlib.Core.List.{List, [], _∷_, _++_}
 use Prim.Native.Nat.{ℕ, suc, _*_}
 use native.Mathlib.Omega.{arith}
+use borrow.Author.Tests.{ne-eqb}
 use lib.Dec.{eqb, ltb}
 use lib.IntN.{ℤ}
 use lib.ListN.{length, take, drop, take-append-drop}
@@ -13,10 +14,11 @@ use lib.Seq.{sets}
 use Rattle.refusal.specs.declared.Answer.{Answer}
 use Rattle.refusal.specs.declared.Answer.the-variants.{Done, Refused}
 use Rattle.refusal.specs.declared.Refusal.{Refusal}
-use Rattle.refusal.specs.declared.Refusal.the-variants.{SizeInvalid, DepthInvalid, WidthTooNarrow, DstSizeInvalid, ListLengthInvalid, InputTooShort, OutputTooShort, PlaceOutside, CoefficientOutside, KindUnknown, BodyTooShort, LevelsBeforeParameters, ParameterInvalid}
+use Rattle.refusal.specs.declared.Refusal.the-variants.{SizeInvalid, DepthInvalid, DstSizeInvalid, InputTooShort, OutputTooShort, CoefficientOutside}
 use Rattle.refusal.specs.Refusal.{number}
 use Rattle.refusal.specs.Outcome.{Outcome, accepted, answer}
 use Rattle.refusal.specs.Condition.{sizeRefused, depthRefused, blockRefused}
+use Rattle.refusal.proofs.RefusalLaws.{number-least}
 use Rattle.transform_1d.specs.declared.Kind.{Kind}
 use Rattle.coefficients.specs.Outside.{firstOutside}
 use Rattle.edited_block.specs.declared.EditedBlock.{EditedBlock}
@@ -55,19 +57,7 @@ count-ask rows columns values numbers places =
 
 -- ---- a refused opening
 number-refused : (why : Refusal) → eqb (number why) 0 ≡ false
-number-refused SizeInvalid = refl
-number-refused DepthInvalid = refl
-number-refused WidthTooNarrow = refl
-number-refused DstSizeInvalid = refl
-number-refused ListLengthInvalid = refl
-number-refused InputTooShort = refl
-number-refused OutputTooShort = refl
-number-refused PlaceOutside = refl
-number-refused (CoefficientOutside at) = refl
-number-refused KindUnknown = refl
-number-refused BodyTooShort = refl
-number-refused LevelsBeforeParameters = refl
-number-refused ParameterInvalid = refl
+number-refused why = ne-eqb (number why) 0 (λ z. omega (arith, number-least why))
 
 -- what holds of every stop and of what passes holds of the ladder
 ladder-all : {A : Type 0} (P : A → Type 0) (stop : Refusal → A) (go : A) → ((e : Refusal) → P (stop e)) → P go → (kind : Kind) (n b d g r : ℕ)

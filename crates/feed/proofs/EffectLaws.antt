@@ -13,8 +13,8 @@ use lib.ListN.{length, getD}
 use Rattle.refusal.specs.Condition.{depthRefused}
 use Rattle.refusal.specs.declared.Refusal.{Refusal}
 use Rattle.refusal.specs.declared.Refusal.the-variants.{DepthInvalid, DstSizeInvalid, KindUnknown, BodyTooShort, LevelsBeforeParameters, ParameterInvalid}
-use Rattle.refusal.specs.Refusal.{number}
 use Rattle.refusal.specs.Outcome.{Outcome, refused}
+use Rattle.refusal.proofs.RefusalLaws.{number-least}
 use Rattle.feed.specs.declared.Kind.{Kind}
 use Rattle.feed.specs.declared.Kind.the-variants.{Parameters, List as ListKind, NoList, Levels, Unknown}
 use Rattle.feed.specs.declared.Given.{Given}
@@ -32,33 +32,33 @@ either : {s : FeedState} {len : ℕ} (t : Bool) {x y : Outcome Effect} → Moves
 either true f g = f
 either false f g = g
 
-stays : {s : FeedState} {len : ℕ} (why : Refusal) → 0 < number why → Moves s len (refused (unchanged s) why)
-stays why h = record { blocks = omega arith; offset = λ z. absurd (omega arith) }
+stays : {s : FeedState} {len : ℕ} (why : Refusal) → Moves s len (refused (unchanged s) why)
+stays why = record { blocks = omega arith; offset = λ z. absurd (omega (arith, number-least why)) }
 
 levels-moves : (g : Given) (s : FeedState) (n : ℕ) (body : List ℕ) → Moves s (bodyLength (Levels n)) (levelsBy g s n body)
 unfolding levelsBy
-levels-moves Nothing s n body = stays LevelsBeforeParameters (omega arith)
+levels-moves Nothing s n body = stays LevelsBeforeParameters
 levels-moves (These p) s n body =
-    either (depthRefused (p .«bit_depth»)) (stays DepthInvalid (omega arith))
-    (either (dstRefused (p .mode) n) (stays DstSizeInvalid (omega arith))
+    either (depthRefused (p .«bit_depth»)) (stays DepthInvalid)
+    (either (dstRefused (p .mode) n) (stays DstSizeInvalid)
     (record { blocks = omega arith; offset = λ z. refl }))
 
 body-moves : (kind : Kind) (s : FeedState) (body : List ℕ) → Moves s (bodyLength kind) (bodyEffect kind s body)
 unfolding bodyEffect parametersEffect listEffect noListEffect levelsEffect
 body-moves Parameters s body =
-    either (depthRefused (getD body 0 0)) (stays DepthInvalid (omega arith))
-    (either (parameterRefused body) (stays ParameterInvalid (omega arith))
+    either (depthRefused (getD body 0 0)) (stays DepthInvalid)
+    (either (parameterRefused body) (stays ParameterInvalid)
     (record { blocks = omega arith; offset = λ z. refl }))
 body-moves ListKind s body = record { blocks = omega arith; offset = λ z. refl }
 body-moves NoList s body = record { blocks = omega arith; offset = λ z. refl }
 body-moves (Levels n) s body = levels-moves (s .given) s n body
-body-moves Unknown s body = stays KindUnknown (omega arith)
+body-moves Unknown s body = stays KindUnknown
 
 record-moves : (s : FeedState) (k : ℕ) (body : List ℕ) → Moves s (recordLength k) (recordEffect s k body)
 unfolding recordEffect recordLength
 record-moves s k body =
-    either (isUnknown (kindOf k)) (stays KindUnknown (omega arith))
-    (either (ltb (length body) (recordLength k)) (stays BodyTooShort (omega arith))
+    either (isUnknown (kindOf k)) (stays KindUnknown)
+    (either (ltb (length body) (recordLength k)) (stays BodyTooShort)
     (body-moves (kindOf k) s body))
 
 pub effect-blocks : (s : FeedState) (k : ℕ) (body : List ℕ) → recordEffect s k body .value .state .blocks ≤ s .blocks + 1

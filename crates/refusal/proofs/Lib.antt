@@ -1,2 +1,3 @@
--- Laws of the conditions that calls share.
+-- Laws of the numbers, and of the conditions that calls share.
+pub mod RefusalLaws
 pub mod ConditionLaws

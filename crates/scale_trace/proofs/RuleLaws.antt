@@ -2,7 +2,6 @@
 --   not-true, not-false                        what a test of the opposite says
 --   source-none, -four, -eight, -dc, -repeat   each answer of `source_of`, from the tests that lead to it
 --   position-16, position-32                   the position that the code works out
---   number-least                               every refusal has a number above 0
 --   coeff-accepted, -factor, -refused          the lookup refuses nothing that a line asks for, and gives m
 use mathlib.Core.Path.{_≡_, refl, sym, ap, _∙_, subst}
 use mathlib.Core.Bool.{Bool, true, false, not}
@@ -17,10 +16,9 @@ use Rattle.h265.specs.ScalingFactor.{repeatedPosition, factorSource, scalingFac
 use Rattle.h265.specs.ScalingFactor.ScalingList.{listed}
 use Rattle.h265.proofs.RangeLaws.{size-cases}
 use Rattle.refusal.specs.declared.Refusal.{Refusal}
-use Rattle.refusal.specs.declared.Refusal.the-variants.{SizeInvalid, DepthInvalid, WidthTooNarrow, DstSizeInvalid, ListLengthInvalid, InputTooShort, OutputTooShort, PlaceOutside, CoefficientOutside, KindUnknown, BodyTooShort, LevelsBeforeParameters, ParameterInvalid}
-use Rattle.refusal.specs.Refusal.{number}
 use Rattle.refusal.specs.Condition.{sizeRefused, listRefused}
 use Rattle.refusal.specs.Outcome.{Outcome, accepted, refused}
+use Rattle.refusal.proofs.RefusalLaws.{number-least}
 use Rattle.scaling.specs.Factor.{scalingCoeff}
 use Rattle.scaling.proofs.FactorLaws.{position-inside}
 use Rattle.scale_trace.specs.declared.Source.the-variants.{None, Four, Eight, Dc, Repeat}
@@ -73,21 +71,6 @@ unfolding repeatedPosition log2Size
 position-32 n i e = rw e refl
 
 -- ---- m
-pub number-least : (e : Refusal) → 1 ≤ number e
-number-least SizeInvalid = omega arith
-number-least DepthInvalid = omega arith
-number-least WidthTooNarrow = omega arith
-number-least DstSizeInvalid = omega arith
-number-least ListLengthInvalid = omega arith
-number-least InputTooShort = omega arith
-number-least OutputTooShort = omega arith
-number-least PlaceOutside = omega arith
-number-least (CoefficientOutside at) = omega arith
-number-least KindUnknown = omega arith
-number-least BodyTooShort = omega arith
-number-least LevelsBeforeParameters = omega arith
-number-least ParameterInvalid = omega arith
-
 size-kept : (n : ℕ) → T (isSize n) → sizeRefused n ≡ false
 unfolding sizeRefused
 size-kept n t = size-cases (λ m. sizeRefused m ≡ false) refl refl refl refl n t

@@ -20,6 +20,7 @@ use Rattle.h265.specs.Range.{isSize}
 use Rattle.refusal.specs.Condition.{depthRefused}
 use Rattle.refusal.specs.Refusal.{number}
 use Rattle.refusal.specs.Outcome.{Outcome}
+use Rattle.refusal.proofs.RefusalLaws.{number-least}
 use Rattle.text.specs.Text.{WroteUpTo}
 use Rattle.text.proofs.WroteLaws.{wrote-none}
 use Rattle.feed.specs.declared.Kind.{Kind}
@@ -39,7 +40,6 @@ use Rattle.feed.proofs.FormatLaws.{kind-size}
 use Rattle.feed.proofs.EffectLaws.{effect-whole}
 use Rattle.scale_trace.specs.Trace.{linesFrom, blockLines, recordLines, traceEffect, traceRoom}
 use Rattle.scale_trace.specs.Work.{isDone, sizeOf, TracesAt}
-use Rattle.scale_trace.proofs.RuleLaws.{number-least}
 
 -- ---- sizes of kinds
 pub size-none : (k : ℕ) → (k ≡ 4 → ⊥) → (k ≡ 5 → ⊥) → (k ≡ 6 → ⊥) → (k ≡ 7 → ⊥) → _≡_ {A = ℕ} 0 (sizeOf (kindOf k))

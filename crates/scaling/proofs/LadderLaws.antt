@@ -5,13 +5,10 @@
 use mathlib.Core.Path.{_≡_, refl, ap, _∙_}
 use mathlib.Core.Bool.{Bool, true, false, cond}
 use mathlib.Core.List.{List, [], _∷_}
-use Prim.Native.Nat.{_≤_}
 use native.Mathlib.Omega.{arith}
-use lib.Dec.{lit≤}
 use Rattle.refusal.specs.declared.Refusal.{Refusal}
-use Rattle.refusal.specs.declared.Refusal.the-variants.{SizeInvalid, DepthInvalid, WidthTooNarrow, DstSizeInvalid, ListLengthInvalid, InputTooShort, OutputTooShort, PlaceOutside, CoefficientOutside, KindUnknown, BodyTooShort, LevelsBeforeParameters, ParameterInvalid}
-use Rattle.refusal.specs.Refusal.{number}
 use Rattle.refusal.specs.Outcome.{Outcome, accepted, refused}
+use Rattle.refusal.proofs.RefusalLaws.{number-least}
 
 pub data Rung : Type 0 where
   rung : Bool → Refusal → Rung
@@ -24,27 +21,12 @@ abbrev pub Passed : List Rung → Type 0
 Passed [] = Unit {0}
 Passed (rung t e ∷ rs) = (t ≡ false) × Passed rs
 
-number-pos : (e : Refusal) → 1 ≤ number e
-number-pos SizeInvalid = lit≤ tt
-number-pos DepthInvalid = lit≤ tt
-number-pos WidthTooNarrow = lit≤ tt
-number-pos DstSizeInvalid = lit≤ tt
-number-pos ListLengthInvalid = lit≤ tt
-number-pos InputTooShort = lit≤ tt
-number-pos OutputTooShort = lit≤ tt
-number-pos PlaceOutside = lit≤ tt
-number-pos (CoefficientOutside at) = lit≤ tt
-number-pos KindUnknown = lit≤ tt
-number-pos BodyTooShort = lit≤ tt
-number-pos LevelsBeforeParameters = lit≤ tt
-number-pos ParameterInvalid = lit≤ tt
-
 module _ {A : Type 0} (z p : A) where
   clash : (v : A) (e : Refusal) → accepted v ≡ refused z e → ⊥
-  clash v e h = omega (arith, number-pos e, ap (λ (o : Outcome A). o .number) h)
+  clash v e h = omega (arith, number-least e, ap (λ (o : Outcome A). o .number) h)
 
   clash-back : (e : Refusal) → refused z e ≡ accepted p → ⊥
-  clash-back e h = omega (arith, number-pos e, ap (λ (o : Outcome A). o .number) h)
+  clash-back e h = omega (arith, number-least e, ap (λ (o : Outcome A). o .number) h)
 
   pub first-accepted : (v : A) (rs : List Rung) → accepted v ≡ first (refused z) (accepted p) rs → Passed rs × (v ≡ p)
   first-accepted v [] h = (tt, ap (λ (o : Outcome A). o .value) h)
