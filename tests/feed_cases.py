@@ -1,5 +1,5 @@
 #!/usr/bin/env python3
-"""feed_cases.py [CRATE]: write args, data/ and stdout of the program feed_cases (crates/feed_cases by default).
+"""feed_cases.py [CRATES]: write args, data/ and stdout of the program feed_cases, and stdin and stdout of scale_trace_main (in crates by default).
 
 Written from the rules alone (docs/RULES.md): it shares nothing with the crates. A file of data/ holds cases, each four bytes of length (low byte
 first) and the bytes of a feed; stdout holds for each file its name, and for each case a line `case N` and the text of the feed.
@@ -35,25 +35,29 @@ def coeff_range(depth, extended):
     return max(15, depth + 6) if extended else 15
 
 
-def factor(listed, n, i):
+def source(listed, mode, n, i):
+    """m, the reason and the position in the list."""
     if listed is None:
-        return 16
+        return 16, "none", "-"
+    if mode == 2 and n > 4:
+        return 16, "skip", "-"
     entries, dc = listed
     if n <= 8:
-        return entries[i]
+        return entries[i], {4: "four", 8: "eight"}[n], i
     if i == 0:
-        return dc
+        return dc, "dc", "-"
     shift = n.bit_length() - 1 - 3
-    return entries[(i // n >> shift) * 8 + (i % n >> shift)]
+    at = (i // n >> shift) * 8 + (i % n >> shift)
+    return entries[at], "repeat", at
 
 
-def scaled(levels, n, depth, extended, qp, listed):
+def scaled(levels, n, depth, extended, qp, mode, listed):
     r = coeff_range(depth, extended)
     low, high = -(1 << r), (1 << r) - 1
     s = depth + (n.bit_length() - 1) + 10 - r
     q = clip(0, 51 + 6 * (depth - 8), qp)
     step = SCALE[q % 6] << (q // 6)
-    return [clip(low, high, (clip(low, high, v) * factor(listed, n, i) * step + (1 << (s - 1))) >> s) for i, v in enumerate(levels)]
+    return [clip(low, high, (clip(low, high, v) * source(listed, mode, n, i)[0] * step + (1 << (s - 1))) >> s) for i, v in enumerate(levels)]
 
 
 def skipped(coeff, n, depth, extended):
@@ -73,7 +77,7 @@ def transformed(coeff, n, depth, extended, matrix):
 
 def residual(levels, n, parameters, listed):
     depth, extended, qp, mode = parameters
-    coeff = scaled(levels, n, depth, extended, qp, listed)
+    coeff = scaled(levels, n, depth, extended, qp, mode, listed)
     if mode == 2:
         return skipped(coeff, n, depth, extended)
     return transformed(coeff, n, depth, extended, DST if mode == 1 else dct(n))
@@ -84,7 +88,17 @@ def body_length(kind):
     return {1: 4, 2: 65, 3: 0}.get(kind, 4 * SIZES.get(kind, 0) ** 2)
 
 
-def text(feed):
+def rows(levels, n, parameters, listed):
+    block = residual(levels, n, parameters, listed)
+    return "".join(" ".join(map(str, block[row * n:row * n + n])) + "\n" for row in range(n))
+
+
+def factors(levels, n, parameters, listed):
+    return "".join("{} {} {} {}\n".format(i, *source(listed, parameters[3], n, i)) for i in range(n * n))
+
+
+def text(feed, block, last):
+    """The text of a feed: that of each block, then that of their number, or the line of a refusal."""
     out, at, parameters, listed, blocks = [], 0, None, None, 0
 
     def refuse(number):
@@ -115,12 +129,18 @@ def text(feed):
             if parameters[3] == 1 and n != 4:
                 return refuse(4)
             levels = [int.from_bytes(body[4 * i:4 * i + 4], "little", signed=True) for i in range(n * n)]
-            block = residual(levels, n, parameters, listed)
-            for row in range(n):
-                out.append(" ".join(map(str, block[row * n:row * n + n])) + "\n")
+            out.append(block(levels, n, parameters, listed))
             blocks += 1
         at += 1 + len(body)
-    return "".join(out) + f"blocks {blocks}\n"
+    return "".join(out) + last(blocks)
+
+
+def residuals(feed):
+    return text(feed, rows, lambda blocks: f"blocks {blocks}\n")
+
+
+def listing(feed):
+    return text(feed, factors, lambda blocks: "")
 
 
 # ---- numbers that are the same on every machine
@@ -246,6 +266,18 @@ def changes():
     yield b"".join(parameters(8 + i, i % 2, 10 * i, i % 3) + small for i in range(9))
 
 
+def skips():
+    """Transform skip with a list and without one: the list counts at size 4 and not above, and stays in force for the next block."""
+    steep = a_list([1 + 3 * i for i in range(64)], 200)
+    skip, dct = parameters(8, 0, 10, 2), parameters(8, 0, 10, 0)
+    for kind in (4, 5, 6, 7):
+        block = levels(kind, [300, -200, 100])
+        yield skip + block
+        yield skip + steep + block
+    small, middle = levels(4, [300, -200, 100]), levels(5, [300, -200, 100])
+    yield steep + skip + middle + small + dct + middle + skip + middle + DROP + small + middle
+
+
 def cuts():
     """An input cut at each of its first hundred bytes."""
     feed = parameters(8, 0, 30, 0) + a_list([16 + i for i in range(64)], 20) + levels(4, [5, -3, 2]) + DROP + parameters(9, 0, 4, 2) + levels(4, [7])
@@ -254,17 +286,30 @@ def cuts():
     yield feed
 
 
+def reasons():
+    """Every reason of the listing, then a refusal: each rule, a list that transform skip ignores above size 4, and no list."""
+    steep = a_list([(6 + 7 * i) % 256 for i in range(64)], 200)
+    small, middle, large = (levels(kind, []) for kind in (4, 5, 6))
+    listed = small + steep + small + middle + large
+    skipped = steep + parameters(mode=2) + small + middle + DROP + middle
+    return parameters() + listed + DROP + small + skipped + parameters(mode=1) + middle
+
+
 def main():
-    crate = pathlib.Path(sys.argv[1] if len(sys.argv) > 1 else "crates/feed_cases")
+    crates = pathlib.Path(sys.argv[1] if len(sys.argv) > 1 else "crates")
+    trace, crate = crates / "scale_trace_main", crates / "feed_cases"
+    trace.mkdir(parents=True, exist_ok=True)
     (crate / "data").mkdir(parents=True, exist_ok=True)
+    (trace / "stdin").write_bytes(reasons())
+    (trace / "stdout").write_text(listing(reasons()))
     shown, names = [], []
-    for name, made in (("refusals", refusals), ("plain", plain), ("blocks", blocks), ("changes", changes), ("cuts", cuts)):
+    for name, made in (("refusals", refusals), ("plain", plain), ("blocks", blocks), ("changes", changes), ("skips", skips), ("cuts", cuts)):
         names.append(name)
         shown.append(f"{name}\n")
         data = b""
         for number, feed in enumerate(made()):
             data += len(feed).to_bytes(4, "little") + feed
-            shown.append(f"case {number}\n{text(feed)}")
+            shown.append(f"case {number}\n{residuals(feed)}")
         (crate / "data" / name).write_bytes(data)
     (crate / "args").write_text("".join(f"{name}\n" for name in names))
     (crate / "stdout").write_text("".join(shown))

@@ -1,9 +1,10 @@
 -- What the crate `scaling` does where nothing is refused, and what its coefficients are good for.
+--   list-used                      the list by which a block is scaled, by the test of the code
 --   dequantized-out, skipped-out   the output of scaling and of transform skip
 --   size-ok, block-ok              a size and a buffer that no row refuses
 --   coefficients-in-range          every coefficient lies in its range
 use mathlib.Core.Path.{_≡_, refl, sym, ap, _∙_, subst}
-use mathlib.Core.Bool.{Bool, true, false, not}
+use mathlib.Core.Bool.{Bool, true, false, not, _&&_, cond}
 use mathlib.Core.List.{List}
 use Prim.Native.Nat.{ℕ, _*_, _≤_, _<_}
 use native.Mathlib.Omega.{arith}
@@ -17,14 +18,26 @@ use Rattle.integers.proofs.ListsLaws.{tabulate-length, tabulate-getD}
 use Rattle.h265.specs.Range.{isSize, log2Size, transformRange, clipCoeff, outsideRange}
 use Rattle.h265.specs.Quantization.{clipQpPrime}
 use Rattle.h265.specs.ScalingFactor.{ScalingList, scalingFactor}
+use Rattle.h265.specs.ScalingFactor.ScalingList.{flat}
 use Rattle.h265.specs.Scaling.{scaleLevel, scaledAt, scaledValue, bdShift}
 use Rattle.h265.specs.TransformSkip.{skippedAt}
 use Rattle.h265.proofs.RangeLaws.{clipCoeff-between}
 use Rattle.refusal.specs.declared.Answer.{Answer}
 use Rattle.refusal.specs.Condition.{sizeRefused, depthRefused, listRefused, blockRefused}
 use Rattle.scaling.specs.Blocks.{bits32, entriesOf, blockLadder, blockWritten, dequantized, transformSkipped, Writes}
+use Rattle.feed.specs.declared.Mode.{Mode}
 use Rattle.feed.specs.declared.Parameters.{Parameters}
-use Rattle.feed.specs.Block.{coefficients}
+use Rattle.feed.specs.Block.{listIgnored, listFor, coefficients}
+use Rattle.feed.specs.Answers.{listIn}
+
+pub list-used : {t : Bool} (mode : Mode) (n : ℕ) (x : Bool) (entries : List ℕ) (d : ℕ) → t ≡ not (listIgnored mode n) && x
+    → listFor mode n (listIn x entries d) ≡ listIn t entries d
+unfolding listFor
+list-used mode n x entries d e = by-test (listIgnored mode n) ∙ sym (ap (λ (u : Bool). listIn u entries d) e)
+  where
+    by-test : (u : Bool) → cond u flat (listIn x entries d) ≡ listIn (not u && x) entries d
+    by-test true = refl
+    by-test false = refl
 
 pub size-ok : (n : ℕ) → T (isSize n) → sizeRefused n ≡ false
 unfolding sizeRefused

@@ -1,18 +1,22 @@
 -- The residual of one block of a feed, by the parameters and the list in force. Document 01, "The feed program"; clause 8.6 in `h265`.
 -- Letters: n size, p the parameters, levels the block's levels in row order.
 --   dstRefused mode n          row 4: the DST has size 4 only
+--   listIgnored mode n         a block that is scaled without a list, though one may be in force
+--   listFor mode n list        the list by which a block is scaled, where `list` is in force
 --   coefficients list p n      the scaled levels
 --   transformedAt t b x n      the residual at an index, of coefficients by a matrix t
---   residualAt list p n        the residual at an index, of levels by the mode: 0 DCT, 1 DST, 2 transform skip
+--   residualBy mode list p n   the residual at an index, of levels by the mode: 0 DCT, 1 DST, 2 transform skip
+--   residualAt list p n        the same where `list` is in force
 --   blockResidual list p n     the whole block
-use mathlib.Core.Bool.{Bool, false, not}
+use mathlib.Core.Bool.{Bool, false, not, cond}
 use mathlib.Core.List.{List}
 use Prim.Native.Nat.{ℕ, _*_}
-use lib.Dec.{eqb}
+use lib.Dec.{eqb, ltb}
 use lib.IntN.{ℤ, pos}
 use Rattle.integers.specs.Lists.{tabulate}
 use Rattle.h265.specs.Range.{transformRange}
 use Rattle.h265.specs.ScalingFactor.{ScalingList}
+use Rattle.h265.specs.ScalingFactor.ScalingList.{flat}
 use Rattle.h265.specs.Scaling.{scaledAt}
 use Rattle.h265.specs.TransformSkip.{skippedAt}
 use Rattle.h265.specs.Matrix.{transMatrix, dstMatrix}
@@ -25,6 +29,15 @@ unfoldable pub dstRefused : Mode → ℕ → Bool
 dstRefused Dct n = false
 dstRefused Dst n = not (eqb n 4)
 dstRefused Skip n = false
+
+-- clause 8.6: m is 16 for a transform-skip block with nTbS above 4
+unfoldable pub listIgnored : Mode → ℕ → Bool
+listIgnored Dct n = false
+listIgnored Dst n = false
+listIgnored Skip n = ltb 4 n
+
+unfoldable pub listFor : Mode → ℕ → ScalingList → ScalingList
+listFor mode n list = cond (listIgnored mode n) flat list
 
 unfoldable pub coefficients : ScalingList → Parameters → ℕ → List ℤ → List ℤ
 coefficients list p n levels =
@@ -43,7 +56,7 @@ residualBy Skip list p n levels =
     skippedAt list n (p .«bit_depth») (p .«extended_precision») (pos (p .«qp_prime»)) levels
 
 unfoldable pub residualAt : ScalingList → Parameters → ℕ → List ℤ → ℕ → ℤ
-residualAt list p n levels = residualBy (p .mode) list p n levels
+residualAt list p n levels = residualBy (p .mode) (listFor (p .mode) n list) p n levels
 
 unfoldable pub blockResidual : ScalingList → Parameters → ℕ → List ℤ → List ℤ
 blockResidual list p n levels = tabulate (n * n) (residualAt list p n levels)

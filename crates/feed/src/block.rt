@@ -1,5 +1,6 @@
 // One block: from levels to the residual, by the parameters and the list in force.
 ghost use mathlib.Core.Path.{_≡_};
+ghost use mathlib.Core.Bool.{not, _&&_};
 ghost use Prim.Native.Nat.{_*_, _≤_};
 ghost use lib.IntN.{pos};
 ghost use lib.ListN.{length};
@@ -8,7 +9,7 @@ ghost use Rattle.h265.specs.Matrix.{transMatrix, dstMatrix};
 ghost use Rattle.h265.specs.Scaling.{scaledAt};
 ghost use Rattle.h265.specs.TransformSkip.{skippedAt};
 ghost use Rattle.feed.specs.Format.{levelsOf};
-ghost use Rattle.feed.specs.Block.{coefficients, transformedAt, residualAt};
+ghost use Rattle.feed.specs.Block.{listIgnored, listFor, coefficients, transformedAt, residualAt};
 ghost use Rattle.feed.specs.Answers.{listIn};
 ghost use Rattle.feed.specs.Work.{Accepted, matrixOf, Transformable};
 use crate::Mode;
@@ -21,6 +22,27 @@ fn signed(byte: u8) -> i32
     ensures { λ r. ⌜ r ≡ pos byte ⌝ }
 {
     byte as i32
+}
+
+// Whether a block of this mode and size is scaled without a list, though one may be in force.
+pub fn list_ignored(mode: Mode, n: usize) -> bool
+    ensures { λ r. ⌜ r ≡ listIgnored mode n ⌝ }
+{
+    match mode {
+        Mode::Dct => false,
+        Mode::Dst => false,
+        Mode::Skip => 4 < n,
+    }
+}
+
+// Whether a block is scaled by the list.
+fn uses_list(listed: bool, mode: Mode, n: usize) -> bool
+    ensures { λ r. ⌜ r ≡ not (listIgnored mode n) && listed ⌝ }
+{
+    if list_ignored(mode, n) {
+        return false;
+    }
+    listed
 }
 
 // The coefficients of a block.
@@ -60,11 +82,11 @@ fn skip(s: State, p: Parameters, n: usize, levels: &[i32], out: &mut [i32])
     requires { ⌜ Accepted p n ⌝ }
     requires { ⌜ n * n ≤ length (now levels) ⌝ }
     requires { ⌜ n * n ≤ length (now out) ⌝ }
-    ensures { λ r. ⌜ now (out .exit) ≡ overwrite (n * n) (skippedAt (listIn (s .listed) (s .entries) (s .dc)) n (p .«bit_depth») (p .«extended_precision») (pos (p .«qp_prime»)) (now (levels .entry))) (now (out .entry)) ⌝ }
+    ensures { λ r. ⌜ now (out .exit) ≡ overwrite (n * n) (skippedAt (listFor Mode.Skip n (listIn (s .listed) (s .entries) (s .dc))) n (p .«bit_depth») (p .«extended_precision») (pos (p .«qp_prime»)) (now (levels .entry))) (now (out .entry)) ⌝ }
 {
     let qp_prime = QpPrime(signed(p.qp_prime));
     let entries = s.entries;
-    if s.listed {
+    if uses_list(s.listed, Mode::Skip, n) {
         scaling::dequantize_transform_skip_scaled_into_scalar_i32(
             levels,
             n,

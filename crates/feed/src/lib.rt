@@ -9,6 +9,7 @@ mod records;
 mod stream;
 mod values;
 
+pub use block::list_ignored;
 pub use format::record_length;
 pub use lines::blocks_line;
 pub use lines::refusal_line;

@@ -11,11 +11,12 @@ use native.Mathlib.Nat.{sub-zero}
 use native.Mathlib.Numerals.{add-one}
 use native.Mathlib.Omega.{arith}
 use lib.ListN.{length}
-use Rattle.h265.specs.ScalingFactor.{ScalingList, FactorSource, factorSource, scalingFactor}
+use Rattle.h265.specs.ScalingFactor.{ScalingList}
 use Rattle.text.specs.Text.{space, unsignedText, Wrote, WroteUpTo}
 use Rattle.text.proofs.WroteLaws.{Left, wrote-more, left-start, left-more, left-done}
 use Rattle.text.proofs.NumberLaws.{unsigned-length}
-use Rattle.scale_trace.specs.Trace.{ruleText, lineText, linesFrom, blockLines}
+use Rattle.feed.specs.declared.Mode.{Mode}
+use Rattle.scale_trace.specs.Trace.{BlockSource, blockSource, blockFactor, ruleText, lineText, linesFrom, blockLines}
 
 -- ---- one line
 pub within : {l t m : List ℕ} {i j k : ℕ} → Wrote l i t m j → length t ≤ k → WroteUpTo l i t m j (i + k)
@@ -27,36 +28,36 @@ position-short p h = unsigned-length 1 p (omega arith)
 pub number-short : (n : ℕ) → n < 1024 → length (unsignedText n) ≤ 4
 number-short n h = unsigned-length 3 n (omega arith)
 
-pub line-wrote : {l a b m : List ℕ} {i j k e f : ℕ} {src : FactorSource} (list : ScalingList) (n x : ℕ)
-    → f ≡ scalingFactor list n x → src ≡ factorSource list n x
+pub line-wrote : {l a b m : List ℕ} {i j k e f : ℕ} {src : BlockSource} (list : ScalingList) (mode : Mode) (n x : ℕ)
+    → f ≡ blockFactor list mode n x → src ≡ blockSource list mode n x
     → Wrote l i (unsignedText x ++ (space ∷ [])) a j → Wrote a j (unsignedText f ++ (space ∷ [])) b k → Wrote b k (ruleText src) m e
-    → Wrote l i (lineText list n x) m e
+    → Wrote l i (lineText list mode n x) m e
 unfolding lineText
-line-wrote list n x ef es u v w = rw (← ef, ← es) (simp append-assoc at (wrote-more u (wrote-more v w)))
+line-wrote list mode n x ef es u v w = rw (← ef, ← es) (simp append-assoc at (wrote-more u (wrote-more v w)))
 
 -- ---- the lines of a block
 pub index-side : (n i : ℕ) → i < n * n → 0 < n
 index-side zero i h = absurd (omega arith)
 index-side (suc n) i h = omega arith
 
-pub lines-start : (l : List ℕ) (at : ℕ) (list : ScalingList) (n : ℕ) → Left l at (blockLines list n) l at (linesFrom list n 0 (n * n - 0))
+pub lines-start : (l : List ℕ) (at : ℕ) (list : ScalingList) (mode : Mode) (n : ℕ) → Left l at (blockLines list mode n) l at (linesFrom list mode n 0 (n * n - 0))
 unfolding blockLines
-lines-start l at list n = rw (sub-zero (n * n)) (left-start l at (linesFrom list n 0 (n * n)))
+lines-start l at list mode n = rw (sub-zero (n * n)) (left-start l at (linesFrom list mode n 0 (n * n)))
 
-lines-step : (list : ScalingList) (n i k : ℕ) → i < k → linesFrom list n i (k - i) ≡ lineText list n i ++ linesFrom list n (i + 1) (k - (i + 1))
+lines-step : (list : ScalingList) (mode : Mode) (n i k : ℕ) → i < k → linesFrom list mode n i (k - i) ≡ lineText list mode n i ++ linesFrom list mode n (i + 1) (k - (i + 1))
 unfolding linesFrom
-lines-step list n i k h = rw (one-less, add-one i) refl
+lines-step list mode n i k h = rw (one-less, add-one i) refl
   where
     one-less : k - i ≡ suc (k - (i + 1))
     one-less = omega arith
 
-pub lines-more : {l t m o : List ℕ} {at j e : ℕ} (list : ScalingList) (n i k : ℕ) → i < k → Left l at t m j (linesFrom list n i (k - i))
-    → Wrote m j (lineText list n i) o e → Left l at t o e (linesFrom list n (i + 1) (k - (i + 1)))
-lines-more list n i k h g w = left-more (rw (lines-step list n i k h) at g) w
+pub lines-more : {l t m o : List ℕ} {at j e : ℕ} (list : ScalingList) (mode : Mode) (n i k : ℕ) → i < k → Left l at t m j (linesFrom list mode n i (k - i))
+    → Wrote m j (lineText list mode n i) o e → Left l at t o e (linesFrom list mode n (i + 1) (k - (i + 1)))
+lines-more list mode n i k h g w = left-more (rw (lines-step list mode n i k h) at g) w
 
-pub lines-done : {l t m : List ℕ} {at j : ℕ} (list : ScalingList) (n i k : ℕ) → k ≤ i → Left l at t m j (linesFrom list n i (k - i)) → Wrote l at t m j
+pub lines-done : {l t m : List ℕ} {at j : ℕ} (list : ScalingList) (mode : Mode) (n i k : ℕ) → k ≤ i → Left l at t m j (linesFrom list mode n i (k - i)) → Wrote l at t m j
 unfolding linesFrom
-lines-done list n i k h g = left-done (rw none at g)
+lines-done list mode n i k h g = left-done (rw none at g)
   where
     none : k - i ≡ 0
     none = omega arith

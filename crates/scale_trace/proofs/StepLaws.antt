@@ -9,7 +9,7 @@
 --   trace-whole               the body of one that is not is whole
 use mathlib.Core.Path.{_≡_, refl, sym, ap, _∙_}
 use mathlib.Core.Bool.{Bool, true, false, cond}
-use mathlib.Core.List.{List}
+use mathlib.Core.List.{List, []}
 use Prim.Native.Nat.{ℕ, _+_, _*_, _≤_, _<_, min}
 use native.Mathlib.Omega.{arith}
 use borrow.Author.Tests.{eq-eqb, ne-eqb, le-ltb, lt-ltb, leb-true, leb-false, eqb-true}
@@ -17,6 +17,7 @@ use lib.Dec.{T, leb, ltb, eqb}
 use lib.ListN.{length, take, length-take}
 use lib.Seq.{take-all, take-take, getD-take}
 use Rattle.h265.specs.Range.{isSize}
+use Rattle.h265.specs.ScalingFactor.{ScalingList}
 use Rattle.refusal.specs.Condition.{depthRefused}
 use Rattle.refusal.specs.Refusal.{number}
 use Rattle.refusal.specs.Outcome.{Outcome}
@@ -38,7 +39,7 @@ use Rattle.feed.specs.Answers.{Room, stateOf, capped, stepAnswer, answerOf, ste
 use Rattle.feed.specs.Answers.Room.{tooLittle, enough}
 use Rattle.feed.proofs.FormatLaws.{kind-size}
 use Rattle.feed.proofs.EffectLaws.{effect-whole}
-use Rattle.scale_trace.specs.Trace.{linesFrom, blockLines, recordLines, traceEffect, traceRoom}
+use Rattle.scale_trace.specs.Trace.{linesFrom, blockLines, levelsLines, recordLines, traceEffect, traceRoom}
 use Rattle.scale_trace.specs.Work.{isDone, sizeOf, TracesAt}
 
 -- ---- sizes of kinds
@@ -74,13 +75,17 @@ kind-room k e = rw e (by-kind (kindOf k))
     by-kind (Levels n) = omega arith
     by-kind Unknown = omega arith
 
-kind-lines : (kind : Kind) (s : FeedState) → recordLines kind s ≡ blockLines (s .list) (sizeOf kind)
+lines-none : (g : Given) (list : ScalingList) → levelsLines g list 0 ≡ []
 unfolding blockLines linesFrom
-kind-lines Parameters s = refl
-kind-lines ListKind s = refl
-kind-lines NoList s = refl
+lines-none Nothing list = refl
+lines-none (These p) list = refl
+
+kind-lines : (kind : Kind) (s : FeedState) → recordLines kind s ≡ levelsLines (s .given) (s .list) (sizeOf kind)
+kind-lines Parameters s = sym (lines-none (s .given) (s .list))
+kind-lines ListKind s = sym (lines-none (s .given) (s .list))
+kind-lines NoList s = sym (lines-none (s .given) (s .list))
 kind-lines (Levels n) s = refl
-kind-lines Unknown s = refl
+kind-lines Unknown s = sym (lines-none (s .given) (s .list))
 
 -- ---- a body that is longer than its kind's
 record Alike (o p : Outcome Effect) : Type 0 where
@@ -181,7 +186,7 @@ module _ {r : Stepped} (s : FeedState) (k : ℕ) (body : List ℕ) (f : Fed r (r
   pub trace-whole : isDone (r .answer) ≡ true → recordLength k ≤ length body
   trace-whole d = effect-whole s k body (eqb-true _ 0 (sym (done-is (r .answer) _ (f .answered)) ∙ d))
 
-  pub trace-accepted : {l m : List ℕ} {at end n : ℕ} → isDone (r .answer) ≡ true → n ≡ sizeOf (kindOf k) → WroteUpTo l at (blockLines (s .list) n) m end (at + 20 * (n * n))
+  pub trace-accepted : {l m : List ℕ} {at end n : ℕ} → isDone (r .answer) ≡ true → n ≡ sizeOf (kindOf k) → WroteUpTo l at (levelsLines (s .given) (s .list) n) m end (at + 20 * (n * n))
       → TracesAt (record { answer = r .answer; state = r .state; end = end }) l at m (traceEffect s k body) (traceRoom (length body))
   unfolding traceEffect
   trace-accepted {l} {m} {at} {end} d en w =

@@ -14,4 +14,5 @@ pub enum Source {
     Eight(usize),
     Dc,
     Repeat(usize),
+    Skip,
 }

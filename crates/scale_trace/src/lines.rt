@@ -8,6 +8,7 @@ ghost use Rattle.scale_trace.specs.Trace.{reasonText, positionText, rule
 ghost use Rattle.scale_trace.specs.Work.{sourceIs, positionOf, LineAsk, BlockAsk};
 use crate::Source;
 use crate::rule;
+use feed::Mode;
 
 fn put_reason(source: Source, out: &mut [u8], at: usize) -> usize
     requires { ⌜ at + 6 ≤ length (now out) ⌝ }
@@ -19,6 +20,7 @@ fn put_reason(source: Source, out: &mut [u8], at: usize) -> usize
         Source::Eight(_) => text::put_bytes(b"eight", out, at),
         Source::Dc => text::put_bytes(b"dc", out, at),
         Source::Repeat(_) => text::put_bytes(b"repeat", out, at),
+        Source::Skip => text::put_bytes(b"skip", out, at),
     }
 }
 
@@ -32,6 +34,7 @@ fn put_position(source: Source, out: &mut [u8], at: usize) -> usize
         Source::Eight(p) => text::put_unsigned(p as u64, out, at),
         Source::Dc => text::put_bytes(b"-", out, at),
         Source::Repeat(p) => text::put_unsigned(p as u64, out, at),
+        Source::Skip => text::put_bytes(b"-", out, at),
     }
 }
 
@@ -62,6 +65,7 @@ fn put_line(
     listed: bool,
     entries: &[u8],
     dc: u8,
+    mode: Mode,
     n: usize,
     index: usize,
     out: &mut [u8],
@@ -69,10 +73,10 @@ fn put_line(
 ) -> usize
     requires { ⌜ LineAsk n index (length (now entries)) ⌝ }
     requires { ⌜ at + 20 ≤ length (now out) ⌝ }
-    ensures { λ r. ⌜ WroteUpTo (now (out .entry)) at (lineText (listIn listed (now (entries .entry)) dc) n index) (now (out .exit)) r (at + 20) ⌝ }
+    ensures { λ r. ⌜ WroteUpTo (now (out .entry)) at (lineText (listIn listed (now (entries .entry)) dc) mode n index) (now (out .exit)) r (at + 20) ⌝ }
 {
-    let source = rule::source_of(listed, n, index);
-    let m = rule::factor_of(listed, entries, dc, n, index);
+    let source = rule::source_of(listed, mode, n, index);
+    let m = rule::factor_of(listed, entries, dc, mode, n, index);
     let first = put_number(index, out, at);
     let second = put_number(m as usize, out, first);
     put_rule(source, out, second)
@@ -83,18 +87,19 @@ pub(crate) fn put_lines(
     listed: bool,
     entries: &[u8],
     dc: u8,
+    mode: Mode,
     n: usize,
     out: &mut [u8],
     at: usize,
 ) -> usize
     requires { ⌜ BlockAsk n (length (now entries)) ⌝ }
     requires { ⌜ at + 20 * (n * n) ≤ length (now out) ⌝ }
-    ensures { λ r. ⌜ WroteUpTo (now (out .entry)) at (blockLines (listIn listed (now (entries .entry)) dc) n) (now (out .exit)) r (at + 20 * (n * n)) ⌝ }
+    ensures { λ r. ⌜ WroteUpTo (now (out .entry)) at (blockLines (listIn listed (now (entries .entry)) dc) mode n) (now (out .exit)) r (at + 20 * (n * n)) ⌝ }
 {
     let mut end = at;
     let mut i = 0;
     while i < n * n {
-        end = put_line(listed, entries, dc, n, i, out, end);
+        end = put_line(listed, entries, dc, mode, n, i, out, end);
         i += 1;
     }
     end

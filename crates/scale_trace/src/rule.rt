@@ -4,19 +4,23 @@ ghost use Prim.Native.Nat.{_*_, _<_};
 ghost use lib.Dec.{T};
 ghost use lib.ListN.{length};
 ghost use Rattle.h265.specs.Range.{isSize};
-ghost use Rattle.h265.specs.ScalingFactor.{scalingFactor};
 ghost use Rattle.feed.specs.Answers.{listIn};
+ghost use Rattle.scale_trace.specs.Trace.{blockFactor};
 ghost use Rattle.scale_trace.specs.Work.{LineAsk, SourceAt};
 use crate::Source;
+use feed::Mode;
 use scaling::FactorAnswer;
 
 // The rule at an index.
-pub(crate) fn source_of(listed: bool, n: usize, index: usize) -> Source
+pub(crate) fn source_of(listed: bool, mode: Mode, n: usize, index: usize) -> Source
     requires { ⌜ T (isSize n) × (index < n * n) ⌝ }
-    ensures { λ r. ⌜ SourceAt listed n index r ⌝ }
+    ensures { λ r. ⌜ SourceAt listed mode n index r ⌝ }
 {
     if !listed {
         return Source::None;
+    }
+    if feed::list_ignored(mode, n) {
+        return Source::Skip;
     }
     if n == 4 {
         return Source::Four(index);
@@ -34,11 +38,21 @@ pub(crate) fn source_of(listed: bool, n: usize, index: usize) -> Source
 }
 
 // m as scaling has it.
-pub(crate) fn factor_of(listed: bool, entries: &[u8], dc: u8, n: usize, index: usize) -> u8
+pub(crate) fn factor_of(
+    listed: bool,
+    entries: &[u8],
+    dc: u8,
+    mode: Mode,
+    n: usize,
+    index: usize,
+) -> u8
     requires { ⌜ LineAsk n index (length (now entries)) ⌝ }
-    ensures { λ r. ⌜ r ≡ scalingFactor (listIn listed (now (entries .entry)) dc) n index ⌝ }
+    ensures { λ r. ⌜ r ≡ blockFactor (listIn listed (now (entries .entry)) dc) mode n index ⌝ }
 {
     if !listed {
+        return 16;
+    }
+    if feed::list_ignored(mode, n) {
         return 16;
     }
     match scaling::scaling_coeff(entries, dc, n, index) {

@@ -1,13 +1,16 @@
 // The listing of a feed: one record, and a whole input. The feed's own step gives answer and state.
 ghost use mathlib.Core.Path.{_≡_};
-ghost use Prim.Native.Nat.{_+_, min, _≤_};
+ghost use Prim.Native.Nat.{_+_, _*_, _<_, min, _≤_};
+ghost use lib.Dec.{T};
 ghost use lib.ListN.{length};
+ghost use Rattle.h265.specs.Range.{isSize};
 ghost use Rattle.text.specs.Text.{Wrote, WroteUpTo, Counts};
 ghost use Rattle.feed.specs.Format.{kindOf};
 ghost use Rattle.feed.specs.Answers.{stateOf};
-ghost use Rattle.scale_trace.specs.Trace.{traceEffect, traceRoom, tracing, Traces, traceText, listingRoom, Lists};
+ghost use Rattle.scale_trace.specs.Trace.{levelsLines, traceEffect, traceRoom, tracing, Traces, traceText, listingRoom, Lists};
 ghost use Rattle.scale_trace.specs.Work.{isDone, sizeOf, refusalOf, TracesAt};
 use crate::lines;
+use feed::Given;
 use feed::Ran;
 use feed::State;
 use feed::StepAnswer;
@@ -42,6 +45,23 @@ fn size_of(kind: u8) -> usize
     }
 }
 
+// The lines of a block, by the parameters; a block of size 0 has none.
+fn put_levels(state: State, n: usize, out: &mut [u8], at: usize) -> usize
+    requires { ⌜ (0 < n → T (isSize n)) ⌝ }
+    requires { ⌜ at + 20 * (n * n) ≤ length (now out) ⌝ }
+    ensures { λ r. ⌜ WroteUpTo (now (out .entry)) at (levelsLines (stateOf state .given) (stateOf state .list) n) (now (out .exit)) r (at + 20 * (n * n)) ⌝ }
+{
+    let entries = state.entries;
+    let given = state.given;
+    match given {
+        Given::Nothing => at,
+        Given::These(p) => {
+            let mode = p.mode;
+            lines::put_lines(state.listed, &entries, state.dc, mode, n, out, at)
+        }
+    }
+}
+
 // A record, whole or not: its lines at a place of the buffer. The rows that the feed writes are put aside; a body that is longer than
 // its kind's is cut, so that they fit.
 fn take_record(state: State, kind: u8, body: &[u8], out: &mut [u8], at: usize) -> Stepped
@@ -60,9 +80,7 @@ fn take_record(state: State, kind: u8, body: &[u8], out: &mut [u8], at: usize) -
             end: at,
         };
     }
-    let entries = state.entries;
-    let n = size_of(kind);
-    let end = lines::put_lines(state.listed, &entries, state.dc, n, out, at);
+    let end = put_levels(state, size_of(kind), out, at);
     Stepped {
         answer,
         state: next,

@@ -1,7 +1,7 @@
 -- `feed::block::residual_by` meets its contract: an arm for each mode.
 use borrow.Author.Needs.{needs}
 use mathlib.Core.Path.{sym, ap, _∙_}
-use Rattle.feed.specs.Block.{residualAt, residualBy}
+use Rattle.feed.specs.Block.{listIgnored, listFor, residualAt, residualBy}
 use Rattle.feed.proofs.block.residual_by.Statement.{statement}
 use Rattle.feed.proofs.block.residual_by.Tie as tie
 
@@ -27,14 +27,14 @@ same-length : tie.Need-same-length
 same-length c = search needs
 
 returns : tie.Need-returns
-unfolding residualAt residualBy
+unfolding residualAt residualBy listFor listIgnored
 returns c = let e = c .before .before .before .enum-told .given .1 in rw e (rw e at (c .before .transform-levels .ensures))
 
 same-length-2 : tie.Need-same-length-2
 same-length-2 c = search needs
 
 returns-2 : tie.Need-returns-2
-unfolding residualAt residualBy
+unfolding residualAt residualBy listFor listIgnored
 returns-2 c = let e = c .before .before .before .enum-told2 .given .1 in rw e (rw e at (c .before .transform-levels2 .ensures))
 
 same-length-3 : tie.Need-same-length-3

@@ -36,7 +36,7 @@ returns c =
     let p = q .before .before .before .before in
     let f = p .before .before in
     record {
-      wrote = line-wrote _ _ _ (f .factor-of .ensures) (f .before .source-of .ensures .is _ _) (p .put-number .ensures .wrote) (q .put-number2 .ensures .wrote) (r .put-rule .ensures .wrote);
+      wrote = line-wrote _ _ _ _ (f .factor-of .ensures) (f .before .source-of .ensures .is _ _) (p .put-number .ensures .wrote) (q .put-number2 .ensures .wrote) (r .put-rule .ensures .wrote);
       bound = omega (arith, p .put-number .ensures .bound, q .put-number2 .ensures .bound, r .put-rule .ensures .bound);
     }
 

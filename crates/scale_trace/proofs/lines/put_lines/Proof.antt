@@ -9,15 +9,15 @@ use Rattle.scale_trace.proofs.lines.put_lines.Statement.{statement}
 use Rattle.scale_trace.proofs.lines.put_lines.Tie as tie
 
 abbrev Inv-loop : tie.InvT-loop
-Inv-loop listed entries dc n out₀ at end₀ i₀ out end i =
+Inv-loop listed entries dc mode n out₀ at end₀ i₀ out end i =
     (i ≤ n * n) × (end ≤ at + 20 * i)
-    × Left out₀ at (blockLines (listIn listed entries dc) n) out end (linesFrom (listIn listed entries dc) n i (n * n - i))
+    × Left out₀ at (blockLines (listIn listed entries dc) mode n) out end (linesFrom (listIn listed entries dc) mode n i (n * n - i))
 
 abbrev μ-loop : tie.MeasureT-loop
-μ-loop listed entries dc n out₀ at end₀ i₀ out end i = n * n - i
+μ-loop listed entries dc mode n out₀ at end₀ i₀ out end i = n * n - i
 
 loop-holds : tie.Need-loop-holds Inv-loop μ-loop
-loop-holds c = (omega arith, omega arith, lines-start _ _ _ _)
+loop-holds c = (omega arith, omega arith, lines-start _ _ _ _ _)
 
 mul-loop : tie.Need-mul-loop Inv-loop μ-loop
 mul-loop c = omega arith
@@ -39,7 +39,7 @@ loop-again c =
     let t = c .before .before .before .before in
     let l = t .before .loop in
     let p = c .before .before .put-line .ensures in
-    (omega arith, omega (arith, p .bound), lines-more _ _ (l .i) _ (t .loop-test .taken) (l .inv .2) (p .wrote))
+    (omega arith, omega (arith, p .bound), lines-more _ _ _ (l .i) _ (t .loop-test .taken) (l .inv .2) (p .wrote))
 
 same-length : tie.Need-same-length Inv-loop μ-loop
 same-length c = c .before .loop .inv .2 .long
@@ -47,7 +47,7 @@ same-length c = c .before .loop .inv .2 .long
 returns : tie.Need-returns Inv-loop μ-loop
 returns c =
     let l = c .before .loop in
-    record { wrote = lines-done _ _ (l .i) _ (c .loop-test .left) (l .inv .2); bound = omega arith }
+    record { wrote = lines-done _ _ _ (l .i) _ (c .loop-test .left) (l .inv .2); bound = omega arith }
 
 pub put-lines-spec : {M : Type 1} → statement M
 put-lines-spec =

@@ -41,6 +41,15 @@ enum-known-source-3 c = search needs
 put-unsigned-requires-3 : tie.Need-put-unsigned-requires-3
 put-unsigned-requires-3 c κs = let s = c .before .before .before .before .before in omega (arith, position-short _ (rw (c .before .before .source3 .given .1) at (s .pre .0)))
 
+enum-told-3 : tie.Need-enum-told-3
+enum-told-3 c = search needs
+
+slice-aggregate-put-bytes-3 : tie.Need-slice-aggregate-put-bytes-3
+slice-aggregate-put-bytes-3 c = search needs
+
+put-bytes-requires-3 : tie.Need-put-bytes-requires-3
+put-bytes-requires-3 c κs = search needs
+
 same-length : tie.Need-same-length
 same-length c = search needs
 
@@ -80,6 +89,12 @@ returns-5 c =
     let e = p .before .before .before .source3 .given .1 in
     rw e (within (p .put-unsigned3 .ensures) (position-short _ (rw e at (p .before .before .before .before .before .before .pre .0))))
 
+same-length-6 : tie.Need-same-length-6
+same-length-6 c = search needs
+
+returns-6 : tie.Need-returns-6
+returns-6 c = let p = c .before .before in rw (p .before .before .before .enum-told3 .given .1) (within (p .put-bytes3 .ensures) (omega arith))
+
 pub put-position-spec : {M : Type 1} → statement M
 put-position-spec =
     tie.close
@@ -96,6 +111,9 @@ put-position-spec =
     put-bytes-requires-2
     enum-known-source-3
     put-unsigned-requires-3
+    enum-told-3
+    slice-aggregate-put-bytes-3
+    put-bytes-requires-3
     same-length
     returns
     same-length-2
@@ -105,4 +123,6 @@ put-position-spec =
     same-length-4
     returns-4
     same-length-5
-    returns-5)
+    returns-5
+    same-length-6
+    returns-6)

@@ -50,6 +50,15 @@ slice-aggregate-put-bytes-5 c = search needs
 put-bytes-requires-5 : tie.Need-put-bytes-requires-5
 put-bytes-requires-5 c κs = search needs
 
+enum-told-6 : tie.Need-enum-told-6
+enum-told-6 c = search needs
+
+slice-aggregate-put-bytes-6 : tie.Need-slice-aggregate-put-bytes-6
+slice-aggregate-put-bytes-6 c = search needs
+
+put-bytes-requires-6 : tie.Need-put-bytes-requires-6
+put-bytes-requires-6 c κs = search needs
+
 same-length : tie.Need-same-length
 same-length c = search needs
 
@@ -80,6 +89,12 @@ same-length-5 c = search needs
 returns-5 : tie.Need-returns-5
 returns-5 c = let p = c .before .before in rw (p .before .before .before .enum-told5 .given .1) (within (p .put-bytes5 .ensures) (omega arith))
 
+same-length-6 : tie.Need-same-length-6
+same-length-6 c = search needs
+
+returns-6 : tie.Need-returns-6
+returns-6 c = let p = c .before .before in rw (p .before .before .before .enum-told6 .given .1) (within (p .put-bytes6 .ensures) (omega arith))
+
 pub put-reason-spec : {M : Type 1} → statement M
 put-reason-spec =
     tie.close
@@ -99,6 +114,9 @@ put-reason-spec =
     enum-told-5
     slice-aggregate-put-bytes-5
     put-bytes-requires-5
+    enum-told-6
+    slice-aggregate-put-bytes-6
+    put-bytes-requires-6
     same-length
     returns
     same-length-2
@@ -108,4 +126,6 @@ put-reason-spec =
     same-length-4
     returns-4
     same-length-5
-    returns-5)
+    returns-5
+    same-length-6
+    returns-6)

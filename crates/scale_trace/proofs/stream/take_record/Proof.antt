@@ -50,17 +50,14 @@ returns c =
 size-of-requires : tie.Need-size-of-requires
 size-of-requires c κs = search needs
 
-slice-aggregate-put-lines : tie.Need-slice-aggregate-put-lines
-slice-aggregate-put-lines c = search needs
-
-put-lines-requires : tie.Need-put-lines-requires
-put-lines-requires c κs =
-    let z = c .before .before in
-    let i = z .before .before in
+put-levels-requires : tie.Need-put-levels-requires
+put-levels-requires c κs =
+    let z = c .before in
+    let i = z .before in
     let t = i .before .before .before .before in
     let s = t .before .before .before .before .before .before .before in
     let k = s .args .kind in (
-      record { size = kind-side k (z .size-of .ensures); whole = sym (slice-aggregate-put-lines (c .before)) },
+      kind-side k (z .size-of .ensures),
       omega (arith, s .pre, kind-room k (z .size-of .ensures), trace-whole (stateOf (s .args .state)) k (s .args .body .now) (fed-at t) (done-at i)),
     )
 
@@ -70,11 +67,11 @@ same-length c = search needs
 returns-2 : tie.Need-returns-2
 returns-2 c =
     let p = c .before .before in
-    let z = p .before .before .before in
-    let i = z .before .before in
+    let z = p .before .before in
+    let i = z .before in
     let t = i .before .before .before .before in
     let s = t .before .before .before .before .before .before .before in
-    trace-accepted (stateOf (s .args .state)) (s .args .kind) (s .args .body .now) (fed-at t) (done-at i) (z .size-of .ensures) (p .put-lines .ensures)
+    trace-accepted (stateOf (s .args .state)) (s .args .kind) (s .args .body .now) (fed-at t) (done-at i) (z .size-of .ensures) (p .put-levels .ensures)
 
 pub take-record-spec : {M : Type 1} → statement M
 take-record-spec =
@@ -88,7 +85,6 @@ take-record-spec =
     is-done-requires
     returns
     size-of-requires
-    slice-aggregate-put-lines
-    put-lines-requires
+    put-levels-requires
     same-length
     returns-2)
