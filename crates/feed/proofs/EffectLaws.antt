@@ -1,7 +1,5 @@
 -- Laws of what one record does.
---   effect-blocks    it counts one block at most
---   effect-offset    where it is accepted, the offset moves past its kind and its body
---   effect-whole     where it is accepted, its body is whole
+--   Moved, effect-moved   it counts one block at most; where it is accepted, the offset moves past its kind and its body, which is whole
 use mathlib.Core.Path.{_≡_, refl}
 use mathlib.Core.Bool.{Bool, true, false, cond}
 use mathlib.Core.List.{List}
@@ -61,14 +59,8 @@ record-moves s k body =
     (either (ltb (length body) (recordLength k)) (stays BodyTooShort)
     (body-moves (kindOf k) s body))
 
-pub effect-blocks : (s : FeedState) (k : ℕ) (body : List ℕ) → recordEffect s k body .value .state .blocks ≤ s .blocks + 1
-effect-blocks s k body = record-moves s k body .blocks
-
-pub effect-offset : (s : FeedState) (k : ℕ) (body : List ℕ) → recordEffect s k body .number ≡ 0 → recordEffect s k body .value .state .offset ≡ s .offset + 1 + recordLength k
-effect-offset s k body = record-moves s k body .offset
-
 -- ---- the length
-pub effect-whole : (s : FeedState) (k : ℕ) (body : List ℕ) → recordEffect s k body .number ≡ 0 → recordLength k ≤ length body
+effect-whole : (s : FeedState) (k : ℕ) (body : List ℕ) → recordEffect s k body .number ≡ 0 → recordLength k ≤ length body
 unfolding recordEffect
 effect-whole s k body e = ltb-false (length body) (recordLength k) (neither (isUnknown (kindOf k)) (ltb (length body) (recordLength k)) e)
   where
@@ -76,3 +68,12 @@ effect-whole s k body e = ltb-false (length body) (recordLength k) (neither (isU
     neither true u h = absurd (omega arith)
     neither false true h = absurd (omega arith)
     neither false false h = refl
+
+-- ---- both
+pub record Moved (s : FeedState) (k : ℕ) (body : List ℕ) (o : Outcome Effect) : Type 0 where
+  pub blocks : o .value .state .blocks ≤ s .blocks + 1
+  pub offset : o .number ≡ 0 → o .value .state .offset ≡ s .offset + 1 + recordLength k
+  pub whole : o .number ≡ 0 → recordLength k ≤ length body
+
+pub effect-moved : (s : FeedState) (k : ℕ) (body : List ℕ) → Moved s k body (recordEffect s k body)
+effect-moved s k body = let m = record-moves s k body in record { blocks = m .blocks; offset = m .offset; whole = effect-whole s k body }

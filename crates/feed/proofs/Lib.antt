@@ -5,4 +5,5 @@ pub mod StateLaws
 pub mod ScaleLaws
 pub mod InvertLaws
 pub mod EffectLaws
+pub mod WalkLaws
 pub mod FeedLaws

@@ -1,9 +1,9 @@
 -- The text of a whole feed. Document 01, "The feed program".
---   refusedText number offset   `refused`, the number, and the byte offset of the refused record's kind
---   blocksText n                `blocks`, and how many there were
---   opening                     the state in which a feed begins
---   textFrom fuel s bytes       the text of the bytes from the state's offset on, which begin with a record's kind
---   feedText bytes              the text of a whole feed
+--   refusedText number offset         `refused`, the number, and the byte offset of the refused record's kind
+--   blocksText n                      `blocks`, and how many there were
+--   opening                           the state in which a feed begins
+--   textBy effect last fuel s bytes   the text of the bytes from the state's offset on: `effect` is what a record does, `last` what stands behind the last
+--   feedText bytes                    the text of a whole feed
 use mathlib.Core.Bool.{cond}
 use mathlib.Core.List.{List, [], _∷_, _++_}
 use Prim.Native.Nat.{ℕ, zero, suc, _+_}
@@ -37,13 +37,13 @@ opening = record { given = Nothing; list = flat; blocks = 0; offset = 0 }
 abbrev pub andThen : Outcome Effect → ℕ → List ℕ → List ℕ
 andThen o at rest = o .value .text ++ cond (eqb (o .number) 0) rest (refusedText (o .number) at)
 
-unfoldable pub textFrom : ℕ → FeedState → List ℕ → List ℕ
-textFrom zero s bytes = []
-textFrom (suc fuel) s [] = blocksText (s .blocks)
-textFrom (suc fuel) s (k ∷ bytes) =
-    andThen (recordEffect s k (take (recordLength k) bytes)) (s .offset)
-    (textFrom fuel (recordEffect s k (take (recordLength k) bytes) .value .state) (drop (recordLength k) bytes))
+unfoldable pub textBy : (FeedState → ℕ → List ℕ → Outcome Effect) → (FeedState → List ℕ) → ℕ → FeedState → List ℕ → List ℕ
+textBy effect last zero s bytes = []
+textBy effect last (suc fuel) s [] = last s
+textBy effect last (suc fuel) s (k ∷ bytes) =
+    andThen (effect s k (take (recordLength k) bytes)) (s .offset)
+    (textBy effect last fuel (effect s k (take (recordLength k) bytes) .value .state) (drop (recordLength k) bytes))
 
 -- a record takes at least a byte, so there are no more records than bytes
 unfoldable pub feedText : List ℕ → List ℕ
-feedText bytes = textFrom (length bytes + 1) opening bytes
+feedText bytes = textBy recordEffect (λ (s : FeedState). blocksText (s .blocks)) (length bytes + 1) opening bytes

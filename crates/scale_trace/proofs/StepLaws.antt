@@ -38,7 +38,7 @@ use Rattle.feed.specs.Work.{sizeKnown}
 use Rattle.feed.specs.Answers.{Room, stateOf, capped, stepAnswer, answerOf, stepping, Steps}
 use Rattle.feed.specs.Answers.Room.{tooLittle, enough}
 use Rattle.feed.proofs.FormatLaws.{kind-size}
-use Rattle.feed.proofs.EffectLaws.{effect-whole}
+use Rattle.feed.proofs.EffectLaws.{effect-moved}
 use Rattle.scale_trace.specs.Trace.{linesFrom, blockLines, levelsLines, recordLines, traceEffect, traceRoom}
 use Rattle.scale_trace.specs.Work.{isDone, sizeOf, TracesAt}
 
@@ -184,7 +184,7 @@ module _ {r : Stepped} (s : FeedState) (k : ℕ) (body : List ℕ) (f : Fed r (r
       record { answered = f .answered; state = f .state; text = rw e (record { wrote = wrote-none l at; bound = omega arith }) }
 
   pub trace-whole : isDone (r .answer) ≡ true → recordLength k ≤ length body
-  trace-whole d = effect-whole s k body (eqb-true _ 0 (sym (done-is (r .answer) _ (f .answered)) ∙ d))
+  trace-whole d = effect-moved s k body .whole (eqb-true _ 0 (sym (done-is (r .answer) _ (f .answered)) ∙ d))
 
   pub trace-accepted : {l m : List ℕ} {at end n : ℕ} → isDone (r .answer) ≡ true → n ≡ sizeOf (kindOf k) → WroteUpTo l at (levelsLines (s .given) (s .list) n) m end (at + 20 * (n * n))
       → TracesAt (record { answer = r .answer; state = r .state; end = end }) l at m (traceEffect s k body) (traceRoom (length body))

@@ -17,7 +17,6 @@
 --   traceRoom len                  the bytes that the listing of a record with a body of len bytes may take: 20 for each level of four
 --   tracing                        the answer to one record, the state and the text, for a buffer of some length
 --   Traces r l m w                 a call of `step` handed back w: l is its buffer before, m after
---   traceFrom fuel s bytes         the listing of the bytes from the state's offset on, which begin with a record's kind
 --   traceText bytes                the listing of a whole feed: its lines, then that of a refusal
 --   listingRoom len                the bytes that the listing of a feed of len bytes may take
 --   Lists r l m bytes              a call of `run` on a feed, as `Traces`
@@ -26,7 +25,7 @@ use mathlib.Core.Bool.{cond}
 use mathlib.Core.List.{List, [], _∷_, _++_}
 use Prim.Native.Nat.{ℕ, zero, suc, _+_, _*_, _≤_, _<_}
 use lib.Dec.{eqb, ltb}
-use lib.ListN.{length, take, drop}
+use lib.ListN.{length}
 use Rattle.h265.specs.ScalingFactor.{ScalingList, FactorSource, factorSource, factorBy, scalingFactor}
 use Rattle.h265.specs.ScalingFactor.ScalingList.{flat, listed}
 use Rattle.h265.specs.ScalingFactor.FactorSource.{none, four, eight, dc, repeated}
@@ -40,10 +39,10 @@ use Rattle.feed.specs.declared.Given.the-variants.{Nothing, These}
 use Rattle.feed.specs.declared.Stepped.{Stepped}
 use Rattle.feed.specs.declared.Ran.{Ran}
 use Rattle.feed.specs.declared.Ran.the-variants.{Text, NoRoom}
-use Rattle.feed.specs.Format.{kindOf, recordLength}
+use Rattle.feed.specs.Format.{kindOf}
 use Rattle.feed.specs.Block.{listIgnored, listFor}
 use Rattle.feed.specs.Record.{FeedState, Effect, recordEffect}
-use Rattle.feed.specs.Feed.{opening, andThen}
+use Rattle.feed.specs.Feed.{opening, textBy}
 use Rattle.feed.specs.Answers.{stateOf, capped, stepAnswer, answerOf, Stepping}
 use Rattle.feed.specs.Answers.Room.{tooLittle, enough}
 
@@ -138,16 +137,9 @@ pub record Traces (r : Stepped) (l m : List ℕ) (w : Stepping) : Type 0 where
   pub counts : Counts (r .end) m
 
 -- ---- a whole feed
-unfoldable pub traceFrom : ℕ → FeedState → List ℕ → List ℕ
-traceFrom zero s bytes = []
-traceFrom (suc fuel) s [] = []
-traceFrom (suc fuel) s (k ∷ bytes) =
-    andThen (traceEffect s k (take (recordLength k) bytes)) (s .offset)
-    (traceFrom fuel (traceEffect s k (take (recordLength k) bytes) .value .state) (drop (recordLength k) bytes))
-
--- a record takes at least a byte, so there are no more records than bytes
+-- as the feed's own text, with nothing behind the last record
 unfoldable pub traceText : List ℕ → List ℕ
-traceText bytes = traceFrom (length bytes + 1) opening bytes
+traceText bytes = textBy traceEffect (λ (s : FeedState). []) (length bytes + 1) opening bytes
 
 abbrev pub listingRoom : ℕ → ℕ
 listingRoom len = 5 * len + 40

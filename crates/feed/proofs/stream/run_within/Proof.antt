@@ -5,12 +5,14 @@ use native.Mathlib.Omega.{arith}
 use borrow.Author.Needs.{needs}
 use lib.ListN.{length, length-take, length-drop}
 use Rattle.text.proofs.WroteLaws.{left-last, counts}
-use Rattle.feed.proofs.FeedLaws.{Going, going-start, Turn, turn, going-refused, passed, going-more, going-done}
+use Rattle.feed.specs.Feed.{feedText}
+use Rattle.feed.proofs.WalkLaws.{Going, going-start, Turn, turn, going-more, going-done}
+use Rattle.feed.proofs.FeedLaws.{feedWalk, Answered, feed-refused, feed-passed}
 use Rattle.feed.proofs.stream.run_within.Statement.{statement}
 use Rattle.feed.proofs.stream.run_within.Tie as tie
 
 abbrev Inv-loop : tie.InvT-loop
-Inv-loop input out₀ state₀ end₀ out state end = Going input out₀ out state end
+Inv-loop input out₀ state₀ end₀ out state end = Going feedWalk input out₀ out state end
 
 abbrev μ-loop : tie.MeasureT-loop
 μ-loop input out₀ state₀ end₀ out state end = length input - state .offset
@@ -19,7 +21,7 @@ start-requires : tie.Need-start-requires Inv-loop μ-loop
 start-requires c κs = search needs
 
 loop-holds : tie.Need-loop-holds Inv-loop μ-loop
-loop-holds c = going-start _ _ _ (c .start .ensures)
+loop-holds c = going-start _ _ _ _ (c .start .ensures)
 
 shared-slice-read-kind : tie.Need-shared-slice-read-kind Inv-loop μ-loop
 shared-slice-read-kind c = omega arith
@@ -53,12 +55,14 @@ take-record-requires c κs =
 
 -- what the record at the loop's offset did
 turned : (c : tie.After-take-record Inv-loop μ-loop)
-    → let q = c .before .before .before in let l = q .before .before .before .before .loop in Turn (q .before .before .before .before .before .before .before .before .args .input .now) (l .state) (q .least .result) (c .take-record .result) (l .out) (l .end) (c .take-record .last .1 .1 .1 .0)
+    → let q = c .before .before .before in let l = q .before .before .before .before .loop in let r = c .take-record .result in
+    Turn feedWalk (Answered (r .answer)) (q .before .before .before .before .before .before .before .before .args .input .now) (l .state) (q .least .result) (r .state) (l .out) (l .end) (c .take-record .last .1 .1 .1 .0) (r .end)
 turned c =
     let q = c .before .before .before in
     let n = q .before in
     let i = n .before .before in
-    turn _ (i .before .loop .state) (n .record-length .result) (q .least .result) (omega arith) (i .loop-test .taken) (n .record-length .ensures .0) (q .least .ensures) (c .take-record .ensures)
+    let k = c .take-record .ensures in
+    turn feedWalk _ _ (i .before .loop .state) (n .record-length .result) (q .least .result) (omega arith) (i .loop-test .taken) (n .record-length .ensures .0) (q .least .ensures) (record { is = k .answered }) (k .state) (k .text)
 
 number-of-requires : tie.Need-number-of-requires Inv-loop μ-loop
 number-of-requires c κs = search needs
@@ -69,7 +73,7 @@ put-refused-requires c κs =
     let l = p .before .before .before .before .before .before .before .loop in
     let s = p .before .before .before .before .before .before .before .before .before .before .before in
     let t = turned p in
-    omega (arith, t .inside, t .stops, t .takes .text .bound, l .inv .room, l .inv .left .long, p .take-record .kept .1 .1 .1 .0, s .pre)
+    omega (arith, t .inside, t .stops, t .text .bound, l .inv .room, l .inv .left .long, p .take-record .kept .1 .1 .1 .0, s .pre)
 
 same-length : tie.Need-same-length Inv-loop μ-loop
 same-length c =
@@ -77,6 +81,7 @@ same-length c =
     c .before .before .put-refused .kept .1 .1 .0 ∙ p .take-record .kept .1 .1 .1 .0 ∙ p .before .before .before .before .before .before .before .loop .inv .left .long
 
 returns : tie.Need-returns Inv-loop μ-loop
+unfolding feedText
 returns c =
     let p = c .before .before .before .before .before .before .before .before in
     let l = p .before .before .before .before .before .before .before .loop in
@@ -84,22 +89,22 @@ returns c =
     let t = turned p in
     let m = c .before .before .before .before .before in
     let f = c .before .before .put-refused in (
-      left-last (going-refused (l .inv) t (m .number-of .ensures) (c .before .before .before .before .if1 .taken)) (f .ensures .wrote),
-      counts _ _ (omega (arith, f .ensures .bound, t .inside, t .stops, t .takes .text .bound, l .inv .room, l .inv .left .long, p .take-record .kept .1 .1 .1 .0, f .kept .1 .1 .0, s .pre)),
+      left-last (feed-refused (l .inv) t (m .number-of .ensures) (c .before .before .before .before .if1 .taken)) (f .ensures .wrote),
+      counts _ _ (omega (arith, f .ensures .bound, t .inside, t .stops, t .text .bound, l .inv .room, l .inv .left .long, p .take-record .kept .1 .1 .1 .0, f .kept .1 .1 .0, s .pre)),
     )
 
 loop-less : tie.Need-loop-less Inv-loop μ-loop
 loop-less c =
     let p = c .before .before .before .before .before in
     let t = turned p in
-    omega (arith, t .inside, passed (p .before .before .before .before .before .before .before .loop .inv) t (c .before .before .number-of .ensures) (c .before .if1 .left) .next)
+    omega (arith, t .inside, feed-passed (p .before .before .before .before .before .before .before .loop .inv) t (c .before .before .number-of .ensures) (c .before .if1 .left) .next)
 
 loop-again : tie.Need-loop-again Inv-loop μ-loop
 loop-again c =
     let p = c .before .before .before .before .before in
     let l = p .before .before .before .before .before .before .before .loop in
     let t = turned p in
-    going-more (l .inv) t (passed (l .inv) t (c .before .before .number-of .ensures) (c .before .if1 .left))
+    going-more (l .inv) t (feed-passed (l .inv) t (c .before .before .number-of .ensures) (c .before .if1 .left))
 
 put-blocks-requires : tie.Need-put-blocks-requires Inv-loop μ-loop
 put-blocks-requires c κs = let g = c .before .before .loop .inv in omega (arith, g .left .long, g .room, g .within)
@@ -108,6 +113,7 @@ same-length-2 : tie.Need-same-length-2 Inv-loop μ-loop
 same-length-2 c = c .before .before .put-blocks .kept .1 .0 ∙ c .before .before .before .before .before .loop .inv .left .long
 
 returns-2 : tie.Need-returns-2 Inv-loop μ-loop
+unfolding feedText
 returns-2 c =
     let b = c .before .before .put-blocks in
     let g = c .before .before .before .before .before .loop .inv in (

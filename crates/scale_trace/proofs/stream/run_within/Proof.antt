@@ -2,16 +2,18 @@
 use mathlib.Core.Path.{sym, _∙_}
 use Prim.Native.Nat.{_-_}
 use lib.ListN.{length, length-take, length-drop}
-use Rattle.text.proofs.WroteLaws.{left-last, counts}
+use Rattle.text.proofs.WroteLaws.{left-last, left-done, counts}
 use Rattle.scale_trace.proofs.RuleLaws.{not-true, not-false}
-use Rattle.scale_trace.proofs.RunLaws.{Going, going-start, Turn, turn, going-refused, passed, going-more, going-done}
+use Rattle.feed.proofs.WalkLaws.{Going, going-start, Turn, turn, going-more, going-done}
+use Rattle.scale_trace.specs.Trace.{traceText}
+use Rattle.scale_trace.proofs.RunLaws.{listingWalk, Answered, listing-refused, listing-passed}
 use borrow.Author.Needs.{needs}
 use native.Mathlib.Omega.{arith}
 use Rattle.scale_trace.proofs.stream.run_within.Statement.{statement}
 use Rattle.scale_trace.proofs.stream.run_within.Tie as tie
 
 abbrev Inv-loop : tie.InvT-loop
-Inv-loop input out₀ state₀ end₀ out state end = Going input out₀ out state end
+Inv-loop input out₀ state₀ end₀ out state end = Going listingWalk input out₀ out state end
 
 abbrev μ-loop : tie.MeasureT-loop
 μ-loop input out₀ state₀ end₀ out state end = length input - state .offset
@@ -20,7 +22,7 @@ start-requires : tie.Need-start-requires Inv-loop μ-loop
 start-requires c κs = search needs
 
 loop-holds : tie.Need-loop-holds Inv-loop μ-loop
-loop-holds c = going-start _ _ _ (c .start .ensures)
+loop-holds c = going-start _ _ _ _ (c .start .ensures)
 
 shared-slice-read-kind : tie.Need-shared-slice-read-kind Inv-loop μ-loop
 shared-slice-read-kind c = omega arith
@@ -54,12 +56,14 @@ take-record-requires c κs =
 
 -- what the record at the loop's offset did
 turned : (c : tie.After-take-record Inv-loop μ-loop)
-    → let q = c .before .before .before in let l = q .before .before .before .before .loop in Turn (q .before .before .before .before .before .before .before .before .args .input .now) (l .state) (q .least .result) (c .take-record .result) (l .out) (l .end) (c .take-record .last .1 .1 .1 .0)
+    → let q = c .before .before .before in let l = q .before .before .before .before .loop in let r = c .take-record .result in
+    Turn listingWalk (Answered (r .answer)) (q .before .before .before .before .before .before .before .before .args .input .now) (l .state) (q .least .result) (r .state) (l .out) (l .end) (c .take-record .last .1 .1 .1 .0) (r .end)
 turned c =
     let q = c .before .before .before in
     let n = q .before in
     let i = n .before .before in
-    turn _ (i .before .loop .state) (n .record-length .result) (q .least .result) (omega arith) (i .loop-test .taken) (n .record-length .ensures .0) (q .least .ensures) (c .take-record .ensures)
+    let k = c .take-record .ensures in
+    turn listingWalk _ _ (i .before .loop .state) (n .record-length .result) (q .least .result) (omega arith) (i .loop-test .taken) (n .record-length .ensures .0) (q .least .ensures) (record { is = k .answered }) (k .state) (k .text)
 
 is-done-requires : tie.Need-is-done-requires Inv-loop μ-loop
 is-done-requires c κs = search needs
@@ -70,7 +74,7 @@ put-refusal-requires c κs =
     let l = p .before .before .before .before .before .before .before .loop in
     let s = p .before .before .before .before .before .before .before .before .before .before .before in
     let t = turned p in
-    omega (arith, t .inside, t .stops, t .takes .text .bound, l .inv .room, l .inv .left .long, p .take-record .kept .1 .1 .1 .0, s .pre)
+    omega (arith, t .inside, t .stops, t .text .bound, l .inv .room, l .inv .left .long, p .take-record .kept .1 .1 .1 .0, s .pre)
 
 same-length : tie.Need-same-length Inv-loop μ-loop
 same-length c =
@@ -78,6 +82,7 @@ same-length c =
     c .before .before .put-refusal .kept .1 .1 .0 ∙ p .take-record .kept .1 .1 .1 .0 ∙ p .before .before .before .before .before .before .before .loop .inv .left .long
 
 returns : tie.Need-returns Inv-loop μ-loop
+unfolding traceText
 returns c =
     let p = c .before .before .before .before .before .before .before .before in
     let l = p .before .before .before .before .before .before .before .loop in
@@ -85,8 +90,8 @@ returns c =
     let t = turned p in
     let i = c .before .before .before .before in
     let f = c .before .before .put-refusal in (
-      left-last (going-refused (l .inv) t (sym (i .before .is-done .ensures) ∙ not-true _ (i .if1 .taken))) (f .ensures .wrote),
-      counts _ _ (omega (arith, f .ensures .bound, t .inside, t .stops, t .takes .text .bound, l .inv .room, l .inv .left .long, p .take-record .kept .1 .1 .1 .0, f .kept .1 .1 .0, s .pre)),
+      left-last (listing-refused (l .inv) t (sym (i .before .is-done .ensures) ∙ not-true _ (i .if1 .taken))) (f .ensures .wrote),
+      counts _ _ (omega (arith, f .ensures .bound, t .inside, t .stops, t .text .bound, l .inv .room, l .inv .left .long, p .take-record .kept .1 .1 .1 .0, f .kept .1 .1 .0, s .pre)),
     )
 
 loop-less : tie.Need-loop-less Inv-loop μ-loop
@@ -94,7 +99,7 @@ loop-less c =
     let i = c .before in
     let p = i .before .before .before .before in
     let t = turned p in
-    omega (arith, t .inside, passed (p .before .before .before .before .before .before .before .loop .inv) t (sym (i .before .is-done .ensures) ∙ not-false _ (i .if1 .left)) .next)
+    omega (arith, t .inside, listing-passed (p .before .before .before .before .before .before .before .loop .inv) t (sym (i .before .is-done .ensures) ∙ not-false _ (i .if1 .left)) .next)
 
 loop-again : tie.Need-loop-again Inv-loop μ-loop
 loop-again c =
@@ -102,15 +107,16 @@ loop-again c =
     let p = i .before .before .before .before in
     let l = p .before .before .before .before .before .before .before .loop in
     let t = turned p in
-    going-more (l .inv) t (passed (l .inv) t (sym (i .before .is-done .ensures) ∙ not-false _ (i .if1 .left)))
+    going-more (l .inv) t (listing-passed (l .inv) t (sym (i .before .is-done .ensures) ∙ not-false _ (i .if1 .left)))
 
 same-length-2 : tie.Need-same-length-2 Inv-loop μ-loop
 same-length-2 c = c .before .loop .inv .left .long
 
 returns-2 : tie.Need-returns-2 Inv-loop μ-loop
+unfolding traceText
 returns-2 c =
     let g = c .before .loop .inv in
-    (going-done g (c .loop-test .left), counts _ _ (omega (arith, g .left .long, g .room, g .within, c .before .before .before .before .before .pre)))
+    (left-done (going-done g (c .loop-test .left)), counts _ _ (omega (arith, g .left .long, g .room, g .within, c .before .before .before .before .before .pre)))
 
 pub run-within-spec : {M : Type 1} → statement M
 run-within-spec =
