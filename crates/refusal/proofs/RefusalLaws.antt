@@ -3,7 +3,7 @@
 use Prim.Native.Nat.{_≤_}
 use lib.Dec.{lit≤}
 use Rattle.refusal.specs.declared.Refusal.{Refusal}
-use Rattle.refusal.specs.declared.Refusal.the-variants.{SizeInvalid, DepthInvalid, WidthTooNarrow, DstSizeInvalid, ListLengthInvalid, InputTooShort, OutputTooShort, PlaceOutside, CoefficientOutside, KindUnknown, BodyTooShort, LevelsBeforeParameters, ParameterInvalid}
+use Rattle.refusal.specs.declared.Refusal.the-variants.{SizeInvalid, DepthInvalid, WidthTooNarrow, DstSizeInvalid, ListLengthInvalid, InputTooShort, OutputTooShort, PlaceOutside, CoefficientOutside, SampleOutside, PictureInvalid, KindUnknown, BodyTooShort, LevelsBeforeParameters, ParameterInvalid}
 use Rattle.refusal.specs.Refusal.{number}
 
 pub number-least : (e : Refusal) → 1 ≤ number e
@@ -16,6 +16,8 @@ number-least InputTooShort = lit≤ tt
 number-least OutputTooShort = lit≤ tt
 number-least PlaceOutside = lit≤ tt
 number-least (CoefficientOutside at) = lit≤ tt
+number-least (SampleOutside at) = omega arith
+number-least PictureInvalid = omega arith
 number-least KindUnknown = lit≤ tt
 number-least BodyTooShort = lit≤ tt
 number-least LevelsBeforeParameters = lit≤ tt

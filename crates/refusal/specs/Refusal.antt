@@ -3,7 +3,7 @@
 --   place e    the place that it names, else 0
 use Prim.Native.Nat.{ℕ}
 use Rattle.refusal.specs.declared.Refusal.{Refusal}
-use Rattle.refusal.specs.declared.Refusal.the-variants.{SizeInvalid, DepthInvalid, WidthTooNarrow, DstSizeInvalid, ListLengthInvalid, InputTooShort, OutputTooShort, PlaceOutside, CoefficientOutside, KindUnknown, BodyTooShort, LevelsBeforeParameters, ParameterInvalid}
+use Rattle.refusal.specs.declared.Refusal.the-variants.{SizeInvalid, DepthInvalid, WidthTooNarrow, DstSizeInvalid, ListLengthInvalid, InputTooShort, OutputTooShort, PlaceOutside, CoefficientOutside, SampleOutside, PictureInvalid, KindUnknown, BodyTooShort, LevelsBeforeParameters, ParameterInvalid}
 
 abbrev pub number : Refusal → ℕ
 number SizeInvalid = 1
@@ -15,6 +15,8 @@ number InputTooShort = 6
 number OutputTooShort = 7
 number PlaceOutside = 8
 number (CoefficientOutside at) = 9
+number (SampleOutside at) = 12
+number PictureInvalid = 13
 number KindUnknown = 20
 number BodyTooShort = 21
 number LevelsBeforeParameters = 22
@@ -30,6 +32,8 @@ place InputTooShort = 0
 place OutputTooShort = 0
 place PlaceOutside = 0
 place (CoefficientOutside at) = at
+place (SampleOutside at) = at
+place PictureInvalid = 0
 place KindUnknown = 0
 place BodyTooShort = 0
 place LevelsBeforeParameters = 0
