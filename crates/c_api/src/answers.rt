@@ -3,6 +3,7 @@ ghost use mathlib.Core.Path.{_≡_};
 ghost use Rattle.refusal.specs.Outcome.{answer as answerOutcome, refused as refusedWith};
 ghost use Rattle.parameters.specs.Answers.{numberOutcome, qpPrimeOutcome, dequantOutcome, transformSkipOutcome};
 ghost use Rattle.scaling.specs.Answers.{factorOutcome, levelOutcome};
+ghost use Rattle.picture.specs.Answers.{checksumOutcome};
 ghost use Rattle.c_api.specs.Answers.{ofAnswered, ofNumber, ofSigned, ofQpPrime, ofDequant, ofTransformSkip};
 use crate::Answered;
 use crate::DequantAnswered;
@@ -13,6 +14,7 @@ use parameters::DequantAnswer;
 use parameters::NumberAnswer;
 use parameters::QpPrimeAnswer;
 use parameters::TransformSkipAnswer;
+use picture::ChecksumAnswer;
 use refusal::Answer;
 use refusal::Refusal;
 use scaling::FactorAnswer;
@@ -174,6 +176,26 @@ pub(crate) fn level_answered(answer: LevelAnswer) -> SignedAnswered
         LevelAnswer::Refused(why) => {
             let no = refused(why);
             SignedAnswered {
+                number: no.number,
+                place: no.place,
+                value: 0,
+            }
+        }
+    }
+}
+
+pub(crate) fn checksum_answered(answer: ChecksumAnswer) -> NumberAnswered
+    ensures { λ r. ⌜ ofNumber r ≡ checksumOutcome answer ⌝ }
+{
+    match answer {
+        ChecksumAnswer::Sum(sum) => NumberAnswered {
+            number: 0,
+            place: 0,
+            value: sum,
+        },
+        ChecksumAnswer::Refused(why) => {
+            let no = refused(why);
+            NumberAnswered {
                 number: no.number,
                 place: no.place,
                 value: 0,

@@ -1,7 +1,8 @@
-// The library for C and Rust: every entry point under the prefix residual_, with numbers and slices as arguments and one record of numbers as answer. include/residual.h declares the same for C.
+// The library for C and Rust: every entry point under the prefix residual_, those of pictures under picture_, with numbers and slices as arguments and one record of numbers as answer. include/residual.h and include/picture.h declare the same for C.
 mod answers;
 mod edits;
 mod levels;
+mod pictures;
 mod quantities;
 mod transforms;
 
@@ -19,6 +20,8 @@ pub use levels::residual_dequantize_transform_skip_scaled_into_scalar_i16;
 pub use levels::residual_dequantize_transform_skip_scaled_into_scalar_i32;
 pub use levels::residual_scale_level;
 pub use levels::residual_scaling_coeff;
+pub use pictures::picture_checksum;
+pub use pictures::picture_rebuild_block;
 pub use quantities::residual_dequant_params;
 pub use quantities::residual_max_log2_transform_dynamic_range;
 pub use quantities::residual_qp_bd_offset;

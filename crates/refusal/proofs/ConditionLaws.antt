@@ -2,6 +2,7 @@
 --   size-accepted   the size is one of the four
 --   depth-accepted  the depth is 8 .. 16
 --   width-accepted  the depth is at most 9, and precision is not extended
+--   neither         where one test or another does not apply, neither does
 use mathlib.Core.Path.{_≡_, refl, sym, subst}
 use mathlib.Core.Bool.{Bool, true, false, not, _||_}
 use Prim.Native.Nat.{ℕ, _≤_}
@@ -18,7 +19,7 @@ pub size-accepted : (n : ℕ) → sizeRefused n ≡ false → T (isSize n)
 unfolding sizeRefused
 size-accepted n e = not-false (isSize n) e
 
-neither : (s t : Bool) → s || t ≡ false → (s ≡ false) × (t ≡ false)
+pub neither : (s t : Bool) → s || t ≡ false → (s ≡ false) × (t ≡ false)
 neither true t e = absurd (subst T e tt)
 neither false t e = (refl, e)
 

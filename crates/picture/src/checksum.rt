@@ -1,0 +1,78 @@
+// The checksum form of the decoded picture hash, H.265 Annex D.
+ghost use mathlib.Core.Path.{_≡_};
+ghost use Prim.Native.Nat.{_+_, _*_, _<_, _≤_};
+ghost use lib.ListN.{length};
+ghost use Rattle.picture.specs.Answers.{checksumOutcome};
+ghost use Rattle.picture.specs.Checksum.{xorMask, sampleTerm, rowTotal, pictureChecksum, checksummed};
+use crate::ChecksumAnswer;
+use crate::refuse;
+use refusal::Refusal;
+
+// The mask of column x and row y.
+fn xor_mask(x: u16, y: u16) -> u16
+    ensures { λ r. ⌜ r ≡ xorMask x y ⌝ }
+{
+    (x % 256) ^ (y % 256) ^ (x / 256) ^ (y / 256)
+}
+
+// What a sample adds, in 16 bits, so that the compiler takes eight at a time.
+fn sample_term(bit_depth: u8, sample: u16, mask: u16) -> u16
+    requires { ⌜ mask < 256 ⌝ }
+    ensures { λ r. ⌜ (r ≡ sampleTerm «bit_depth» sample mask) × (r ≤ 510) ⌝ }
+{
+    let low = (sample % 256) ^ mask;
+    if 8 < bit_depth {
+        low + ((sample / 256) ^ mask)
+    } else {
+        low
+    }
+}
+
+// What row y adds: at most 510 for each of 16,384 samples.
+fn row_total(bit_depth: u8, width: usize, first: usize, y: u16, plane: &[u16]) -> u32
+    requires { ⌜ (width ≤ 16384) × (first + width ≤ length (now plane)) ⌝ }
+    ensures { λ r. ⌜ r ≡ rowTotal «bit_depth» width first y (now (plane .entry)) ⌝ }
+{
+    let mut sum: u32 = 0;
+    let mut x: usize = 0;
+    while x < width {
+        let term = sample_term(bit_depth, plane[first + x], xor_mask(x as u16, y));
+        sum += term as u32;
+        x += 1;
+    }
+    sum
+}
+
+fn rows_total(bit_depth: u8, width: usize, height: usize, stride: usize, plane: &[u16]) -> u32
+    requires { ⌜ (width ≤ 16384) × (height ≤ 16384) × (width ≤ stride) × (stride ≤ 65536) × (stride * height ≤ length (now plane)) ⌝ }
+    ensures { λ r. ⌜ r ≡ pictureChecksum «bit_depth» width height stride (now (plane .entry)) ⌝ }
+{
+    let mut sum: u32 = 0;
+    let mut y: usize = 0;
+    while y < height {
+        let row = row_total(bit_depth, width, y * stride, y as u16, plane);
+        let next = std::num::wrapping_add_u32(sum, row);
+        sum = next;
+        y += 1;
+    }
+    sum
+}
+
+// The checksum of the picture in a plane, whose samples may be any numbers.
+pub fn picture_checksum(
+    width: usize,
+    height: usize,
+    stride: usize,
+    bit_depth: u8,
+    plane: &[u16],
+) -> ChecksumAnswer
+    ensures { λ r. ⌜ checksumOutcome r ≡ checksummed «bit_depth» width height stride (now (plane .entry)) ⌝ }
+{
+    if refusal::depth_refused(bit_depth) {
+        return ChecksumAnswer::Refused(Refusal::DepthInvalid);
+    }
+    if refuse::picture_refused(width, height, stride, plane.len()) {
+        return ChecksumAnswer::Refused(Refusal::PictureInvalid);
+    }
+    ChecksumAnswer::Sum(rows_total(bit_depth, width, height, stride, plane))
+}
