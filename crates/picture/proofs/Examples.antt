@@ -13,7 +13,7 @@ use Rattle.refusal.specs.Condition.{sizeRefused, depthRefused, blockRefused}
 use Rattle.picture.specs.Picture.{sideRefused, strideRefused, pictureRefused, blockOutside}
 use Rattle.picture.specs.Samples.{sampleMax, rebuiltSample, rebuiltAt, among, placedAt, rebuiltPlane, firstAbove}
 use Rattle.picture.specs.Rebuild.{Rebuilt, rebuilt}
-use Rattle.picture.specs.Checksum.{xorMask, sampleTerm, total, rowTotal, pictureChecksum, checksummed}
+use Rattle.picture.specs.Checksum.{xorMask, sampleTerm, total, columnTerm, rowTotal, pictureChecksum}
 
 -- what a definition gives, and what is right
 pub record Case : Type 0 where
@@ -64,5 +64,5 @@ examples =
     ∷ []
 
 pub examples-hold : T (agree examples)
-unfolding examples agree equal one answered pictureChecksum rowTotal total sampleTerm xorMask rebuiltSample rebuiltPlane placedAt rebuiltAt among sampleMax rebuilt firstAbove pictureRefused sideRefused strideRefused blockOutside sizeRefused depthRefused blockRefused clip3 tabulate tabulateFrom firstWhere
+unfolding examples agree equal one answered pictureChecksum rowTotal columnTerm total sampleTerm xorMask rebuiltSample rebuiltPlane placedAt rebuiltAt among sampleMax rebuilt firstAbove pictureRefused sideRefused strideRefused blockOutside sizeRefused depthRefused blockRefused clip3 tabulate tabulateFrom firstWhere
 examples-hold = tt

@@ -1,9 +1,9 @@
 // The checksum form of the decoded picture hash, H.265 Annex D.
 ghost use mathlib.Core.Path.{_≡_};
-ghost use Prim.Native.Nat.{_+_, _*_, _<_, _≤_};
+ghost use Prim.Native.Nat.{_+_, _*_, _<_, _≤_, min};
 ghost use lib.ListN.{length};
 ghost use Rattle.picture.specs.Answers.{checksumOutcome};
-ghost use Rattle.picture.specs.Checksum.{xorMask, sampleTerm, rowTotal, pictureChecksum, checksummed};
+ghost use Rattle.picture.specs.Checksum.{xorMask, sampleTerm, runTerm, total, rowTotal, pictureChecksum, checksummed};
 use crate::ChecksumAnswer;
 use crate::refuse;
 use refusal::Refusal;
@@ -15,7 +15,7 @@ fn xor_mask(x: u16, y: u16) -> u16
     (x % 256) ^ (y % 256) ^ (x / 256) ^ (y / 256)
 }
 
-// What a sample adds, in 16 bits, so that the compiler takes eight at a time.
+// What a sample adds.
 fn sample_term(bit_depth: u8, sample: u16, mask: u16) -> u16
     requires { ⌜ mask < 256 ⌝ }
     ensures { λ r. ⌜ (r ≡ sampleTerm «bit_depth» sample mask) × (r ≤ 510) ⌝ }
@@ -28,6 +28,29 @@ fn sample_term(bit_depth: u8, sample: u16, mask: u16) -> u16
     }
 }
 
+// What the samples of a run add, which stand from `at` on; the mask is that of its first column. In a run of 128 columns the mask changes by the
+// column's low bits alone and 16 bits hold the sum, so that the compiler takes eight samples at a time.
+fn run_total(bit_depth: u8, at: usize, count: usize, mask: u16, plane: &[u16]) -> u16
+    requires { ⌜ (count ≤ 128) × (mask < 256) × (at + count ≤ length (now plane)) ⌝ }
+    ensures { λ r. ⌜ (r ≡ total count (runTerm «bit_depth» at mask (now (plane .entry)))) × (r ≤ 510 * count) ⌝ }
+{
+    let mut sum: u16 = 0;
+    let mut k: usize = 0;
+    while k < count {
+        let term = sample_term(bit_depth, plane[at + k], (k as u16) ^ mask);
+        sum += term;
+        k += 1;
+    }
+    sum
+}
+
+// How many columns of a row are in the next run.
+fn run_length(left: usize) -> usize
+    ensures { λ r. ⌜ r ≡ min left 128 ⌝ }
+{
+    if left < 128 { left } else { 128 }
+}
+
 // What row y adds: at most 510 for each of 16,384 samples.
 fn row_total(bit_depth: u8, width: usize, first: usize, y: u16, plane: &[u16]) -> u32
     requires { ⌜ (width ≤ 16384) × (first + width ≤ length (now plane)) ⌝ }
@@ -36,9 +59,11 @@ fn row_total(bit_depth: u8, width: usize, first: usize, y: u16, plane: &[u16]) -
     let mut sum: u32 = 0;
     let mut x: usize = 0;
     while x < width {
-        let term = sample_term(bit_depth, plane[first + x], xor_mask(x as u16, y));
-        sum += term as u32;
-        x += 1;
+        let mask = xor_mask(x as u16, y);
+        let count = run_length(width - x);
+        let run = run_total(bit_depth, first + x, count, mask, plane);
+        sum += run as u32;
+        x += 128;
     }
     sum
 }
