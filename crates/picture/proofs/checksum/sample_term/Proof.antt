@@ -21,11 +21,11 @@ add-result c = record { fits = omega (arith, low-most (c .before), high-most (c 
 
 returns : tie.Need-returns
 unfolding sampleTerm
-returns c = (rw (lt-ltb _ _ (c .if1 .taken)), omega (arith, low-most (c .before), high-most (c .before)))
+returns c = (rw (lt-ltb 8 (c .before .args .bit-depth) (omega arith)), omega (arith, low-most (c .before), high-most (c .before)))
 
 returns-2 : tie.Need-returns-2
 unfolding sampleTerm
-returns-2 c = (rw (le-ltb _ _ (c .if1 .left)) (sym (add-zero _)), omega (arith, low-most (c .before)))
+returns-2 c = (rw (le-ltb 8 (c .before .args .bit-depth) (omega arith)) (sym (add-zero _)), omega (arith, low-most (c .before)))
 
 pub sample-term-spec : {M : Type 1} → statement M
 sample-term-spec = tie.close (tie.spec add-result returns returns-2)

@@ -1,0 +1,43 @@
+-- `picture_cases::kept` meets its contract, which says nothing: every place that the loop reads lies in the slice.
+use Prim.Native.Nat.{_-_, _≤_}
+use native.Mathlib.Omega.{arith}
+use borrow.Author.Needs.{needs}
+use lib.ListN.{length}
+use Rattle.picture_cases.proofs.kept.Statement.{statement}
+use Rattle.picture_cases.proofs.kept.Tie as tie
+
+abbrev Inv-loop : tie.InvT-loop
+Inv-loop plane i₀ i = i ≤ length plane
+
+abbrev μ-loop : tie.MeasureT-loop
+μ-loop plane i₀ i = length plane - i
+
+loop-holds : tie.Need-loop-holds Inv-loop μ-loop
+loop-holds c = omega arith
+
+mul-if1 : tie.Need-mul-if1 Inv-loop μ-loop
+mul-if1 c = search needs
+
+shared-slice-read-if1 : tie.Need-shared-slice-read-if1 Inv-loop μ-loop
+shared-slice-read-if1 c = omega arith
+
+returns : tie.Need-returns Inv-loop μ-loop
+returns c = search needs
+
+add-i : tie.Need-add-i Inv-loop μ-loop
+add-i c = omega arith
+
+loop-less : tie.Need-loop-less Inv-loop μ-loop
+loop-less c = omega arith
+
+loop-again : tie.Need-loop-again Inv-loop μ-loop
+loop-again c = omega arith
+
+returns-2 : tie.Need-returns-2 Inv-loop μ-loop
+returns-2 c = search needs
+
+pub kept-spec : {M : Type 1} → statement M
+kept-spec =
+    tie.close
+    (tie.spec
+    Inv-loop μ-loop loop-holds mul-if1 shared-slice-read-if1 returns add-i loop-less loop-again returns-2)
