@@ -1,5 +1,6 @@
-/* Compiled against include/residual.h and linked with the archive: calls every function that the header declares and compares with examples of docs/RULES.md. */
+/* Compiled against include/residual.h and include/picture.h and linked with the archive: calls every function that the headers declare and compares with examples of docs/RULES.md. */
 #include "residual.h"
+#include "picture.h"
 #include <stdio.h>
 #include <string.h>
 
@@ -140,6 +141,21 @@ static void edits(void) {
 }
 #endif
 
+#ifdef has_picture
+/* A 4×4 block in the corner of a picture of 5 × 4 with stride 6, then the checksum of a 2 × 2 picture with stride 3. */
+static void pictures(void) {
+    int32_t residual[16] = {[0] = INT32_MAX, [1] = INT32_MIN, [15] = -1};
+    uint16_t prediction[16], plane[24];
+    for (int i = 0; i < 16; i++) prediction[i] = 100;
+    for (int i = 0; i < 24; i++) plane[i] = 999;
+    picture_answered a = picture_rebuild_block(4, 8, residual, 16, prediction, 16, 5, 4, 6, 1, 0, plane, 24);
+    expect(a.number == 0 && a.place == 0 && plane[0] == 999 && plane[1] == 255 && plane[2] == 0 && plane[3] == 100 && plane[5] == 999 && plane[22] == 99 && plane[23] == 999, "rebuild_block");
+    uint16_t samples[6] = {1, 2, 99, 3, 4, 99};
+    picture_number_answered sum = picture_checksum(2, 2, 3, 8, samples, 6);
+    expect(sum.number == 0 && sum.place == 0 && sum.value == 10, "picture_checksum");
+}
+#endif
+
 int main(void) {
     quantities();
 #ifdef has_scaling
@@ -150,6 +166,9 @@ int main(void) {
 #endif
 #ifdef has_edits
     edits();
+#endif
+#ifdef has_picture
+    pictures();
 #endif
     printf("header: %d calls, %d failed\n", called, failed);
     return failed != 0;

@@ -1,4 +1,4 @@
-//! The archive of `rt staticlib c_api`, under the names of include/residual.h. A slice is a pointer and a length.
+//! The archive of `rt staticlib c_api`, under the names of include/residual.h and include/picture.h. A slice is a pointer and a length.
 //! A group of functions is left out (`cfg`) where the archive does not have it yet; `harness/build` looks.
 
 #[repr(C)]
@@ -227,5 +227,30 @@ pub mod edits {
                 columns.as_ptr(), columns.len(), values.as_ptr(), values.len(), numbers.as_mut_ptr(), numbers.len(), places.as_mut_ptr(), places.len(),
             )
         }
+    }
+}
+
+#[cfg(has_picture)]
+pub mod picture {
+    use super::{Answered, NumberAnswered};
+
+    unsafe extern "C" {
+        fn picture_rebuild_block(
+            n: usize, bit_depth: u8, residual: *const i32, residual_len: usize, prediction: *const u16, prediction_len: usize, width: usize, height: usize, stride: usize, x: usize, y: usize,
+            plane: *mut u16, plane_len: usize,
+        ) -> Answered;
+        fn picture_checksum(width: usize, height: usize, stride: usize, bit_depth: u8, plane: *const u16, plane_len: usize) -> NumberAnswered;
+    }
+
+    pub fn rebuild_block(n: usize, bit_depth: u8, residual: &[i32], prediction: &[u16], width: usize, height: usize, stride: usize, x: usize, y: usize, plane: &mut [u16]) -> Answered {
+        unsafe {
+            picture_rebuild_block(
+                n, bit_depth, residual.as_ptr(), residual.len(), prediction.as_ptr(), prediction.len(), width, height, stride, x, y, plane.as_mut_ptr(), plane.len(),
+            )
+        }
+    }
+
+    pub fn checksum(width: usize, height: usize, stride: usize, bit_depth: u8, plane: &[u16]) -> NumberAnswered {
+        unsafe { picture_checksum(width, height, stride, bit_depth, plane.as_ptr(), plane.len()) }
     }
 }

@@ -1,10 +1,12 @@
-//! Compares the archive of the crate c_api with the Rust that was ported, on every exported function.
-#![cfg_attr(not(all(has_scaling, has_transform, has_edits)), allow(dead_code, unused_mut))]
+//! Compares the archive of the crate c_api with the Rust that was ported, on every exported function; the functions of pictures, which were not ported, with a plain writing of their rules.
+#![cfg_attr(not(all(has_scaling, has_transform, has_edits, has_picture)), allow(dead_code, unused_mut))]
 mod archive;
 mod blocks;
 #[cfg(has_edits)]
 mod edits;
 mod parameters;
+#[cfg(has_picture)]
+mod picture;
 mod random;
 mod record;
 mod reference;
@@ -58,6 +60,10 @@ fn differential(arguments: &Arguments) -> bool {
     {
         planned += edits::FUNCTIONS;
     }
+    #[cfg(has_picture)]
+    {
+        planned += picture::FUNCTIONS;
+    }
     let mut tally = tally::Tally::new(planned);
     parameters::compare(&mut tally, arguments.seed, arguments.cases);
     #[cfg(has_scaling)]
@@ -66,6 +72,8 @@ fn differential(arguments: &Arguments) -> bool {
     transform::compare(&mut tally, arguments.seed, arguments.cases);
     #[cfg(has_edits)]
     edits::compare(&mut tally, arguments.seed, arguments.cases);
+    #[cfg(has_picture)]
+    picture::compare(&mut tally, arguments.seed, arguments.cases);
     println!("seed {}, {} random cases a function", arguments.seed, arguments.cases);
     tally.finish()
 }

@@ -3,6 +3,8 @@
 //! Prints a line for each function, size and shape: nanoseconds and instructions of ours and of the Rust, and the ratios ours / Rust.
 use crate::archive;
 use crate::blocks::{self, Element, Shape};
+#[cfg(has_picture)]
+use crate::picture;
 use crate::random::Random;
 use crate::reference;
 #[cfg(has_scaling)]
@@ -193,6 +195,33 @@ fn edit_work() -> Vec<Work> {
     Vec::new()
 }
 
+/// A checksum of a whole picture of 1920 × 1080 beside the plain loop of the harness, which is no part of the ported Rust.
+#[cfg(has_picture)]
+fn picture_work() -> Vec<Work> {
+    let mut list = Vec::new();
+    let (width, height) = (1920, 1080);
+    for bit_depth in [8, 10] {
+        let mut random = Random::of(1, "picture_checksum");
+        let mine: Vec<u16> = (0..width * height).map(|_| (random.next() & ((1 << bit_depth) - 1)) as u16).collect();
+        let theirs = mine.clone();
+        list.push(Work {
+            label: format!("picture_checksum {width} × {height} depth {bit_depth}"),
+            ours: Box::new(move || {
+                black_box(archive::picture::checksum(width, height, width, bit_depth, black_box(&mine)));
+            }),
+            rust: Box::new(move || {
+                black_box(picture::plain_checksum(width, height, width, bit_depth, black_box(&theirs)));
+            }),
+        });
+    }
+    list
+}
+
+#[cfg(not(has_picture))]
+fn picture_work() -> Vec<Work> {
+    Vec::new()
+}
+
 /// Nanoseconds of `repeats` calls.
 fn batch(work: &mut dyn FnMut(), repeats: u32) -> f64 {
     let start = Instant::now();
@@ -254,7 +283,7 @@ fn counted(label: &str, work: &mut dyn FnMut()) {
 /// Runs each work once on each side between two requests to callgrind.
 pub fn count_instructions() {
     counted("nothing", &mut || {});
-    for mut work in all_work().into_iter().chain(edit_work()) {
+    for mut work in all_work().into_iter().chain(edit_work()).chain(picture_work()) {
         counted(&format!("ours {}", work.label), &mut work.ours);
         counted(&format!("rust {}", work.label), &mut work.rust);
     }
@@ -308,4 +337,5 @@ pub fn time(runs: u32) {
     };
     table(all_work(), "Rust");
     table(edit_work(), "stage two");
+    table(picture_work(), "plain loop");
 }
