@@ -4,17 +4,18 @@
 --   sum-least, sum-most        the sum of a residual in between
 --   placed-none, placed-more   a row of which c samples are put
 --   Rows, rows-none, rows-more, rows-all            a block of which k rows are put
---   below-some                 fewer samples
+--   below-some, below-le, below-none, below-more    fewer samples, a larger bound, no sample, bits gathered from one more
 use mathlib.Core.Path.{_≡_, refl, sym, ap, ap₂, subst, _∙_}
 use mathlib.Core.Bool.{Bool, true, false, _&&_, cond}
 use mathlib.Core.List.{List}
 use mathlib.Core.Logic.{_⊎_, ⊎-elim, inl, inr}
 use Prim.Native.Nat.{ℕ, _+_, _-_, _*_, _/_, _%_, _^_, _≤_, _<_}
-use native.Mathlib.Nat.{div-add-mod', add-sub-cancel-left}
+use native.Mathlib.Nat.{div-add-mod', le-trans, not-suc-le-zero}
 use native.Mathlib.Decide.{ℕ-discrete, decLt}
 use native.Mathlib.Omega.{arith}
 use borrow.Author.Tests.{lt-ltb, le-ltb, le-leb, lt-leb}
 use lib.Arith.{digits-div, digits-mod}
+use lib.Bits.{bitOr, or-add-and, and-le-l, and-le-r}
 use lib.Dec.{ltb, leb}
 use lib.IntN.{ℤ, pos, natAbs, negℤ, _+ℤ_, _-ℤ_}
 use lib.ListN.{length, getD, set, length-set}
@@ -70,6 +71,25 @@ module _ (top p : ℕ) (z : ℤ) where
 
 pub below-some : {top k : ℕ} {xs : List ℕ} (m : ℕ) → m ≤ k → Below top k xs → Below top m xs
 below-some m h f = record { at = λ i l. f .at i (omega arith) }
+
+pub below-le : {top most k : ℕ} {xs : List ℕ} → top ≤ most → Below top k xs → Below most k xs
+below-le h f = record { at = λ i l. le-trans (f .at i l) h }
+
+pub below-none : {top : ℕ} {xs : List ℕ} → Below top 0 xs
+below-none = record { at = λ i l. absurd (not-suc-le-zero l) }
+
+or-le : (a b : ℕ) → (a ≤ bitOr a b) × (b ≤ bitOr a b)
+or-le a b = (omega (arith, or-add-and a b, and-le-r a b), omega (arith, or-add-and a b, and-le-l a b))
+
+-- bits gathered reach every sample
+pub below-more : {bits k : ℕ} {xs : List ℕ} → Below bits k xs → Below (bitOr bits (getD xs k 0)) (k + 1) xs
+below-more {bits} {k} {xs} f =
+    record {
+      at = λ i l. elim (ℕ-discrete i k) [
+        | yes q ↦ rw q (or-le bits (getD xs k 0) .1)
+        | no q ↦ le-trans (f .at i (omega arith)) (or-le bits (getD xs k 0) .0)
+      ];
+    }
 
 -- ---- numbers from `first` on
 module _ (first k i : ℕ) where

@@ -1,53 +1,28 @@
--- `picture::refuse::first_above` meets its contract. The loop's invariant: no sample before i is above the largest.
-use mathlib.Core.Path.{_≡_, sym, _∙_}
-use Prim.Native.Nat.{ℕ, _-_, _≤_}
+-- `picture::refuse::first_above` meets its contract: where no sample is above the largest the search finds none; else it decides.
+use mathlib.Core.Path.{_≡_, sym}
 use native.Mathlib.Omega.{arith}
-use borrow.Author.Tests.{lt-ltb, le-ltb}
-use lib.Dec.{ltb}
-use lib.ListN.{getD}
-use Rattle.integers.proofs.SearchLaws.{None, none-zero, none-suc, firstWhere-none, firstWhere-found}
+use borrow.Author.Needs.{needs}
+use borrow.Author.Tests.{le-ltb}
+use Rattle.integers.proofs.SearchLaws.{firstWhere-none}
 use Rattle.picture.specs.Samples.{firstAbove}
 use Rattle.picture.proofs.refuse.first_above.Statement.{statement}
 use Rattle.picture.proofs.refuse.first_above.Tie as tie
 
-abbrev Inv-loop : tie.InvT-loop
-Inv-loop top count samples i₀ i = (i ≤ count) × None (λ k. ltb top (getD samples k 0)) i
+all-below-requires : tie.Need-all-below-requires
+all-below-requires c κs = search needs
 
-abbrev μ-loop : tie.MeasureT-loop
-μ-loop top count samples i₀ i = count - i
-
-loop-holds : tie.Need-loop-holds Inv-loop μ-loop
-loop-holds c = (omega arith, none-zero)
-
-mul-if1 : tie.Need-mul-if1 Inv-loop μ-loop
-mul-if1 c = omega arith
-
-shared-slice-read-if1 : tie.Need-shared-slice-read-if1 Inv-loop μ-loop
-shared-slice-read-if1 c = omega arith
-
-returns : tie.Need-returns Inv-loop μ-loop
+returns : tie.Need-returns
 unfolding firstAbove
 returns c =
-    let l = c .before .before .before in
-    sym (firstWhere-found (l .before .args .count) (l .loop .i) (omega arith) (l .loop .inv .1) (lt-ltb _ _ (c .if1 .taken)))
+    let s = c .before .before .before in
+    let f = c .before .all-below .ensures (c .if1 .taken) in
+    sym (firstWhere-none (s .args .count) (omega arith) (record { at = λ i l. le-ltb _ _ (f .at i l) }))
 
-add-i : tie.Need-add-i Inv-loop μ-loop
-add-i c = omega arith
+search-above-requires : tie.Need-search-above-requires
+search-above-requires c κs = search needs
 
-loop-less : tie.Need-loop-less Inv-loop μ-loop
-loop-less c = omega arith
-
-loop-again : tie.Need-loop-again Inv-loop μ-loop
-loop-again c = (omega arith, none-suc (c .before .before .before .loop .inv .1) (le-ltb _ _ (c .if1 .left)))
-
-returns-2 : tie.Need-returns-2 Inv-loop μ-loop
-unfolding firstAbove
-returns-2 c =
-    let e : c .before .loop .i ≡ c .before .before .args .count = omega arith in
-    e ∙ sym (firstWhere-none (c .before .before .args .count) (omega arith) (c .before .loop .inv .1))
+returns-2 : tie.Need-returns-2
+returns-2 c = search needs
 
 pub first-above-spec : {M : Type 1} → statement M
-first-above-spec =
-    tie.close
-    (tie.spec
-    Inv-loop μ-loop loop-holds mul-if1 shared-slice-read-if1 returns add-i loop-less loop-again returns-2)
+first-above-spec = tie.close (tie.spec all-below-requires returns search-above-requires returns-2)
