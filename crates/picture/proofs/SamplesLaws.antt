@@ -4,6 +4,7 @@
 --   sum-least, sum-most        the sum of a residual in between
 --   placed-none, placed-more   a row of which c samples are put
 --   Rows, rows-none, rows-more, rows-all            a block of which k rows are put
+--   rebuilt-stands             where a sample of the block stands in the plane
 --   below-some, below-le, below-none, below-more    fewer samples, a larger bound, no sample, bits gathered from one more
 use mathlib.Core.Path.{_≡_, refl, sym, ap, ap₂, subst, _∙_}
 use mathlib.Core.Bool.{Bool, true, false, _&&_, cond}
@@ -28,7 +29,7 @@ use Rattle.integers.proofs.LinearLaws.{parts-add, parts-neg, le-in, le-out, lt-
 use Rattle.integers.proofs.MachineLaws.{ltZ-true, ltZ-false}
 use Rattle.integers.proofs.ClipLaws.{clip3-low, clip3-high, clip3-id}
 use Rattle.integers.proofs.ListsLaws.{tabulate-length, tabulate-getD}
-use Rattle.picture.specs.Samples.{sampleMax, rebuiltSample, among, placedAt}
+use Rattle.picture.specs.Samples.{sampleMax, rebuiltSample, rebuiltAt, among, placedAt, rebuiltPlane}
 use Rattle.picture.specs.Rebuild.{Below, Placed}
 
 pub sampleMax-most : (b : ℕ) → b ≤ 16 → sampleMax b ≤ 65535
@@ -219,3 +220,14 @@ module _ {n stride x y : ℕ} {f : ℕ → ℕ} {before : List ℕ} where
           is = λ i. t .is i ∙ among-cases ((y + k) * stride + x) n i (λ v. cond v (f (k * n + (i - ((y + k) * stride + x)))) (getD mid i 0) ≡ placedAt (k + 1) n stride x y f before i)
               (inside i) (λ l. s .is i ∙ outside i (inl l)) (λ l. s .is i ∙ outside i (inr l));
         }
+
+-- ---- the definition in the request's terms: sample (r, c) of the block stands at (y + r) × stride + x + c
+pub rebuilt-stands : (n b : ℕ) (residual : List ℤ) (prediction : List ℕ) (stride x y : ℕ) (plane : List ℕ) (r c : ℕ)
+    → r < n → c < n → x + n ≤ stride → (y + r) * stride + (x + c) < length plane
+    → getD (rebuiltPlane n b residual prediction stride x y plane) ((y + r) * stride + (x + c)) 0 ≡ rebuiltAt (sampleMax b) residual prediction (r * n + c)
+unfolding rebuiltPlane placedAt
+rebuilt-stands n b residual prediction stride x y plane r c hr hc h l =
+    let short : x + c < stride = omega arith in
+    tabulate-getD (length plane) (placedAt n n stride x y (rebuiltAt (sampleMax b) residual prediction) plane) ((y + r) * stride + (x + c)) 0 l
+    ∙ rw (digits-div (y + r) short, digits-mod (y + r) short, among-true y n (y + r) (omega arith) (omega arith), among-true x n (x + c) (omega arith) (omega arith))
+    (ap₂ (λ (i j : ℕ). rebuiltAt (sampleMax b) residual prediction (i * n + j)) (omega arith) (omega arith))

@@ -68,6 +68,7 @@ fn row_total(bit_depth: u8, width: usize, first: usize, y: u16, plane: &[u16]) -
     sum
 }
 
+// What all rows add, modulo 2^32.
 fn rows_total(bit_depth: u8, width: usize, height: usize, stride: usize, plane: &[u16]) -> u32
     requires { ⌜ (width ≤ 16384) × (height ≤ 16384) × (width ≤ stride) × (stride ≤ 65536) × (stride * height ≤ length (now plane)) ⌝ }
     ensures { λ r. ⌜ r ≡ pictureChecksum «bit_depth» width height stride (now (plane .entry)) ⌝ }

@@ -18,6 +18,7 @@ fn side_refused(k: usize) -> bool
     16384 < k
 }
 
+// A stride, beside the width.
 fn stride_refused(width: usize, stride: usize) -> bool
     ensures { λ r. ⌜ r ≡ strideRefused width stride ⌝ }
 {
