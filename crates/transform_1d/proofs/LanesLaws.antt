@@ -5,12 +5,13 @@
 --   transMatrix-within       entries of the DCT's matrices are at most 90 in size
 --   dstMatrix-within         entries of the DST's matrix are at most 90 in size
 --   Laid, laid               all that a block needs of a layout: its length, its small entries, the matrix it reads back as
+--   lineAsk-group            a line meets what each of its groups asks
 --   lineAsk-mono             a line for more points asks no more
 use mathlib.Core.Path.{_≡_, refl, sym, ap, ap₂, _∙_}
 use mathlib.Core.List.{List, [], _∷_}
 use mathlib.Core.Bool.{Bool, true, false, cond, _&&_}
 use Prim.Native.Nat.{ℕ, zero, suc, _+_, _*_, _-_, _/_, _%_, _≤_, _<_}
-use native.Mathlib.Nat.{le-trans, div-add-mod', not-suc-le-zero, le-of-suc-le-suc}
+use native.Mathlib.Nat.{le-trans, add-mul, div-add-mod', not-suc-le-zero, le-of-suc-le-suc}
 use native.Mathlib.Decide.{decLt}
 use native.Mathlib.Omega.{arith}
 use borrow.Author.Tests.{lt-ltb}
@@ -25,6 +26,7 @@ use Rattle.integers.proofs.BoundLaws.{within-neg, within-pos, within-eq, table-
 use Rattle.integers.proofs.ListsLaws.{tabulate-length, tabulate-getD}
 use Rattle.h265.specs.Matrix.{foldingValues, folding, foldedEntry, foldedAngle, transMatrix32, transMatrix, dstEntries, dstMatrix}
 use Rattle.transform_1d.specs.Lanes.{laneRow, laneColumn, laneEntry, lanes, lanePlace, mirrored, laneMatrix, SmallEntries, LineAsk}
+use Rattle.transform_1d.specs.Kernel.{GroupAsk}
 use Rattle.transform_1d.specs.Rows.{Filled}
 use Rattle.transform_1d.proofs.KernelLaws.{laneMatrix-low, laneMatrix-high}
 
@@ -71,6 +73,15 @@ laneMatrix-lanes t n f m h k j hk hj =
           ∙ sym (h k (31 - j) hk (omega arith) (omega arith) (omega arith))
           ∙ ap (t k) (let e : 31 - (31 - j) ≡ j = omega arith in e)
     ]
+
+pub lineAsk-group : {t s : List ℤ} {base stride groups : ℕ} → LineAsk 32 t s base stride groups → (q : ℕ) → q < groups → GroupAsk t s base stride q
+lineAsk-group {stride = stride} a q h =
+    record {
+      few = omega (arith, a .few);
+      table = omega (arith, a .table);
+      small = a .small;
+      reads = omega (arith, a .reads (4 * q + 3) (omega arith), add-mul (4 * q) 3 stride);
+    }
 
 pub lineAsk-mono : {n m : ℕ} {t s : List ℤ} {base stride groups : ℕ} → n ≤ m → LineAsk n t s base stride groups → LineAsk m t s base stride groups
 lineAsk-mono h a = record { few = le-trans (a .few) h; table = a .table; small = a .small; reads = a .reads }

@@ -4,6 +4,7 @@
 --   Room b z                 z is 32 sums, none above b in size
 --   Added g z₀ j z           z is z₀ with g added in the first j lanes of both halves
 --   HalfSums                 z is the sums over q groups
+--   GroupAsk                 what group q of a line asks
 use mathlib.Core.Path.{_≡_}
 use mathlib.Core.Bool.{cond}
 use mathlib.Core.List.{List}
@@ -13,6 +14,7 @@ use lib.IntN.{ℤ, pos, natAbs, _+ℤ_, _*ℤ_}
 use lib.ListN.{getD, length}
 use Rattle.integers.specs.Sum.{sum}
 use Rattle.integers.specs.Within.{Within}
+use Rattle.transform_1d.specs.Lanes.{SmallEntries}
 
 -- the largest size of two products of an entry and 16 bits: 2 × 90 × 2^15
 abbrev pub pairMost : ℕ
@@ -42,3 +44,9 @@ pub record Added (g : ℕ → ℤ) (z₀ : List ℤ) (j : ℕ) (z : List ℤ) : 
 pub record HalfSums (t s : List ℤ) (base stride q : ℕ) (z : List ℤ) : Type 0 where
   pub is : (p : ℕ) → p < 32 → getD z p (pos 0) ≡ halfSum t s base stride q p
   pub room : Room (q * pairMost) z
+
+pub record GroupAsk (t s : List ℤ) (base stride q : ℕ) : Type 0 where
+  pub few : q < 8
+  pub table : 64 * q + 64 ≤ length t
+  pub small : SmallEntries t
+  pub reads : base + 4 * q * stride + 3 * stride < length s

@@ -5,11 +5,11 @@ use Rattle.transform_1d.proofs.LanesLaws.{lineAsk-mono}
 use Rattle.transform_1d.proofs.idct_raw_32.Statement.{statement}
 use Rattle.transform_1d.proofs.idct_raw_32.Tie as tie
 
-lane-sums-requires : tie.Need-lane-sums-requires
-lane-sums-requires c κs = lineAsk-mono (omega arith) (c .pre)
+long-sums-requires : tie.Need-long-sums-requires
+long-sums-requires c κs = lineAsk-mono (omega arith) (c .pre)
 
 returns : tie.Need-returns
-returns c = halfSums-output (omega (arith, c .before .pre .few)) (c .lane-sums .ensures)
+returns c = halfSums-output (omega (arith, c .before .pre .few)) (c .long-sums .ensures)
 
 pub idct-raw-32-spec : {M : Type 1} → statement M
-idct-raw-32-spec = tie.close (tie.spec lane-sums-requires returns)
+idct-raw-32-spec = tie.close (tie.spec long-sums-requires returns)
