@@ -113,6 +113,9 @@ residual_answered residual_inv_transform_dst_into_scalar(const int32_t *coeff, s
 residual_answered residual_inv_transform_dst_into_scalar_extended(const int32_t *coeff, size_t coeff_len, uint8_t bit_depth, int32_t *out, size_t out_len);
 residual_answered residual_inv_transform_dst_into_scalar16(const int16_t *coeff, size_t coeff_len, uint8_t bit_depth, int16_t *out, size_t out_len);
 
+/* By how much 2^(7 + s2) times a residual may differ from the exact product of its coefficients, where no stage-one value was limited. */
+residual_number_answered residual_rounding_bound(bool dst, size_t n, uint8_t bit_depth, bool extended_precision);
+
 /* Edited blocks. An opening takes the coefficients and writes intermediate and residual; an edit puts one value at a row and column and brings both up to date.
  * The record that a call hands back goes into the next edit by its parts; an edit that is refused hands back the record it was given.
  * A list of edits is as long as the shortest of rows, columns, values, numbers and places; the answer to edit i goes to numbers[i] and places[i]. */

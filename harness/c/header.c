@@ -26,6 +26,8 @@ static void quantities(void) {
     expect(d.number == 0 && d.place == 0 && d.factor == 1024 && d.add == 16 && d.shift == 5 && d.clip_min == -32768 && d.clip_max == 32767, "dequant_params");
     residual_transform_skip_answered s = residual_transform_skip_params(32, 4, 16, false);
     expect(s.number == 0 && s.place == 0 && s.factor == 1024 && s.add == 32768 && s.shift == 16 && s.clip_min == -32768 && s.clip_max == 32767 && s.tr_add == 0 && s.tr_shift == -6, "transform_skip_params");
+    residual_number_answered bound = residual_rounding_bound(true, 4, 8, false);
+    expect(bound.number == 0 && bound.place == 0 && bound.value == 277632, "rounding_bound");
 }
 
 #ifdef has_scaling

@@ -4,6 +4,7 @@ ghost use Rattle.refusal.specs.Outcome.{answer as answerOutcome, refused as ref
 ghost use Rattle.parameters.specs.Answers.{numberOutcome, qpPrimeOutcome, dequantOutcome, transformSkipOutcome};
 ghost use Rattle.scaling.specs.Answers.{factorOutcome, levelOutcome};
 ghost use Rattle.picture.specs.Answers.{checksumOutcome};
+ghost use Rattle.rounding.specs.Bound.{boundOutcome};
 ghost use Rattle.c_api.specs.Answers.{ofAnswered, ofNumber, ofSigned, ofQpPrime, ofDequant, ofTransformSkip};
 use crate::Answered;
 use crate::DequantAnswered;
@@ -17,6 +18,7 @@ use parameters::TransformSkipAnswer;
 use picture::ChecksumAnswer;
 use refusal::Answer;
 use refusal::Refusal;
+use rounding::BoundAnswer;
 use scaling::FactorAnswer;
 use scaling::LevelAnswer;
 
@@ -194,6 +196,26 @@ pub(crate) fn checksum_answered(answer: ChecksumAnswer) -> NumberAnswered
             value: sum,
         },
         ChecksumAnswer::Refused(why) => {
+            let no = refused(why);
+            NumberAnswered {
+                number: no.number,
+                place: no.place,
+                value: 0,
+            }
+        }
+    }
+}
+
+pub(crate) fn bound_answered(answer: BoundAnswer) -> NumberAnswered
+    ensures { λ r. ⌜ ofNumber r ≡ boundOutcome answer ⌝ }
+{
+    match answer {
+        BoundAnswer::Bound(value) => NumberAnswered {
+            number: 0,
+            place: 0,
+            value,
+        },
+        BoundAnswer::Refused(why) => {
             let no = refused(why);
             NumberAnswered {
                 number: no.number,

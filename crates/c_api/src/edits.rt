@@ -14,7 +14,7 @@ use edited_block::EditedBlock;
 use refusal::Answer;
 use transform_1d::Kind;
 
-fn kind_of(dst: bool) -> Kind
+pub(crate) fn kind_of(dst: bool) -> Kind
     ensures { λ r. ⌜ r ≡ kindOf dst ⌝ }
 {
     if dst { Kind::Dst } else { Kind::Dct }

@@ -26,6 +26,7 @@ pub use quantities::residual_dequant_params;
 pub use quantities::residual_max_log2_transform_dynamic_range;
 pub use quantities::residual_qp_bd_offset;
 pub use quantities::residual_qp_prime;
+pub use quantities::residual_rounding_bound;
 pub use quantities::residual_transform_skip_params;
 pub use transforms::residual_inv_transform_dst_into_scalar;
 pub use transforms::residual_inv_transform_dst_into_scalar_extended;

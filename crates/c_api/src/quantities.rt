@@ -1,12 +1,15 @@
-// The range of coefficients, QP′ and the numbers by which a block is scaled.
+// The range of coefficients, QP′, the numbers by which a block is scaled, and how far a residual may be from the exact product.
 ghost use mathlib.Core.Path.{_≡_};
 ghost use Rattle.parameters.specs.Parameters.{maxLog2TransformDynamicRange, qpBdOffsetOf, qpPrimeOf, dequantParams, transformSkipParams};
+ghost use Rattle.rounding.specs.Bound.{roundingBoundOf};
 ghost use Rattle.c_api.specs.Answers.{ofNumber, ofQpPrime, ofDequant, ofTransformSkip};
+ghost use Rattle.c_api.specs.Edits.{kindOf};
 use crate::DequantAnswered;
 use crate::NumberAnswered;
 use crate::SignedAnswered;
 use crate::TransformSkipAnswered;
 use crate::answers;
+use crate::edits;
 use parameters::Qp;
 use parameters::QpPrime;
 
@@ -66,4 +69,19 @@ pub extern "C" fn residual_transform_skip_params(
     let qp = QpPrime(qp_prime);
     let answer = parameters::transform_skip_params(n, qp, bit_depth, extended_precision);
     answers::transform_skip_answered(answer)
+}
+
+// By how much 2^(7 + s2) times a residual may differ from the exact product, where no stage-one value was limited.
+#[no_mangle]
+pub extern "C" fn residual_rounding_bound(
+    dst: bool,
+    n: usize,
+    bit_depth: u8,
+    extended_precision: bool,
+) -> NumberAnswered
+    ensures { λ r. ⌜ ofNumber r ≡ roundingBoundOf (kindOf dst) n «bit_depth» «extended_precision» ⌝ }
+{
+    let kind = edits::kind_of(dst);
+    let answer = rounding::rounding_bound(kind, n, bit_depth, extended_precision);
+    answers::bound_answered(answer)
 }

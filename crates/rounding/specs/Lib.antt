@@ -1,0 +1,3 @@
+pub mod Exact
+pub mod Bound
+pub mod Closeness
