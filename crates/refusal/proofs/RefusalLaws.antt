@@ -3,7 +3,7 @@
 use Prim.Native.Nat.{_≤_}
 use lib.Dec.{lit≤}
 use Rattle.refusal.specs.declared.Refusal.{Refusal}
-use Rattle.refusal.specs.declared.Refusal.the-variants.{SizeInvalid, DepthInvalid, WidthTooNarrow, DstSizeInvalid, ListLengthInvalid, InputTooShort, OutputTooShort, PlaceOutside, CoefficientOutside, SampleOutside, PictureInvalid, KindUnknown, BodyTooShort, LevelsBeforeParameters, ParameterInvalid}
+use Rattle.refusal.specs.declared.Refusal.the-variants.{SizeInvalid, DepthInvalid, WidthTooNarrow, DstSizeInvalid, ListLengthInvalid, InputTooShort, OutputTooShort, PlaceOutside, CoefficientOutside, SampleOutside, PictureInvalid, BitsEnded, ReferenceMissing, ListValueInvalid, KindUnknown, BodyTooShort, LevelsBeforeParameters, ParameterInvalid}
 use Rattle.refusal.specs.Refusal.{number}
 
 pub number-least : (e : Refusal) → 1 ≤ number e
@@ -18,6 +18,9 @@ number-least PlaceOutside = lit≤ tt
 number-least (CoefficientOutside at) = lit≤ tt
 number-least (SampleOutside at) = lit≤ tt
 number-least PictureInvalid = lit≤ tt
+number-least (BitsEnded at) = lit≤ tt
+number-least (ReferenceMissing at) = lit≤ tt
+number-least (ListValueInvalid at) = lit≤ tt
 number-least KindUnknown = lit≤ tt
 number-least BodyTooShort = lit≤ tt
 number-least LevelsBeforeParameters = lit≤ tt

@@ -3,7 +3,7 @@
 --   place e    the place that it names, else 0
 use Prim.Native.Nat.{ℕ}
 use Rattle.refusal.specs.declared.Refusal.{Refusal}
-use Rattle.refusal.specs.declared.Refusal.the-variants.{SizeInvalid, DepthInvalid, WidthTooNarrow, DstSizeInvalid, ListLengthInvalid, InputTooShort, OutputTooShort, PlaceOutside, CoefficientOutside, SampleOutside, PictureInvalid, KindUnknown, BodyTooShort, LevelsBeforeParameters, ParameterInvalid}
+use Rattle.refusal.specs.declared.Refusal.the-variants.{SizeInvalid, DepthInvalid, WidthTooNarrow, DstSizeInvalid, ListLengthInvalid, InputTooShort, OutputTooShort, PlaceOutside, CoefficientOutside, SampleOutside, PictureInvalid, BitsEnded, ReferenceMissing, ListValueInvalid, KindUnknown, BodyTooShort, LevelsBeforeParameters, ParameterInvalid}
 
 abbrev pub number : Refusal → ℕ
 number SizeInvalid = 1
@@ -17,6 +17,9 @@ number PlaceOutside = 8
 number (CoefficientOutside at) = 9
 number (SampleOutside at) = 12
 number PictureInvalid = 13
+number (BitsEnded at) = 14
+number (ReferenceMissing at) = 15
+number (ListValueInvalid at) = 16
 number KindUnknown = 20
 number BodyTooShort = 21
 number LevelsBeforeParameters = 22
@@ -34,6 +37,9 @@ place PlaceOutside = 0
 place (CoefficientOutside at) = at
 place (SampleOutside at) = at
 place PictureInvalid = 0
+place (BitsEnded at) = at
+place (ReferenceMissing at) = at
+place (ListValueInvalid at) = at
 place KindUnknown = 0
 place BodyTooShort = 0
 place LevelsBeforeParameters = 0

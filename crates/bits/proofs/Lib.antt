@@ -1,0 +1,3 @@
+-- Laws of bits and of codes.
+pub mod BitsLaws
+pub mod ExpGolombLaws

@@ -1,0 +1,3 @@
+-- Laws of the syntax and of the loops that read it.
+pub mod ValueLaws
+pub mod EntriesLaws

@@ -1,0 +1,18 @@
+-- `scaling_lists::values::matrix_step` meets its contract: three at 32×32, else one.
+use mathlib.Core.Path.{sym}
+use native.Mathlib.Omega.{arith}
+use borrow.Author.Tests.{eq-eqb, ne-eqb}
+use Rattle.scaling_lists.specs.Syntax.{matrixStep}
+use Rattle.scaling_lists.proofs.values.matrix_step.Statement.{statement}
+use Rattle.scaling_lists.proofs.values.matrix_step.Tie as tie
+
+returns : tie.Need-returns
+unfolding matrixStep
+returns c = (rw (eq-eqb (c .before .args .size-id) 3 (c .if1 .taken)), omega arith, omega arith)
+
+returns-2 : tie.Need-returns-2
+unfolding matrixStep
+returns-2 c = (rw (ne-eqb (c .before .args .size-id) 3 (c .if1 .left)), omega arith, omega arith)
+
+pub matrix-step-spec : {M : Type 1} → statement M
+matrix-step-spec = tie.close (tie.spec returns returns-2)

@@ -1,0 +1,4 @@
+pub mod Scan
+pub mod Syntax
+pub mod Answers
+pub mod Work

@@ -1,0 +1,52 @@
+-- What the functions below the entry point hand to each other.
+--   defaults              the three default lists as one record
+--   part r                a number that was read, as a reading
+--   filled es r           the same with the entries that stand in a buffer then
+--   listed es r           the same as a list, the number being its DC
+--   Positions ps len      at most 64 positions, each of them below a length
+--   partEnd r             the offset behind what was read, else 0
+--   held j lists dcs      the first j lists that stand in two buffers
+--   heldUpTo              the lists as a reading, by the answer and the buffers
+use mathlib.Core.List.{List}
+use Prim.Native.Nat.{ℕ, _+_, _*_, _≤_, _<_}
+use lib.ListN.{length, getD}
+use Rattle.integers.specs.Lists.{tabulate}
+use Rattle.scaling_lists.specs.declared.Part.{Part}
+use Rattle.scaling_lists.specs.declared.Part.the-variants.{Value, Refused}
+use Rattle.scaling_lists.specs.declared.ReadAnswer.{ReadAnswer}
+use Rattle.scaling_lists.specs.declared.ReadAnswer.the-variants.{Read, Refused as NotRead}
+use Rattle.scaling_lists.specs.Syntax.{Reading, FactorList, Defaults}
+use Rattle.scaling_lists.specs.Syntax.Reading.{got, stop}
+
+abbrev pub defaults : List ℕ → List ℕ → List ℕ → Defaults
+defaults four intra inter = record { four = four; intra = intra; inter = inter }
+
+abbrev pub part : Part → Reading ℕ
+part (Value v behind) = got v behind
+part (Refused e) = stop e
+
+abbrev pub filled : List ℕ → Part → Reading (List ℕ)
+filled es (Value v behind) = got es behind
+filled es (Refused e) = stop e
+
+abbrev pub listed : List ℕ → Part → Reading FactorList
+listed es (Value v behind) = got (record { entries = es; dc = v }) behind
+listed es (Refused e) = stop e
+
+pub record Positions (ps : List ℕ) (len : ℕ) : Type 0 where
+  pub few : length ps ≤ 64
+  pub below : (i : ℕ) → i < length ps → getD ps i 0 < len
+
+abbrev pub partEnd : Part → ℕ
+partEnd (Value v behind) = behind
+partEnd (Refused e) = 0
+
+abbrev pub heldAt : List ℕ → List ℕ → ℕ → FactorList
+heldAt lists dcs k = record { entries = tabulate 64 (λ i. getD lists (64 * k + i) 0); dc = getD dcs k 0 }
+
+unfoldable pub held : ℕ → List ℕ → List ℕ → List FactorList
+held j lists dcs = tabulate j (heldAt lists dcs)
+
+abbrev pub heldUpTo : List ℕ → List ℕ → ReadAnswer → Reading (List FactorList)
+heldUpTo lists dcs (Read bits) = got (held 20 lists dcs) bits
+heldUpTo lists dcs (NotRead e) = stop e

@@ -1,0 +1,18 @@
+// Scaling lists read from the bitstream: the syntax of H.265 clause 7.3.4.
+use refusal::Refusal;
+
+mod lists;
+mod scan;
+mod values;
+
+// How many bits were read.
+pub enum ReadAnswer {
+    Read(usize),
+    Refused(Refusal),
+}
+
+// A number that was read and the bit offset behind it, or why there is none.
+pub enum Part {
+    Value(u8, usize),
+    Refused(Refusal),
+}

@@ -1,0 +1,60 @@
+// Lists of 64 entries in buffers: one filled from another, one put among others, and the entries of a coded list.
+ghost use mathlib.Core.Path.{_≡_};
+ghost use Prim.Native.Nat.{_+_, _*_, _≤_};
+ghost use lib.ListN.{length, getD};
+ghost use lib.Seq.{paste};
+ghost use Rattle.integers.specs.Lists.{tabulate};
+ghost use Rattle.scaling_lists.specs.Syntax.{entriesFrom};
+ghost use Rattle.scaling_lists.specs.Work.{Positions, filled, partEnd};
+use crate::Part;
+use crate::values;
+
+// All of `to`, from the elements of `from` from an index on.
+pub(crate) fn fill(from: &[u8], base: usize, to: &mut [u8])
+    requires { ⌜ base + length (now to) ≤ length (now from) ⌝ }
+    ensures { λ r. ⌜ now (to .exit) ≡ tabulate (length (now (to .entry))) (λ i. getD (now (from .entry)) (base + i) 0) ⌝ }
+{
+    let mut i: usize = 0;
+    while i < to.len() {
+        to[i] = from[base + i];
+        i += 1;
+    }
+}
+
+// All of `from`, put into `to` from an index on.
+pub(crate) fn put(from: &[u8], to: &mut [u8], base: usize)
+    requires { ⌜ base + length (now from) ≤ length (now to) ⌝ }
+    ensures { λ r. ⌜ now (to .exit) ≡ paste (now (to .entry)) base (now (from .entry)) (length (now (from .entry))) ⌝ }
+{
+    let mut i: usize = 0;
+    while i < from.len() {
+        to[base + i] = from[i];
+        i += 1;
+    }
+}
+
+// The entries of a coded list: a delta for each position.
+pub(crate) fn entries_from(bytes: &[u8], scan: &[u8], first: u8, start: usize, entries: &mut [u8]) -> Part
+    requires { ⌜ Positions (now scan) (length (now entries)) × (start ≤ 2305843009213693952) ⌝ }
+    ensures { λ r. ⌜ (filled (now (entries .exit)) r ≡ entriesFrom (now (bytes .entry)) (now (scan .entry)) first start (now (entries .entry))) × (partEnd r ≤ start + 65 * length (now (scan .entry))) ⌝ }
+{
+    let mut next = first;
+    let mut at = start;
+    let mut i: usize = 0;
+    while i < scan.len() {
+        let read = values::delta_code(bytes, next, at);
+        match read {
+            Part::Refused(why) => {
+                return Part::Refused(why);
+            }
+            Part::Value(value, behind) => {
+                let place = scan[i] as usize;
+                entries[place] = value;
+                next = value;
+                at = behind;
+            }
+        }
+        i += 1;
+    }
+    Part::Value(next, at)
+}
