@@ -4,9 +4,12 @@
 --   filled es r           the same with the entries that stand in a buffer then
 --   listed es r           the same as a list, the number being its DC
 --   Positions ps len      at most 64 positions, each of them below a length
---   partEnd r             the offset behind what was read, else 0
+--   partEnd, partValue r  the offset behind what was read and what it was, else 0
 --   held j lists dcs      the first j lists that stand in two buffers
+--   grown                 one list more, by the answer and the buffers
+--   Lent                  the buffers that reading list j relies on
 --   heldUpTo              the lists as a reading, by the answer and the buffers
+use mathlib.Core.Path.{_≡_}
 use mathlib.Core.List.{List}
 use Prim.Native.Nat.{ℕ, _+_, _*_, _≤_, _<_}
 use lib.ListN.{length, getD}
@@ -41,6 +44,10 @@ abbrev pub partEnd : Part → ℕ
 partEnd (Value v behind) = behind
 partEnd (Refused e) = 0
 
+abbrev pub partValue : Part → ℕ
+partValue (Value v behind) = v
+partValue (Refused e) = 0
+
 abbrev pub heldAt : List ℕ → List ℕ → ℕ → FactorList
 heldAt lists dcs k = record { entries = tabulate 64 (λ i. getD lists (64 * k + i) 0); dc = getD dcs k 0 }
 
@@ -50,3 +57,15 @@ held j lists dcs = tabulate j (heldAt lists dcs)
 abbrev pub heldUpTo : List ℕ → List ℕ → ReadAnswer → Reading (List FactorList)
 heldUpTo lists dcs (Read bits) = got (held 20 lists dcs) bits
 heldUpTo lists dcs (NotRead e) = stop e
+
+abbrev pub grown : ℕ → List ℕ → List ℕ → Part → Reading (List FactorList)
+grown j lists dcs (Value v behind) = got (held (j + 1) lists dcs) behind
+grown j lists dcs (Refused e) = stop e
+
+pub record Lent (j : ℕ) (four intra inter lists dcs : List ℕ) : Type 0 where
+  pub inside : j < 20
+  pub four-long : length four ≡ 64
+  pub intra-long : length intra ≡ 64
+  pub inter-long : length inter ≡ 64
+  pub lists-long : length lists ≡ 1280
+  pub dcs-long : length dcs ≡ 20

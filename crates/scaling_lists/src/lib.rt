@@ -1,6 +1,7 @@
 // Scaling lists read from the bitstream: the syntax of H.265 clause 7.3.4.
 use refusal::Refusal;
 
+mod list;
 mod lists;
 mod scan;
 mod values;

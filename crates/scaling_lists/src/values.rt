@@ -5,7 +5,7 @@ ghost use Prim.Native.Nat.{_+_, _*_, _/_, _≤_};
 ghost use Rattle.bits.specs.declared.Code.{Code};
 ghost use Rattle.bits.specs.ExpGolomb.{signedNumber};
 ghost use Rattle.scaling_lists.specs.Syntax.{outsideOf, added, deltaOf, deltaCode, dcOf, dcCode, matrixStep, referenceOf, referenceCode};
-ghost use Rattle.scaling_lists.specs.Work.{part, partEnd};
+ghost use Rattle.scaling_lists.specs.Work.{part, partEnd, partValue};
 use crate::Part;
 use bits::Code;
 use refusal::Refusal;
@@ -95,7 +95,7 @@ pub(crate) fn matrix_step(size_id: usize) -> usize
 // The reference, by the number of its code; `most` is the farthest that there is.
 fn reference_of(number: u64, behind: usize, size_id: usize, matrix_id: usize, at: usize) -> Part
     requires { ⌜ «matrix_id» ≤ 5 ⌝ }
-    ensures { λ r. ⌜ (part r ≡ referenceOf «size_id» «matrix_id» at (Code.Number number behind)) × (partEnd r ≤ behind) ⌝ }
+    ensures { λ r. ⌜ (part r ≡ referenceOf «size_id» «matrix_id» at (Code.Number number behind)) × (partEnd r ≤ behind) × (partValue r ≤ «matrix_id» / matrixStep «size_id») ⌝ }
 {
     let most = matrix_id / matrix_step(size_id);
     if (most as u64) < number {
@@ -107,7 +107,7 @@ fn reference_of(number: u64, behind: usize, size_id: usize, matrix_id: usize, at
 // scaling_list_pred_matrix_id_delta.
 pub(crate) fn reference_code(bytes: &[u8], size_id: usize, matrix_id: usize, at: usize) -> Part
     requires { ⌜ («matrix_id» ≤ 5) × (at ≤ 4611686018427387904) ⌝ }
-    ensures { λ r. ⌜ (part r ≡ referenceCode (now (bytes .entry)) «size_id» «matrix_id» at) × (partEnd r ≤ at + 65) ⌝ }
+    ensures { λ r. ⌜ (part r ≡ referenceCode (now (bytes .entry)) «size_id» «matrix_id» at) × (partEnd r ≤ at + 65) × (partValue r ≤ «matrix_id» / matrixStep «size_id») ⌝ }
 {
     let code = bits::unsigned_code(bytes, at);
     match code {

@@ -30,21 +30,21 @@ returns c =
     let a = u .before .before .args in
     let e = c .before .before .code .given .1 in
     let b = rw e at (u .unsigned-code .ensures .1) in
-    (c .reference-of .ensures .0 ∙ ap (referenceOf (a .size-id) (a .matrix-id) (a .at)) (sym e ∙ u .unsigned-code .ensures .0), omega (arith, b, c .reference-of .ensures .1))
+    (c .reference-of .ensures .0 ∙ ap (referenceOf (a .size-id) (a .matrix-id) (a .at)) (sym e ∙ u .unsigned-code .ensures .0), omega (arith, b, c .reference-of .ensures .1), c .reference-of .ensures .2)
 
 returns-2 : tie.Need-returns-2
 unfolding referenceCode
 returns-2 c =
     let u = c .before .before in
     let a = u .before .before .args in
-    (ap (referenceOf (a .size-id) (a .matrix-id) (a .at)) (sym (c .enum-told .given .1) ∙ u .unsigned-code .ensures .0), omega arith)
+    (ap (referenceOf (a .size-id) (a .matrix-id) (a .at)) (sym (c .enum-told .given .1) ∙ u .unsigned-code .ensures .0), omega arith, omega arith)
 
 returns-3 : tie.Need-returns-3
 unfolding referenceCode
 returns-3 c =
     let u = c .before .before in
     let a = u .before .before .args in
-    (ap (referenceOf (a .size-id) (a .matrix-id) (a .at)) (sym (c .enum-told2 .given .1) ∙ u .unsigned-code .ensures .0), omega arith)
+    (ap (referenceOf (a .size-id) (a .matrix-id) (a .at)) (sym (c .enum-told2 .given .1) ∙ u .unsigned-code .ensures .0), omega arith, omega arith)
 
 pub reference-code-spec : {M : Type 1} → statement M
 reference-code-spec =

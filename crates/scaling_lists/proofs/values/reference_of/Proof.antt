@@ -14,13 +14,13 @@ div-most : tie.Need-div-most
 div-most c = search needs
 
 returns : tie.Need-returns
-returns c = (rw (lt-ltb _ _ (rw (c .before .matrix-step .ensures .0) at (c .if1 .taken))), omega arith)
+returns c = (rw (lt-ltb _ _ (rw (c .before .matrix-step .ensures .0) at (c .if1 .taken))), omega arith, omega arith)
 
 cast-t11 : tie.Need-cast-t11
 cast-t11 c = omega (arith, c .if1 .left, c .before .before .pre, div-le-self (c .before .before .args .matrix-id) (c .before .matrix-step .result))
 
 returns-2 : tie.Need-returns-2
-returns-2 c = (rw (le-ltb _ _ (rw (c .before .matrix-step .ensures .0) at (c .if1 .left))), omega arith)
+returns-2 c = (rw (le-ltb _ _ (rw (c .before .matrix-step .ensures .0) at (c .if1 .left))), omega arith, rw (c .before .matrix-step .ensures .0) at (c .if1 .left))
 
 pub reference-of-spec : {M : Type 1} → statement M
 reference-of-spec = tie.close (tie.spec matrix-step-requires div-most returns cast-t11 returns-2)
