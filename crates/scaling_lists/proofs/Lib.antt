@@ -3,3 +3,4 @@ pub mod ValueLaws
 pub mod EntriesLaws
 pub mod NumberLaws
 pub mod ListLaws
+pub mod HeldLaws

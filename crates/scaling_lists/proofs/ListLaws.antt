@@ -6,6 +6,8 @@
 --   fill-whole               a list filled from the start of one as long
 --   default-four, -intra, -inter   which default a size and a matrix have
 --   referred-default, referred-held   the list that a reference means
+--   taken-got, taken-stop    a list that is taken over, by its reference
+--   list-taken, list-coded, list-ended   a list by its flag
 use mathlib.Core.Path.{_≡_, refl, sym, ap, ap₂, _∙_}
 use mathlib.Core.Bool.{Bool, true, false, cond, _&&_}
 use mathlib.Core.List.{List, [], _∷_}
@@ -19,8 +21,10 @@ use lib.Seq.{ext-getD}
 use Rattle.integers.specs.Lists.{tabulate}
 use Rattle.integers.proofs.ListsLaws.{tabulate-length, tabulate-getD}
 use Rattle.refusal.specs.declared.Refusal.{Refusal}
+use Rattle.refusal.specs.declared.Refusal.the-variants.{BitsEnded}
+use Rattle.bits.specs.Bits.{isThere, bitAt}
 use Rattle.scaling_lists.specs.Scan.{inside, diagonal, diagonals, upRight}
-use Rattle.scaling_lists.specs.Syntax.{Reading, FactorList, andThen, positions, blank, entriesFrom, codedEntries, dcCode, codedList, Defaults, defaultFor, listNumber, matrixStep, none, referred}
+use Rattle.scaling_lists.specs.Syntax.{Reading, FactorList, andThen, positions, blank, entriesFrom, codedEntries, dcCode, codedList, Defaults, defaultFor, listNumber, matrixStep, none, referred, referenceCode, takenOver, sizeId, matrixId, listBy, listCode}
 use Rattle.scaling_lists.specs.Syntax.Reading.{got, stop}
 use Rattle.scaling_lists.specs.Work.{Positions, heldAt, held}
 
@@ -113,3 +117,32 @@ module _ (lent : Defaults) (s m : ℕ) where
       (ap (λ (l : List ℕ). record { entries = l; dc = getD dcs from 0 }) f
       ∙ sym (tabulate-getD j (heldAt lists dcs) from none h)
       ∙ ap (λ (k : ℕ). getD (tabulate j (heldAt lists dcs)) k none) e)
+
+  module _ (bytes : List ℕ) (read : List FactorList) (at : ℕ) where
+    pub taken-got : (l : FactorList) (delta behind : ℕ) → got delta behind ≡ referenceCode bytes s m at → l ≡ referred lent read s m delta
+        → got l behind ≡ takenOver lent bytes read s m at
+    unfolding takenOver
+    taken-got l delta behind e f =
+        ap (λ (l : FactorList). got l behind) f ∙ ap (λ (r : Reading ℕ). andThen r (λ delta behind. got (referred lent read s m delta) behind)) e
+
+    pub taken-stop : (why : Refusal) → stop why ≡ referenceCode bytes s m at → stop why ≡ takenOver lent bytes read s m at
+    unfolding takenOver
+    taken-stop why e = ap (λ (r : Reading ℕ). andThen r (λ delta behind. got (referred lent read s m delta) behind)) e
+
+-- ---- a list by its flag
+module _ (lent : Defaults) (bytes : List ℕ) (j : ℕ) (lists dcs : List ℕ) (at : ℕ) where
+  by-number : listBy lent bytes (held j lists dcs) (sizeId j) (matrixId j) at ≡ listCode lent bytes (held j lists dcs) at
+  unfolding listCode held
+  by-number = rw tabulate-length
+
+  pub list-taken : isThere bytes at ≡ true → bitAt bytes at ≡ 0 → takenOver lent bytes (held j lists dcs) (sizeId j) (matrixId j) (at + 1) ≡ listCode lent bytes (held j lists dcs) at
+  unfolding listBy
+  list-taken h e = sym (rw (h, eq-eqb (bitAt bytes at) 0 e)) ∙ by-number
+
+  pub list-coded : isThere bytes at ≡ true → (bitAt bytes at ≡ 0 → ⊥) → codedList bytes (sizeId j) (at + 1) ≡ listCode lent bytes (held j lists dcs) at
+  unfolding listBy
+  list-coded h e = sym (rw (h, ne-eqb (bitAt bytes at) 0 e)) ∙ by-number
+
+  pub list-ended : isThere bytes at ≡ false → stop (BitsEnded at) ≡ listCode lent bytes (held j lists dcs) at
+  unfolding listBy
+  list-ended h = sym (rw h) ∙ by-number

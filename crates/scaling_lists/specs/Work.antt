@@ -7,10 +7,11 @@
 --   partEnd, partValue r  the offset behind what was read and what it was, else 0
 --   held j lists dcs      the first j lists that stand in two buffers
 --   grown                 one list more, by the answer and the buffers
+--   oneMore               the lists with the next one behind them, as a reading
 --   Lent                  the buffers that reading list j relies on
 --   heldUpTo              the lists as a reading, by the answer and the buffers
 use mathlib.Core.Path.{_≡_}
-use mathlib.Core.List.{List}
+use mathlib.Core.List.{List, [], _∷_, _++_}
 use Prim.Native.Nat.{ℕ, _+_, _*_, _≤_, _<_}
 use lib.ListN.{length, getD}
 use Rattle.integers.specs.Lists.{tabulate}
@@ -18,7 +19,7 @@ use Rattle.scaling_lists.specs.declared.Part.{Part}
 use Rattle.scaling_lists.specs.declared.Part.the-variants.{Value, Refused}
 use Rattle.scaling_lists.specs.declared.ReadAnswer.{ReadAnswer}
 use Rattle.scaling_lists.specs.declared.ReadAnswer.the-variants.{Read, Refused as NotRead}
-use Rattle.scaling_lists.specs.Syntax.{Reading, FactorList, Defaults}
+use Rattle.scaling_lists.specs.Syntax.{Reading, FactorList, Defaults, andThen, listCode}
 use Rattle.scaling_lists.specs.Syntax.Reading.{got, stop}
 
 abbrev pub defaults : List ℕ → List ℕ → List ℕ → Defaults
@@ -61,6 +62,9 @@ heldUpTo lists dcs (NotRead e) = stop e
 abbrev pub grown : ℕ → List ℕ → List ℕ → Part → Reading (List FactorList)
 grown j lists dcs (Value v behind) = got (held (j + 1) lists dcs) behind
 grown j lists dcs (Refused e) = stop e
+
+abbrev pub oneMore : Defaults → List ℕ → List FactorList → ℕ → Reading (List FactorList)
+oneMore lent bytes read at = andThen (listCode lent bytes read at) (λ l behind. got (read ++ (l ∷ [])) behind)
 
 pub record Lent (j : ℕ) (four intra inter lists dcs : List ℕ) : Type 0 where
   pub inside : j < 20

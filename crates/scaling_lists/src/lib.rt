@@ -1,9 +1,11 @@
 // Scaling lists read from the bitstream: the syntax of H.265 clause 7.3.4.
 use refusal::Refusal;
 
+mod coded;
 mod list;
 mod lists;
 mod scan;
+mod taken;
 mod values;
 
 // How many bits were read.

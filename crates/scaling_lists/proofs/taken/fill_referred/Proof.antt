@@ -1,4 +1,4 @@
--- `scaling_lists::list::fill_referred` meets its contract: the default for delta 0, else a list that is held.
+-- `scaling_lists::taken::fill_referred` meets its contract: the default for delta 0, else a list that is held.
 use mathlib.Core.Path.{_≡_, ap, ap₂, _∙_}
 use mathlib.Core.List.{List}
 use Prim.Native.Nat.{ℕ, _+_, _*_}
@@ -9,8 +9,8 @@ use Rattle.scaling_lists.specs.Syntax.{sizeId, matrixId, defaultFor}
 use Rattle.scaling_lists.specs.Work.{defaults}
 use Rattle.scaling_lists.proofs.ListLaws.{referred-default, referred-held}
 use borrow.Author.Needs.{needs}
-use Rattle.scaling_lists.proofs.list.fill_referred.Statement.{statement}
-use Rattle.scaling_lists.proofs.list.fill_referred.Tie as tie
+use Rattle.scaling_lists.proofs.taken.fill_referred.Statement.{statement}
+use Rattle.scaling_lists.proofs.taken.fill_referred.Tie as tie
 
 matrix-of-requires : tie.Need-matrix-of-requires
 matrix-of-requires c κs = search needs

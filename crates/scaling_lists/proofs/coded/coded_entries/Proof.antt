@@ -1,9 +1,9 @@
--- `scaling_lists::list::coded_entries` meets its contract: the entries that were read, with the DC that was given.
+-- `scaling_lists::coded::coded_entries` meets its contract: the entries that were read, with the DC that was given.
 use native.Mathlib.Omega.{arith}
 use Rattle.scaling_lists.proofs.ListLaws.{coded-got, coded-stop}
 use borrow.Author.Needs.{needs}
-use Rattle.scaling_lists.proofs.list.coded_entries.Statement.{statement}
-use Rattle.scaling_lists.proofs.list.coded_entries.Tie as tie
+use Rattle.scaling_lists.proofs.coded.coded_entries.Statement.{statement}
+use Rattle.scaling_lists.proofs.coded.coded_entries.Tie as tie
 
 scanned-requires : tie.Need-scanned-requires
 scanned-requires c κs = search needs

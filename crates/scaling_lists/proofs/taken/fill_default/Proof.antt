@@ -1,10 +1,10 @@
--- `scaling_lists::list::fill_default` meets its contract: a default of 64 entries fills the 64.
+-- `scaling_lists::taken::fill_default` meets its contract: a default of 64 entries fills the 64.
 use mathlib.Core.Path.{_∙_}
 use native.Mathlib.Omega.{arith}
 use Rattle.scaling_lists.proofs.ListLaws.{fill-whole, default-four, default-intra, default-inter}
 use borrow.Author.Needs.{needs}
-use Rattle.scaling_lists.proofs.list.fill_default.Statement.{statement}
-use Rattle.scaling_lists.proofs.list.fill_default.Tie as tie
+use Rattle.scaling_lists.proofs.taken.fill_default.Statement.{statement}
+use Rattle.scaling_lists.proofs.taken.fill_default.Tie as tie
 
 fill-requires : tie.Need-fill-requires
 fill-requires c κs = search needs

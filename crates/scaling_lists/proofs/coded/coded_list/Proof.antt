@@ -1,10 +1,10 @@
--- `scaling_lists::list::coded_list` meets its contract: from 16×16 on DC comes first.
+-- `scaling_lists::coded::coded_list` meets its contract: from 16×16 on DC comes first.
 use mathlib.Core.Path.{_∙_}
 use native.Mathlib.Omega.{arith}
 use Rattle.scaling_lists.proofs.ListLaws.{coded-plain, coded-dc, coded-dc-stop}
 use borrow.Author.Needs.{needs}
-use Rattle.scaling_lists.proofs.list.coded_list.Statement.{statement}
-use Rattle.scaling_lists.proofs.list.coded_list.Tie as tie
+use Rattle.scaling_lists.proofs.coded.coded_list.Statement.{statement}
+use Rattle.scaling_lists.proofs.coded.coded_list.Tie as tie
 
 coded-entries-requires : tie.Need-coded-entries-requires
 coded-entries-requires c κs = search needs

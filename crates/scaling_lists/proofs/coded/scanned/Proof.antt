@@ -1,4 +1,4 @@
--- `scaling_lists::list::scanned` meets its contract: the table of the size is its positions.
+-- `scaling_lists::coded::scanned` meets its contract: the table of the size is its positions.
 use mathlib.Core.Path.{_≡_, refl, sym, ap, ap₂, _∙_}
 use mathlib.Core.List.{List}
 use Prim.Native.Nat.{ℕ}
@@ -8,8 +8,8 @@ use Rattle.scaling_lists.specs.Syntax.{entriesFrom}
 use Rattle.scaling_lists.specs.Work.{Positions}
 use Rattle.scaling_lists.proofs.ListLaws.{positions-four, positions-eight, four-inside, eight-inside}
 use borrow.Author.Needs.{needs}
-use Rattle.scaling_lists.proofs.list.scanned.Statement.{statement}
-use Rattle.scaling_lists.proofs.list.scanned.Tie as tie
+use Rattle.scaling_lists.proofs.coded.scanned.Statement.{statement}
+use Rattle.scaling_lists.proofs.coded.scanned.Tie as tie
 
 up-right-4-requires : tie.Need-up-right-4-requires
 up-right-4-requires c κs = search needs

@@ -1,12 +1,12 @@
--- `scaling_lists::list::number_of` meets its contract: the reference is the definition's, and stands before the list.
+-- `scaling_lists::taken::number_of` meets its contract: the reference is the definition's, and stands before the list.
 use mathlib.Core.Path.{_≡_}
 use Prim.Native.Nat.{_*_, _≤_}
 use native.Mathlib.Omega.{arith}
 use Rattle.scaling_lists.specs.Syntax.{sizeId}
 use Rattle.scaling_lists.proofs.NumberLaws.{matrixId-bound, reference-far, number-before, number-eq}
 use borrow.Author.Needs.{needs}
-use Rattle.scaling_lists.proofs.list.number_of.Statement.{statement}
-use Rattle.scaling_lists.proofs.list.number_of.Tie as tie
+use Rattle.scaling_lists.proofs.taken.number_of.Statement.{statement}
+use Rattle.scaling_lists.proofs.taken.number_of.Tie as tie
 
 matrix-step-requires : tie.Need-matrix-step-requires
 matrix-step-requires c κs = search needs

@@ -1,10 +1,10 @@
--- `scaling_lists::list::matrix_of` meets its contract: no matrixId is above 5.
+-- `scaling_lists::taken::matrix_of` meets its contract: no matrixId is above 5.
 use Prim.Native.Nat.{_*_, _%_}
 use native.Mathlib.Omega.{arith}
 use Rattle.scaling_lists.proofs.NumberLaws.{matrixId-eq, matrixId-bound}
 use borrow.Author.Needs.{needs}
-use Rattle.scaling_lists.proofs.list.matrix_of.Statement.{statement}
-use Rattle.scaling_lists.proofs.list.matrix_of.Tie as tie
+use Rattle.scaling_lists.proofs.taken.matrix_of.Statement.{statement}
+use Rattle.scaling_lists.proofs.taken.matrix_of.Tie as tie
 
 matrix-step-requires : tie.Need-matrix-step-requires
 matrix-step-requires c κs = search needs
