@@ -48,7 +48,7 @@ module _ (j : ℕ) (lists dcs es : List ℕ) (dc : ℕ) (long : length es ≡ 64
       ap₂ (λ (l : List ℕ) (n : ℕ). record { entries = l; dc = n })
       (ext-getD 0 (tabulate 64 (λ i. getD lists′ (64 * j + i) 0)) es (tabulate-length 64 _ ∙ sym long)
       (λ i b. tabulate-getD 64 (λ i. getD lists′ (64 * j + i) 0) i 0 (rw tabulate-length at b)
-          ∙ paste-inside lists (64 * j) es (length es) i (omega arith) (omega arith) (let b′ : i < 64 = rw tabulate-length at b in omega arith)))
+      ∙ paste-inside lists (64 * j) es (length es) i (omega arith) (omega arith) (let b′ : i < 64 = rw tabulate-length at b in omega arith)))
       (getD-set-same dcs j dc 0 dcs-room)
 
   pub held-more : held (j + 1) (paste lists (64 * j) es (length es)) (set dcs j dc) ≡ held j lists dcs ++ (record { entries = es; dc = dc } ∷ [])

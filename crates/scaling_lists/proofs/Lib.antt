@@ -4,3 +4,4 @@ pub mod EntriesLaws
 pub mod NumberLaws
 pub mod ListLaws
 pub mod HeldLaws
+pub mod ReaderLaws

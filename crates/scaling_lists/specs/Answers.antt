@@ -1,6 +1,6 @@
 -- What reading scaling lists hands back. Change request R-5, and rows 5, 7 and 14 to 16 of the table.
 --   readOutcome        number, place, and how many bits were read
---   defaultRefused     5: a default has not 64 entries
+--   lengthsRefused     5: a default has not 64 entries
 --   roomRefused        7: fewer than 20 × 64 entries or fewer than 20 DC numbers have room
 --   entryAt read i     entry i % 64 of list i / 64
 --   dcAt read j        the DC number of list j
@@ -26,8 +26,8 @@ abbrev pub readOutcome : ReadAnswer → Outcome ℕ
 readOutcome (Read bits) = accepted bits
 readOutcome (Refused e) = refused 0 e
 
-unfoldable pub defaultRefused : Defaults → Bool
-defaultRefused lent = listRefused (length (lent .four)) || (listRefused (length (lent .intra)) || listRefused (length (lent .inter)))
+unfoldable pub lengthsRefused : ℕ → ℕ → ℕ → Bool
+lengthsRefused four intra inter = listRefused four || (listRefused intra || listRefused inter)
 
 unfoldable pub roomRefused : ℕ → ℕ → Bool
 roomRefused lists dcs = ltb lists 1280 || ltb dcs 20
@@ -53,7 +53,7 @@ written lists dcs (stop e) = untouched lists dcs e
 
 unfoldable pub listsRead : Defaults → List ℕ → List ℕ → List ℕ → ListsRead
 listsRead lent bytes lists dcs =
-    cond (defaultRefused lent) (untouched lists dcs ListLengthInvalid)
+    cond (lengthsRefused (length (lent .four)) (length (lent .intra)) (length (lent .inter))) (untouched lists dcs ListLengthInvalid)
     (cond (roomRefused (length lists) (length dcs)) (untouched lists dcs OutputTooShort)
     (written lists dcs (scalingListData lent bytes)))
 

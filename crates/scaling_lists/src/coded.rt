@@ -22,7 +22,14 @@ fn scanned(bytes: &[u8], size_id: usize, next: u8, at: usize, entries: &mut [u8]
 }
 
 // The same as a list, with a DC that is known.
-fn coded_entries(bytes: &[u8], size_id: usize, dc: u8, next: u8, at: usize, entries: &mut [u8]) -> Part
+fn coded_entries(
+    bytes: &[u8],
+    size_id: usize,
+    dc: u8,
+    next: u8,
+    at: usize,
+    entries: &mut [u8],
+) -> Part
     requires { ⌜ (now entries ≡ blank) × (at ≤ 2305843009213693952) ⌝ }
     ensures { λ r. ⌜ (listed (now (entries .exit)) r ≡ codedEntries (now (bytes .entry)) «size_id» dc next at) × (partEnd r ≤ at + 4160) ⌝ }
 {

@@ -4,9 +4,12 @@ use refusal::Refusal;
 mod coded;
 mod list;
 mod lists;
+mod reader;
 mod scan;
 mod taken;
 mod values;
+
+pub use reader::read_scaling_lists;
 
 // How many bits were read.
 pub enum ReadAnswer {

@@ -28,17 +28,7 @@ fn read_list(
 {
     if bits::is_there(bytes, at) {
         if bits::bit(bytes, at) == 0 {
-            return taken::taken_over(
-                bytes,
-                at + 1,
-                j,
-                four,
-                intra,
-                inter,
-                lists,
-                dcs,
-                entries,
-            );
+            return taken::taken_over(bytes, at + 1, j, four, intra, inter, lists, dcs, entries);
         }
         return coded::coded_list(bytes, j / 6, at + 1, entries);
     }
@@ -60,17 +50,7 @@ pub(crate) fn read_next(
     ensures { λ r. ⌜ (grown j (now (lists .exit)) (now (dcs .exit)) r ≡ oneMore (defaults (now (four .entry)) (now (intra .entry)) (now (inter .entry))) (now (bytes .entry)) (held j (now (lists .entry)) (now (dcs .entry))) at) × (partEnd r ≤ at + 4226) ⌝ }
 {
     let mut entries = [0u8; 64];
-    let read = read_list(
-        bytes,
-        at,
-        j,
-        four,
-        intra,
-        inter,
-        lists,
-        dcs,
-        &mut entries,
-    );
+    let read = read_list(bytes, at, j, four, intra, inter, lists, dcs, &mut entries);
     match read {
         Part::Value(dc, behind) => {
             lists::put(&entries, lists, 64 * j);

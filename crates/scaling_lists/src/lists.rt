@@ -34,7 +34,13 @@ pub(crate) fn put(from: &[u8], to: &mut [u8], base: usize)
 }
 
 // The entries of a coded list: a delta for each position.
-pub(crate) fn entries_from(bytes: &[u8], scan: &[u8], first: u8, start: usize, entries: &mut [u8]) -> Part
+pub(crate) fn entries_from(
+    bytes: &[u8],
+    scan: &[u8],
+    first: u8,
+    start: usize,
+    entries: &mut [u8],
+) -> Part
     requires { ⌜ Positions (now scan) (length (now entries)) × (start ≤ 2305843009213693952) ⌝ }
     ensures { λ r. ⌜ (filled (now (entries .exit)) r ≡ entriesFrom (now (bytes .entry)) (now (scan .entry)) first start (now (entries .entry))) × (partEnd r ≤ start + 65 * length (now (scan .entry))) ⌝ }
 {

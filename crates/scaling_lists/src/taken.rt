@@ -9,7 +9,14 @@ use crate::lists;
 use crate::values;
 
 // The default list of a size and a matrix.
-fn fill_default(size_id: usize, matrix_id: usize, four: &[u8], intra: &[u8], inter: &[u8], entries: &mut [u8])
+fn fill_default(
+    size_id: usize,
+    matrix_id: usize,
+    four: &[u8],
+    intra: &[u8],
+    inter: &[u8],
+    entries: &mut [u8],
+)
     requires { ⌜ (length (now four) ≡ 64) × (length (now intra) ≡ 64) × (length (now inter) ≡ 64) × (length (now entries) ≡ 64) ⌝ }
     ensures { λ r. ⌜ now (entries .exit) ≡ defaultFor (defaults (now (four .entry)) (now (intra .entry)) (now (inter .entry))) «size_id» «matrix_id» ⌝ }
 {
@@ -83,16 +90,7 @@ pub(crate) fn taken_over(
     let read = values::reference_code(bytes, j / 6, matrix_of(j), at);
     match read {
         Part::Value(delta, behind) => {
-            let dc = fill_referred(
-                j,
-                delta as usize,
-                four,
-                intra,
-                inter,
-                lists,
-                dcs,
-                entries,
-            );
+            let dc = fill_referred(j, delta as usize, four, intra, inter, lists, dcs, entries);
             Part::Value(dc, behind)
         }
         Part::Refused(why) => Part::Refused(why),
