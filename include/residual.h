@@ -34,6 +34,13 @@ typedef struct {
     int32_t value;
 } residual_signed_answered;
 
+/* How many bits were read. */
+typedef struct {
+    uint32_t number;
+    size_t place;
+    size_t bits;
+} residual_bits_answered;
+
 typedef struct {
     uint32_t number;
     size_t place;
@@ -101,6 +108,12 @@ residual_answered residual_dequantize_transform_skip_into_scalar_i16(const int32
     bool extended_precision, int16_t *out, size_t out_len);
 residual_answered residual_dequantize_transform_skip_scaled_into_scalar_i16(const int32_t *levels, size_t levels_len, size_t n, int32_t qp_prime, uint8_t bit_depth,
     bool extended_precision, const uint8_t *list, size_t list_len, uint8_t dc, int16_t *out, size_t out_len);
+
+/* Scaling lists read from the bitstream: scaling list data of H.265, clause 7.3.4, from the high bit of the first byte on. Each default has 64 entries, in row order.
+ * List j of the 20 (six of sizeId 0, six of 1, six of 2, and matrixId 0 and 3 of 32x32) goes to lists[64 * j] and on, in row order, and its DC to dcs[j]. */
+residual_bits_answered residual_read_scaling_lists(const uint8_t *bytes, size_t bytes_len, const uint8_t *default_4x4, size_t default_4x4_len,
+    const uint8_t *default_intra, size_t default_intra_len, const uint8_t *default_inter, size_t default_inter_len, uint8_t *lists, size_t lists_len,
+    uint8_t *dcs, size_t dcs_len);
 
 /* Inverse transforms: the DCT of a block whose columns from nx on are read as zero, and the DST of size 4. Coefficients have the width of the output. */
 residual_answered residual_inv_transform_into_scalar(const int32_t *coeff, size_t coeff_len, size_t n, uint8_t bit_depth, size_t nx, int32_t *out,

@@ -158,6 +158,22 @@ static void pictures(void) {
 }
 #endif
 
+#ifdef has_lists
+/* Twenty defaults, two bits each, but for the first list: its entries are 9 everywhere, sixteen deltas of which the first is 1. */
+static void lists(void) {
+    uint8_t four[64], intra[64], inter[64], out[1281], dcs[21];
+    memset(four, 16, 64), memset(intra, 17, 64), memset(inter, 18, 64), memset(out, 7, sizeof out), memset(dcs, 7, sizeof dcs);
+    /* 1 010 then fifteen 1s, then 01 nineteen times */
+    uint8_t bytes[8] = {0xaf, 0xff, 0xea, 0xaa, 0xaa, 0xaa, 0xaa, 0x80};
+    residual_bits_answered a = residual_read_scaling_lists(bytes, 8, four, 64, intra, 64, inter, 64, out, 1281, dcs, 21);
+    bool same = a.number == 0 && a.place == 0 && a.bits == 57 && out[0] == 9 && out[15] == 9 && out[16] == 0 && out[63] == 0 && out[64] == 16 && out[6 * 64] == 17 && out[9 * 64] == 18 && out[18 * 64 + 63] == 17 && out[1279] == 18;
+    expect(same && out[1280] == 7 && dcs[0] == 16 && dcs[19] == 16 && dcs[20] == 7, "read_scaling_lists");
+    out[0] = 5;
+    a = residual_read_scaling_lists(bytes, 0, four, 64, intra, 64, inter, 64, out, 1281, dcs, 21);
+    expect(a.number == 14 && a.place == 0 && a.bits == 0 && out[0] == 5, "read_scaling_lists, refused");
+}
+#endif
+
 int main(void) {
     quantities();
 #ifdef has_scaling
@@ -171,6 +187,9 @@ int main(void) {
 #endif
 #ifdef has_picture
     pictures();
+#endif
+#ifdef has_lists
+    lists();
 #endif
     printf("header: %d calls, %d failed\n", called, failed);
     return failed != 0;

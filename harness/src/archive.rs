@@ -254,3 +254,29 @@ pub mod picture {
         unsafe { picture_checksum(width, height, stride, bit_depth, plane.as_ptr(), plane.len()) }
     }
 }
+
+#[cfg(has_lists)]
+pub mod lists {
+    #[repr(C)]
+    #[derive(Clone, Copy, PartialEq, Eq, Debug, Default)]
+    pub struct BitsAnswered {
+        pub number: u32,
+        pub place: usize,
+        pub bits: usize,
+    }
+
+    unsafe extern "C" {
+        fn residual_read_scaling_lists(
+            bytes: *const u8, bytes_len: usize, four: *const u8, four_len: usize, intra: *const u8, intra_len: usize, inter: *const u8, inter_len: usize, lists: *mut u8, lists_len: usize,
+            dcs: *mut u8, dcs_len: usize,
+        ) -> BitsAnswered;
+    }
+
+    pub fn read_scaling_lists(bytes: &[u8], four: &[u8], intra: &[u8], inter: &[u8], lists: &mut [u8], dcs: &mut [u8]) -> BitsAnswered {
+        unsafe {
+            residual_read_scaling_lists(
+                bytes.as_ptr(), bytes.len(), four.as_ptr(), four.len(), intra.as_ptr(), intra.len(), inter.as_ptr(), inter.len(), lists.as_mut_ptr(), lists.len(), dcs.as_mut_ptr(), dcs.len(),
+            )
+        }
+    }
+}

@@ -1,9 +1,11 @@
-//! Compares the archive of the crate c_api with the Rust that was ported, on every exported function; the functions of pictures, which were not ported, with a plain writing of their rules.
-#![cfg_attr(not(all(has_scaling, has_transform, has_edits, has_picture)), allow(dead_code, unused_mut))]
+//! Compares the archive of the crate c_api with the Rust that was ported, on every exported function; the functions of pictures and of scaling lists, which were not ported, with a plain writing of their rules.
+#![cfg_attr(not(all(has_scaling, has_transform, has_edits, has_lists, has_picture)), allow(dead_code, unused_mut))]
 mod archive;
 mod blocks;
 #[cfg(has_edits)]
 mod edits;
+#[cfg(has_lists)]
+mod lists;
 mod parameters;
 #[cfg(has_picture)]
 mod picture;
@@ -64,6 +66,10 @@ fn differential(arguments: &Arguments) -> bool {
     {
         planned += picture::FUNCTIONS;
     }
+    #[cfg(has_lists)]
+    {
+        planned += lists::FUNCTIONS;
+    }
     let mut tally = tally::Tally::new(planned);
     parameters::compare(&mut tally, arguments.seed, arguments.cases);
     #[cfg(has_scaling)]
@@ -74,6 +80,8 @@ fn differential(arguments: &Arguments) -> bool {
     edits::compare(&mut tally, arguments.seed, arguments.cases);
     #[cfg(has_picture)]
     picture::compare(&mut tally, arguments.seed, arguments.cases);
+    #[cfg(has_lists)]
+    lists::compare(&mut tally, arguments.seed, arguments.cases);
     println!("seed {}, {} random cases a function", arguments.seed, arguments.cases);
     tally.finish()
 }

@@ -3,6 +3,7 @@
 --   ofNumber          of a call that hands back one unsigned number
 --   ofSigned          one signed number
 --   ofQpPrime         the same, where it is QP′
+--   ofBits            how many bits were read
 --   ofDequant         the numbers by which a block is scaled
 --   ofTransformSkip   the same with the shift of transform skip and its rounding
 use Prim.Native.Nat.{ℕ}
@@ -14,6 +15,7 @@ use Rattle.parameters.specs.declared.TransformSkipParams.{TransformSkipParams}
 use Rattle.c_api.specs.declared.Answered.{Answered}
 use Rattle.c_api.specs.declared.NumberAnswered.{NumberAnswered}
 use Rattle.c_api.specs.declared.SignedAnswered.{SignedAnswered}
+use Rattle.c_api.specs.declared.BitsAnswered.{BitsAnswered}
 use Rattle.c_api.specs.declared.DequantAnswered.{DequantAnswered}
 use Rattle.c_api.specs.declared.TransformSkipAnswered.{TransformSkipAnswered}
 
@@ -28,6 +30,9 @@ ofSigned r = record { number = r .number; place = r .place; value = r .value }
 
 abbrev pub ofQpPrime : SignedAnswered → Outcome QpPrime
 ofQpPrime r = record { number = r .number; place = r .place; value = record { 0 = r .value } }
+
+abbrev pub ofBits : BitsAnswered → Outcome ℕ
+ofBits r = record { number = r .number; place = r .place; value = r .bits }
 
 abbrev pub ofDequant : DequantAnswered → Outcome DequantParams
 ofDequant r =

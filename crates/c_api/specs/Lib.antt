@@ -2,3 +2,4 @@ pub mod Answers
 pub mod Blocks
 pub mod Edits
 pub mod Pictures
+pub mod Lists

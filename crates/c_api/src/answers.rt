@@ -5,8 +5,10 @@ ghost use Rattle.parameters.specs.Answers.{numberOutcome, qpPrimeOutcome, dequa
 ghost use Rattle.scaling.specs.Answers.{factorOutcome, levelOutcome};
 ghost use Rattle.picture.specs.Answers.{checksumOutcome};
 ghost use Rattle.rounding.specs.Bound.{boundOutcome};
-ghost use Rattle.c_api.specs.Answers.{ofAnswered, ofNumber, ofSigned, ofQpPrime, ofDequant, ofTransformSkip};
+ghost use Rattle.scaling_lists.specs.Answers.{readOutcome};
+ghost use Rattle.c_api.specs.Answers.{ofAnswered, ofNumber, ofSigned, ofQpPrime, ofBits, ofDequant, ofTransformSkip};
 use crate::Answered;
+use crate::BitsAnswered;
 use crate::DequantAnswered;
 use crate::NumberAnswered;
 use crate::SignedAnswered;
@@ -21,6 +23,7 @@ use refusal::Refusal;
 use rounding::BoundAnswer;
 use scaling::FactorAnswer;
 use scaling::LevelAnswer;
+use scaling_lists::ReadAnswer;
 
 pub(crate) fn refused(why: Refusal) -> Answered
     ensures { λ r. ⌜ ofAnswered r ≡ refusedWith tt why ⌝ }
@@ -221,6 +224,26 @@ pub(crate) fn bound_answered(answer: BoundAnswer) -> NumberAnswered
                 number: no.number,
                 place: no.place,
                 value: 0,
+            }
+        }
+    }
+}
+
+pub(crate) fn read_answered(answer: ReadAnswer) -> BitsAnswered
+    ensures { λ r. ⌜ ofBits r ≡ readOutcome answer ⌝ }
+{
+    match answer {
+        ReadAnswer::Read(bits) => BitsAnswered {
+            number: 0,
+            place: 0,
+            bits,
+        },
+        ReadAnswer::Refused(why) => {
+            let no = refused(why);
+            BitsAnswered {
+                number: no.number,
+                place: no.place,
+                bits: 0,
             }
         }
     }

@@ -2,6 +2,7 @@
 mod answers;
 mod edits;
 mod levels;
+mod lists;
 mod pictures;
 mod quantities;
 mod transforms;
@@ -20,6 +21,7 @@ pub use levels::residual_dequantize_transform_skip_scaled_into_scalar_i16;
 pub use levels::residual_dequantize_transform_skip_scaled_into_scalar_i32;
 pub use levels::residual_scale_level;
 pub use levels::residual_scaling_coeff;
+pub use lists::residual_read_scaling_lists;
 pub use pictures::picture_checksum;
 pub use pictures::picture_rebuild_block;
 pub use quantities::residual_dequant_params;
@@ -54,6 +56,14 @@ pub struct SignedAnswered {
     pub number: u32,
     pub place: usize,
     pub value: i32,
+}
+
+// How many bits were read.
+#[repr(C)]
+pub struct BitsAnswered {
+    pub number: u32,
+    pub place: usize,
+    pub bits: usize,
 }
 
 #[repr(C)]

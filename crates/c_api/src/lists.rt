@@ -1,0 +1,29 @@
+// Scaling lists read from the bitstream.
+ghost use Rattle.scaling_lists.specs.Answers.{listsRead};
+ghost use Rattle.scaling_lists.specs.Work.{defaults};
+ghost use Rattle.c_api.specs.Lists.{Reads};
+use crate::BitsAnswered;
+use crate::answers;
+
+// The 20 lists of scaling list data, and their DC numbers.
+#[no_mangle]
+pub extern "C" fn residual_read_scaling_lists(
+    bytes: &[u8],
+    default_4x4: &[u8],
+    default_intra: &[u8],
+    default_inter: &[u8],
+    lists: &mut [u8],
+    dcs: &mut [u8],
+) -> BitsAnswered
+    ensures { λ r. ⌜ Reads r (now (lists .exit)) (now (dcs .exit)) (listsRead (defaults (now («default_4x4» .entry)) (now («default_intra» .entry)) (now («default_inter» .entry))) (now (bytes .entry)) (now (lists .entry)) (now (dcs .entry))) ⌝ }
+{
+    let answer = scaling_lists::read_scaling_lists(
+        bytes,
+        default_4x4,
+        default_intra,
+        default_inter,
+        lists,
+        dcs,
+    );
+    answers::read_answered(answer)
+}
