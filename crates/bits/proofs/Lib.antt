@@ -1,3 +1,4 @@
 -- Laws of bits and of codes.
 pub mod BitsLaws
 pub mod ExpGolombLaws
+pub mod Examples

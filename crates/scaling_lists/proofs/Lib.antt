@@ -5,3 +5,4 @@ pub mod NumberLaws
 pub mod ListLaws
 pub mod HeldLaws
 pub mod ReaderLaws
+pub mod Examples
