@@ -4,9 +4,8 @@
 use mathlib.Core.Path.{_≡_, refl}
 use mathlib.Core.List.{List, [], _∷_, map}
 use Prim.Native.Nat.{ℕ}
-use lib.IntN.{ℤ, pos, negsuc}
+use lib.IntN.{pos, negsuc}
 use Rattle.integers.specs.Search.{firstWhere}
-use Rattle.bits.specs.declared.Code.{Code}
 use Rattle.bits.specs.declared.Code.the-variants.{Number, TooLong, Ended}
 use Rattle.bits.specs.Bits.{isThere, bitAt, bitsNumber}
 use Rattle.bits.specs.ExpGolomb.{leadingZeros, codeOf, unsignedCode, signedNumber}

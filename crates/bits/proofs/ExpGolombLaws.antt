@@ -1,12 +1,11 @@
 -- Which code stands at an offset, by its leading zeros.
 --   code-number, code-cut   at most 32 zeros: a number, or the bits end in it
 --   code-long, code-lost    more of them: too long, or the bits end among them
-use mathlib.Core.Path.{_≡_, refl, sym, ap, ap₂, _∙_}
+use mathlib.Core.Path.{_≡_, sym, ap, ap₂, _∙_}
 use mathlib.Core.Bool.{true, false}
 use mathlib.Core.List.{List}
 use Prim.Native.Nat.{ℕ, _+_, _-_, _*_, _^_, _≤_, _<_}
 use borrow.Author.Tests.{lt-ltb, le-ltb}
-use Rattle.bits.specs.declared.Code.{Code}
 use Rattle.bits.specs.declared.Code.the-variants.{Number, TooLong, Ended}
 use Rattle.bits.specs.Bits.{isThere, bitsNumber}
 use Rattle.bits.specs.ExpGolomb.{leadingZeros, codeOf, unsignedCode}

@@ -1,6 +1,6 @@
 // Scaling lists read from the bitstream.
 ghost use Rattle.scaling_lists.specs.Answers.{listsRead};
-ghost use Rattle.scaling_lists.specs.Work.{defaults};
+ghost use Rattle.scaling_lists.specs.Syntax.{defaults};
 ghost use Rattle.c_api.specs.Lists.{Reads};
 use crate::BitsAnswered;
 use crate::answers;

@@ -3,7 +3,7 @@
 --   Copied, copied-…   the invariant of a loop that puts one list into another, and its needs
 --   Entries, entries-…   the invariant of the loop over a coded list: what is left, from here, is what the whole gives; and its needs
 use mathlib.Core.Path.{_≡_, refl, sym, ap, _∙_}
-use mathlib.Core.List.{List, [], _∷_, _++_, append-nil}
+use mathlib.Core.List.{List, _++_, append-nil}
 use Prim.Native.Nat.{ℕ, suc, _+_, _*_, _≤_, _<_}
 use native.Mathlib.Numerals.{add-one}
 use native.Mathlib.Omega.{arith}

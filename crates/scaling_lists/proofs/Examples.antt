@@ -3,7 +3,7 @@
 --   defaults-hold    twenty times `0 1`: every list a default, 40 bits
 --   missing-holds    a reference from the first list of 32×32, whose code begins at bit 37
 use mathlib.Core.Path.{_≡_, refl}
-use mathlib.Core.List.{List, [], _∷_, _++_, map}
+use mathlib.Core.List.{List, [], _∷_, _++_}
 use Prim.Native.Nat.{ℕ, _+_, _*_}
 use lib.ListN.{replicate}
 use Rattle.integers.specs.Lists.{tabulateFrom, tabulate}
@@ -12,7 +12,7 @@ use Rattle.refusal.specs.declared.Refusal.the-variants.{ReferenceMissing}
 use Rattle.bits.specs.Bits.{isThere, bitAt, bitsNumber}
 use Rattle.bits.specs.ExpGolomb.{leadingZeros, codeOf, unsignedCode, signedNumber}
 use Rattle.scaling_lists.specs.Scan.{inside, diagonal, diagonals, upRight}
-use Rattle.scaling_lists.specs.Syntax.{Reading, FactorList, Defaults, matrixStep, sizeId, matrixId, listNumber, defaultFor, outsideOf, added, nextCoef, deltaCode, entriesFrom, dcCode, positions, codedEntries, codedList, referenceCode, referred, takenOver, listBy, listCode, listsFrom, scalingListData}
+use Rattle.scaling_lists.specs.Syntax.{FactorList, Defaults, matrixStep, sizeId, matrixId, listNumber, defaultFor, outsideOf, added, nextCoef, deltaCode, entriesFrom, dcCode, positions, codedEntries, codedList, referenceCode, referred, takenOver, listBy, listCode, listsFrom, scalingListData}
 use Rattle.scaling_lists.specs.Syntax.Reading.{got, stop}
 
 -- 10 × sizeId + matrixId

@@ -8,8 +8,8 @@
 --   referred-default, referred-held   the list that a reference means
 --   taken-got, taken-stop    a list that is taken over, by its reference
 --   list-taken, list-coded, list-ended   a list by its flag
-use mathlib.Core.Path.{_≡_, refl, sym, ap, ap₂, _∙_}
-use mathlib.Core.Bool.{Bool, true, false, cond, _&&_}
+use mathlib.Core.Path.{_≡_, sym, ap, _∙_}
+use mathlib.Core.Bool.{Bool, true, false, _&&_}
 use mathlib.Core.List.{List, [], _∷_}
 use Prim.Native.Nat.{ℕ, zero, suc, _+_, _-_, _*_, _≤_, _<_}
 use native.Mathlib.Nat.{not-suc-le-zero, zero-add}

@@ -3,7 +3,7 @@
 --   matrixId-bound   no matrixId is above 5
 --   reference-far    a reference reaches no farther than to matrixId 0
 --   number-before    the list that it means stands before this one
-use mathlib.Core.Path.{_≡_, refl, sym, ap, _∙_}
+use mathlib.Core.Path.{_≡_, refl, ap}
 use mathlib.Core.Bool.{Bool, true, false}
 use mathlib.Core.Logic.{_⊎_, inl, inr, ⊎-elim}
 use Prim.Native.Nat.{ℕ, _+_, _-_, _*_, _/_, _%_, _≤_, _<_}

@@ -6,18 +6,16 @@
 use mathlib.Core.Path.{_≡_, refl, sym, ap, ap₂, _∙_, subst}
 use mathlib.Core.Bool.{Bool, true, false, not, _||_}
 use mathlib.Core.List.{List, [], _∷_, _++_}
-use Prim.Native.Nat.{ℕ, zero, suc, _+_, _-_, _*_, _/_, _%_, _≤_, _<_}
-use native.Mathlib.Numerals.{add-one}
+use Prim.Native.Nat.{ℕ, suc, _+_, _-_, _*_, _/_, _%_, _≤_, _<_}
 use native.Mathlib.Omega.{arith}
 use borrow.Author.Tests.{eqb-true, ltb-false}
 use lib.Dec.{T, eqb, ltb}
-use lib.ListN.{length, getD, take, drop}
+use lib.ListN.{length, getD, drop}
 use lib.Seq.{ext-getD, take-length, paste}
 use Rattle.integers.specs.Lists.{tabulate, tabulateFrom, overwrite}
 use Rattle.integers.proofs.ListsLaws.{tabulate-length, tabulate-getD}
 use Rattle.refusal.specs.declared.Refusal.{Refusal}
 use Rattle.refusal.specs.Condition.{listRefused}
-use Rattle.scaling_lists.specs.declared.ReadAnswer.{ReadAnswer}
 use Rattle.scaling_lists.specs.declared.ReadAnswer.the-variants.{Read, Refused}
 use Rattle.scaling_lists.specs.Syntax.{Reading, FactorList, Defaults, none, andThen, listCode, listsFrom, scalingListData}
 use Rattle.scaling_lists.specs.Syntax.Reading.{got, stop}

@@ -1,18 +1,24 @@
 -- Scaling list data: H.265 clause 7.3.4 with its meaning in 7.4.5, as reading from an offset in bits on. Change request R-5.
 -- Letters: s sizeId, m matrixId, at the offset of the code that is read, read the lists that stand before this one.
---   Reading A             a value and the offset behind it, or why reading stopped
+--   Reading A             a value and the offset behind it, or why reading stopped; andThen reads on
 --   FactorList            one list: entries in row order, and the DC number
 --   Defaults              the default lists that are lent: Table 7-5, and Table 7-6 for intra (m < 3) and for inter
 --   sizeId, matrixId j    of the list that j others stand before: six a size, and at 32×32 every third matrix
 --   listNumber s m        how many lists stand before that of s and m
+--   defaultFor lent s m   the default list of s and m
 --   outsideOf low high z  z is below -low or above high
 --   added n z             n + z, for n + z from 0 on
+--   nextCoef next delta   the entry after `next`: their sum modulo 256
 --   deltaCode             scaling_list_delta_coef after an entry: the next entry
 --   entriesFrom           the entries for the positions that are left, put where they belong
 --   dcCode                scaling_list_dc_coef_minus8: DC
---   codedList             a list that is coded in full
+--   positions s           where the entries of a size go, in coding order
+--   codedList             a list that is coded in full; codedEntries has its entries, with a DC that is known
 --   referenceCode         scaling_list_pred_matrix_id_delta
+--   referred              the list that it means
+--   takenOver             a list that is taken over
 --   listCode              one list, from scaling_list_pred_mode_flag on
+--   listsFrom             the lists that are left, behind those read
 --   scalingListData       all 20 lists
 use mathlib.Core.Bool.{Bool, cond}
 use mathlib.Core.List.{List, [], _∷_, _++_}
@@ -44,6 +50,9 @@ pub record Defaults : Type 0 where
   pub four : List ℕ
   pub intra : List ℕ
   pub inter : List ℕ
+
+abbrev pub defaults : List ℕ → List ℕ → List ℕ → Defaults
+defaults four intra inter = record { four = four; intra = intra; inter = inter }
 
 -- ---- which list
 unfoldable pub matrixStep : ℕ → ℕ

@@ -1,5 +1,4 @@
 -- What the functions below the entry point hand to each other.
---   defaults              the three default lists as one record
 --   part r                a number that was read, as a reading
 --   filled es r           the same with the entries that stand in a buffer then
 --   listed es r           the same as a list, the number being its DC
@@ -21,9 +20,6 @@ use Rattle.scaling_lists.specs.declared.ReadAnswer.{ReadAnswer}
 use Rattle.scaling_lists.specs.declared.ReadAnswer.the-variants.{Read, Refused as NotRead}
 use Rattle.scaling_lists.specs.Syntax.{Reading, FactorList, Defaults, andThen, listCode}
 use Rattle.scaling_lists.specs.Syntax.Reading.{got, stop}
-
-abbrev pub defaults : List ℕ → List ℕ → List ℕ → Defaults
-defaults four intra inter = record { four = four; intra = intra; inter = inter }
 
 abbrev pub part : Part → Reading ℕ
 part (Value v behind) = got v behind

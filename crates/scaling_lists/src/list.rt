@@ -1,10 +1,8 @@
 // One list, and its place among those read.
 ghost use mathlib.Core.Path.{_≡_};
-ghost use mathlib.Core.List.{_++_, _∷_, []};
 ghost use Prim.Native.Nat.{_+_, _≤_};
-ghost use lib.ListN.{length};
-ghost use Rattle.scaling_lists.specs.Syntax.{blank, listCode};
-ghost use Rattle.scaling_lists.specs.Work.{defaults, listed, partEnd, held, grown, oneMore, Lent};
+ghost use Rattle.scaling_lists.specs.Syntax.{defaults, blank, listCode};
+ghost use Rattle.scaling_lists.specs.Work.{listed, partEnd, held, grown, oneMore, Lent};
 use crate::Part;
 use crate::coded;
 use crate::lists;

@@ -2,9 +2,9 @@
 ghost use mathlib.Core.Path.{_≡_};
 ghost use Prim.Native.Nat.{_≤_};
 ghost use lib.ListN.{length};
-ghost use Rattle.scaling_lists.specs.Syntax.{scalingListData};
+ghost use Rattle.scaling_lists.specs.Syntax.{defaults, scalingListData};
 ghost use Rattle.scaling_lists.specs.Answers.{lengthsRefused, roomRefused, written, listsRead, Reads};
-ghost use Rattle.scaling_lists.specs.Work.{defaults, heldUpTo, Lent};
+ghost use Rattle.scaling_lists.specs.Work.{heldUpTo, Lent};
 use crate::Part;
 use crate::ReadAnswer;
 use crate::list;

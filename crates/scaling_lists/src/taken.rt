@@ -2,8 +2,8 @@
 ghost use mathlib.Core.Path.{_≡_};
 ghost use Prim.Native.Nat.{_+_, _-_, _*_, _/_, _≤_, _<_};
 ghost use lib.ListN.{length};
-ghost use Rattle.scaling_lists.specs.Syntax.{matrixStep, sizeId, matrixId, listNumber, defaultFor, referred, takenOver};
-ghost use Rattle.scaling_lists.specs.Work.{defaults, listed, partEnd, held, Lent};
+ghost use Rattle.scaling_lists.specs.Syntax.{defaults, matrixStep, sizeId, matrixId, listNumber, defaultFor, referred, takenOver};
+ghost use Rattle.scaling_lists.specs.Work.{listed, partEnd, held, Lent};
 use crate::Part;
 use crate::lists;
 use crate::values;

@@ -1,7 +1,7 @@
 // The numbers in the syntax: each code with its range, and where it is refused the offset at which it begins.
 ghost use mathlib.Core.Path.{_≡_};
 ghost use mathlib.Core.Bool.{false};
-ghost use Prim.Native.Nat.{_+_, _*_, _/_, _≤_};
+ghost use Prim.Native.Nat.{_+_, _/_, _≤_};
 ghost use Rattle.bits.specs.declared.Code.{Code};
 ghost use Rattle.bits.specs.ExpGolomb.{signedNumber};
 ghost use Rattle.scaling_lists.specs.Syntax.{outsideOf, added, deltaOf, deltaCode, dcOf, dcCode, matrixStep, referenceOf, referenceCode};

@@ -1,11 +1,11 @@
 -- `bits::bits_number` meets its contract. The loop's invariant: the number of the first i bits.
 use mathlib.Core.Path.{_≡_, refl, ap, _∙_}
-use Prim.Native.Nat.{_+_, _-_, _*_, _^_, _≤_, _<_}
+use Prim.Native.Nat.{_-_, _≤_, _<_}
 use native.Mathlib.Omega.{arith}
 use borrow.Author.Needs.{needs}
 use lib.Pow.{pow-mono}
 use Rattle.bits.specs.Bits.{bitsNumber}
-use Rattle.bits.proofs.BitsLaws.{bitAt-small, bitsNumber-small, bitsNumber-add-one}
+use Rattle.bits.proofs.BitsLaws.{bitsNumber-small, bitsNumber-add-one}
 use Rattle.bits.proofs.bits_number.Statement.{statement}
 use Rattle.bits.proofs.bits_number.Tie as tie
 

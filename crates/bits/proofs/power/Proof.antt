@@ -1,5 +1,4 @@
 -- `bits::power` meets its contract: up to 32 the shift of 1 loses nothing.
-use mathlib.Core.Path.{_∙_}
 use Prim.Native.Nat.{_^_}
 use native.Mathlib.Nat.{one-mul, mod-eq-of-lt}
 use native.Mathlib.Omega.{arith}

@@ -1,5 +1,5 @@
 -- `bits::unsigned_code` meets its contract: by the number of leading zeros, and whether the code's last bit is there.
-use mathlib.Core.Path.{_≡_, sym, _∙_}
+use mathlib.Core.Path.{sym, _∙_}
 use Prim.Native.Nat.{_+_}
 use native.Mathlib.Omega.{arith}
 use borrow.Author.Needs.{needs}

@@ -1,11 +1,10 @@
 -- `scaling_lists::coded::scanned` meets its contract: the table of the size is its positions.
-use mathlib.Core.Path.{_≡_, refl, sym, ap, ap₂, _∙_}
+use mathlib.Core.Path.{ap, ap₂, _∙_}
 use mathlib.Core.List.{List}
 use Prim.Native.Nat.{ℕ}
 use native.Mathlib.Omega.{arith}
 use lib.ListN.{length}
 use Rattle.scaling_lists.specs.Syntax.{entriesFrom}
-use Rattle.scaling_lists.specs.Work.{Positions}
 use Rattle.scaling_lists.proofs.ListLaws.{positions-four, positions-eight, four-inside, eight-inside}
 use borrow.Author.Needs.{needs}
 use Rattle.scaling_lists.proofs.coded.scanned.Statement.{statement}

@@ -1,9 +1,8 @@
 -- `scaling_lists::list::read_list` meets its contract: the flag says whether the list is taken over or coded in full.
-use mathlib.Core.Path.{_≡_, sym, ap, _∙_}
+use mathlib.Core.Path.{sym, ap, _∙_}
 use native.Mathlib.Omega.{arith}
 use lib.ListN.{length}
-use Rattle.scaling_lists.specs.Syntax.{sizeId}
-use Rattle.scaling_lists.specs.Work.{defaults}
+use Rattle.scaling_lists.specs.Syntax.{defaults, sizeId}
 use Rattle.scaling_lists.proofs.ListLaws.{list-taken, list-coded, list-ended}
 use borrow.Author.Needs.{needs}
 use Rattle.scaling_lists.proofs.list.read_list.Statement.{statement}

@@ -1,8 +1,7 @@
 -- `scaling_lists::list::read_next` meets its contract: the list that was read stands behind the others.
-use mathlib.Core.Path.{_≡_, sym, ap, _∙_}
 use native.Mathlib.Omega.{arith}
-use lib.ListN.{length}
-use Rattle.scaling_lists.specs.Work.{defaults, held}
+use Rattle.scaling_lists.specs.Syntax.{defaults}
+use Rattle.scaling_lists.specs.Work.{held}
 use Rattle.scaling_lists.proofs.HeldLaws.{grown-got, grown-stop}
 use borrow.Author.Needs.{needs}
 use Rattle.scaling_lists.proofs.list.read_next.Statement.{statement}

@@ -1,9 +1,9 @@
 -- `scaling_lists::reader::read_all` meets its contract. The loop's invariant: what is left to read, from here, gives what the whole gives.
-use mathlib.Core.Path.{_≡_, sym, _∙_}
+use mathlib.Core.Path.{sym, _∙_}
 use Prim.Native.Nat.{_-_}
 use native.Mathlib.Omega.{arith}
 use borrow.Author.Needs.{needs}
-use Rattle.scaling_lists.specs.Work.{defaults, Lent}
+use Rattle.scaling_lists.specs.Syntax.{defaults}
 use Rattle.scaling_lists.proofs.ReaderLaws.{Going, going-start, going-stop, going-more, going-done}
 use Rattle.scaling_lists.proofs.reader.read_all.Statement.{statement}
 use Rattle.scaling_lists.proofs.reader.read_all.Tie as tie

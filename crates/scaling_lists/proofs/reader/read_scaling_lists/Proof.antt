@@ -1,5 +1,5 @@
 -- `scaling_lists::reader::read_scaling_lists` meets its contract: rows 5 and 7 before any bit is read.
-use mathlib.Core.Path.{_≡_, refl, sym, _∙_}
+use mathlib.Core.Path.{refl, sym, _∙_}
 use Rattle.scaling_lists.specs.Answers.{listsRead}
 use Rattle.scaling_lists.proofs.ReaderLaws.{lengths-accepted, room-accepted}
 use borrow.Author.Needs.{needs}

@@ -1,6 +1,5 @@
 -- `scaling_lists::reader::read_within` meets its contract: nothing is handed out before the last list is read.
-use mathlib.Core.Path.{_≡_, sym, _∙_}
-use Rattle.scaling_lists.specs.Work.{defaults}
+use Rattle.scaling_lists.specs.Syntax.{defaults}
 use Rattle.scaling_lists.proofs.ReaderLaws.{written-got, written-stop}
 use borrow.Author.Needs.{needs}
 use Rattle.scaling_lists.proofs.reader.read_within.Statement.{statement}

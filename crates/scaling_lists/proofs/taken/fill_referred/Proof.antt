@@ -1,12 +1,9 @@
 -- `scaling_lists::taken::fill_referred` meets its contract: the default for delta 0, else a list that is held.
-use mathlib.Core.Path.{_≡_, ap, ap₂, _∙_}
-use mathlib.Core.List.{List}
+use mathlib.Core.Path.{ap, _∙_}
 use Prim.Native.Nat.{ℕ, _+_, _*_}
-use native.Mathlib.Omega.{arith}
-use lib.ListN.{length, getD}
+use lib.ListN.{getD}
 use Rattle.integers.specs.Lists.{tabulate}
-use Rattle.scaling_lists.specs.Syntax.{sizeId, matrixId, defaultFor}
-use Rattle.scaling_lists.specs.Work.{defaults}
+use Rattle.scaling_lists.specs.Syntax.{defaults, sizeId, matrixId, defaultFor}
 use Rattle.scaling_lists.proofs.ListLaws.{referred-default, referred-held}
 use borrow.Author.Needs.{needs}
 use Rattle.scaling_lists.proofs.taken.fill_referred.Statement.{statement}

@@ -1,5 +1,4 @@
 -- `scaling_lists::taken::matrix_of` meets its contract: no matrixId is above 5.
-use Prim.Native.Nat.{_*_, _%_}
 use native.Mathlib.Omega.{arith}
 use Rattle.scaling_lists.proofs.NumberLaws.{matrixId-eq, matrixId-bound}
 use borrow.Author.Needs.{needs}

@@ -1,5 +1,5 @@
 -- `scaling_lists::values::dc_of` meets its contract: a number in the range gives a DC of 1 .. 255.
-use mathlib.Core.Path.{_≡_, sym, ap, _∙_}
+use mathlib.Core.Path.{sym, _∙_}
 use native.Mathlib.Omega.{arith}
 use Rattle.bits.specs.ExpGolomb.{signedNumber}
 use Rattle.scaling_lists.proofs.ValueLaws.{outside-wider, added-bound}

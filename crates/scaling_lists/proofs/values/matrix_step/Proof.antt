@@ -1,5 +1,4 @@
 -- `scaling_lists::values::matrix_step` meets its contract: three at 32×32, else one.
-use mathlib.Core.Path.{sym}
 use native.Mathlib.Omega.{arith}
 use borrow.Author.Tests.{eq-eqb, ne-eqb}
 use Rattle.scaling_lists.specs.Syntax.{matrixStep}

@@ -1,8 +1,6 @@
 -- `scaling_lists::values::reference_code` meets its contract: by what stands at the offset.
-use mathlib.Core.Path.{_≡_, sym, ap, _∙_}
-use Prim.Native.Nat.{_+_, _≤_}
+use mathlib.Core.Path.{sym, ap, _∙_}
 use native.Mathlib.Omega.{arith}
-use Rattle.bits.specs.ExpGolomb.{behind}
 use Rattle.scaling_lists.specs.Syntax.{referenceOf, referenceCode}
 use borrow.Author.Needs.{needs}
 use Rattle.scaling_lists.proofs.values.reference_code.Statement.{statement}

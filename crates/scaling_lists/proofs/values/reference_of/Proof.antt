@@ -1,5 +1,4 @@
 -- `scaling_lists::values::reference_of` meets its contract: the lists before this one of its size are those that there are.
-use mathlib.Core.Path.{_≡_}
 use Prim.Native.Nat.{_/_, _≤_, _<_}
 use native.Mathlib.Nat.{div-le-self}
 use native.Mathlib.Omega.{arith}

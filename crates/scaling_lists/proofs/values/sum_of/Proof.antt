@@ -1,6 +1,5 @@
 -- `scaling_lists::values::sum_of` meets its contract: a negative number in the range is no larger than what it is added to.
 use mathlib.Core.Path.{sym}
-use native.Mathlib.Omega.{arith}
 use borrow.Author.Needs.{needs}
 use Rattle.scaling_lists.proofs.ValueLaws.{added-odd, added-even, even-inside}
 use Rattle.scaling_lists.proofs.values.sum_of.Statement.{statement}
