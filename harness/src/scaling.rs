@@ -1,4 +1,4 @@
-//! Comparison of the crate `scaling`: m, one level, and blocks at two widths with and without a list.
+//! Comparison of scaling: m, one level, and blocks at two widths with and without a list.
 use crate::archive::scaling::Blocks;
 use crate::archive::{self, Answered};
 use crate::blocks::{self, Element, Lent, SHAPES};

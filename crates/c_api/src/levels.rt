@@ -1,7 +1,7 @@
 // Scaling and transform skip: m, one level, and blocks at two widths.
 ghost use mathlib.Core.Path.{_≡_};
 ghost use Rattle.h265.specs.ScalingFactor.ScalingList.{flat, listed};
-ghost use Rattle.scaling.specs.Blocks.{bits16, bits32, dequantized, transformSkipped};
+ghost use Rattle.scaling_blocks.specs.Blocks.{bits16, bits32, dequantized, transformSkipped};
 ghost use Rattle.scaling.specs.Factor.{scalingCoeff};
 ghost use Rattle.scaling.specs.Level.{scaledLevel};
 ghost use Rattle.c_api.specs.Answers.{ofNumber, ofSigned};
@@ -54,7 +54,7 @@ pub extern "C" fn residual_dequantize_into_scalar_i32(
 ) -> Answered
     ensures { λ r. ⌜ Writes r (now (out .exit)) (dequantized bits32 flat n «qp_prime» «bit_depth» «extended_precision» (now (levels .entry)) (now (out .entry))) ⌝ }
 {
-    let answer = scaling::dequantize_into_scalar_i32(
+    let answer = scaling_wide::dequantize_into_scalar_i32(
         levels,
         n,
         QpPrime(qp_prime),
@@ -79,7 +79,7 @@ pub extern "C" fn residual_dequantize_scaled_into_scalar_i32(
 ) -> Answered
     ensures { λ r. ⌜ Writes r (now (out .exit)) (dequantized bits32 (listed (now (list .entry)) dc) n «qp_prime» «bit_depth» «extended_precision» (now (levels .entry)) (now (out .entry))) ⌝ }
 {
-    let answer = scaling::dequantize_scaled_into_scalar_i32(
+    let answer = scaling_wide::dequantize_scaled_into_scalar_i32(
         levels,
         n,
         QpPrime(qp_prime),
@@ -104,7 +104,7 @@ pub extern "C" fn residual_dequantize_transform_skip_into_scalar_i32(
 ) -> Answered
     ensures { λ r. ⌜ Writes r (now (out .exit)) (transformSkipped bits32 flat n «qp_prime» «bit_depth» «extended_precision» (now (levels .entry)) (now (out .entry))) ⌝ }
 {
-    let answer = scaling::dequantize_transform_skip_into_scalar_i32(
+    let answer = scaling_wide::dequantize_transform_skip_into_scalar_i32(
         levels,
         n,
         QpPrime(qp_prime),
@@ -129,7 +129,7 @@ pub extern "C" fn residual_dequantize_transform_skip_scaled_into_scalar_i32(
 ) -> Answered
     ensures { λ r. ⌜ Writes r (now (out .exit)) (transformSkipped bits32 (listed (now (list .entry)) dc) n «qp_prime» «bit_depth» «extended_precision» (now (levels .entry)) (now (out .entry))) ⌝ }
 {
-    let answer = scaling::dequantize_transform_skip_scaled_into_scalar_i32(
+    let answer = scaling_wide::dequantize_transform_skip_scaled_into_scalar_i32(
         levels,
         n,
         QpPrime(qp_prime),
@@ -154,7 +154,7 @@ pub extern "C" fn residual_dequantize_into_scalar_i16(
 ) -> Answered
     ensures { λ r. ⌜ Writes r (now (out .exit)) (dequantized bits16 flat n «qp_prime» «bit_depth» «extended_precision» (now (levels .entry)) (now (out .entry))) ⌝ }
 {
-    let answer = scaling::dequantize_into_scalar_i16(
+    let answer = scaling_narrow::dequantize_into_scalar_i16(
         levels,
         n,
         QpPrime(qp_prime),
@@ -179,7 +179,7 @@ pub extern "C" fn residual_dequantize_scaled_into_scalar_i16(
 ) -> Answered
     ensures { λ r. ⌜ Writes r (now (out .exit)) (dequantized bits16 (listed (now (list .entry)) dc) n «qp_prime» «bit_depth» «extended_precision» (now (levels .entry)) (now (out .entry))) ⌝ }
 {
-    let answer = scaling::dequantize_scaled_into_scalar_i16(
+    let answer = scaling_narrow::dequantize_scaled_into_scalar_i16(
         levels,
         n,
         QpPrime(qp_prime),
@@ -204,7 +204,7 @@ pub extern "C" fn residual_dequantize_transform_skip_into_scalar_i16(
 ) -> Answered
     ensures { λ r. ⌜ Writes r (now (out .exit)) (transformSkipped bits16 flat n «qp_prime» «bit_depth» «extended_precision» (now (levels .entry)) (now (out .entry))) ⌝ }
 {
-    let answer = scaling::dequantize_transform_skip_into_scalar_i16(
+    let answer = scaling_narrow::dequantize_transform_skip_into_scalar_i16(
         levels,
         n,
         QpPrime(qp_prime),
@@ -229,7 +229,7 @@ pub extern "C" fn residual_dequantize_transform_skip_scaled_into_scalar_i16(
 ) -> Answered
     ensures { λ r. ⌜ Writes r (now (out .exit)) (transformSkipped bits16 (listed (now (list .entry)) dc) n «qp_prime» «bit_depth» «extended_precision» (now (levels .entry)) (now (out .entry))) ⌝ }
 {
-    let answer = scaling::dequantize_transform_skip_scaled_into_scalar_i16(
+    let answer = scaling_narrow::dequantize_transform_skip_scaled_into_scalar_i16(
         levels,
         n,
         QpPrime(qp_prime),

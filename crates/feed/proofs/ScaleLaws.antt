@@ -24,7 +24,7 @@ use Rattle.h265.specs.TransformSkip.{skippedAt}
 use Rattle.h265.proofs.RangeLaws.{clipCoeff-between}
 use Rattle.refusal.specs.declared.Answer.{Answer}
 use Rattle.refusal.specs.Condition.{sizeRefused, depthRefused, listRefused, blockRefused}
-use Rattle.scaling.specs.Blocks.{bits32, entriesOf, blockLadder, blockWritten, dequantized, transformSkipped, Writes}
+use Rattle.scaling_blocks.specs.Blocks.{bits32, entriesOf, blockLadder, blockWritten, dequantized, transformSkipped, Writes}
 use Rattle.feed.specs.declared.Mode.{Mode}
 use Rattle.feed.specs.declared.Parameters.{Parameters}
 use Rattle.feed.specs.Block.{listIgnored, listFor, coefficients}

@@ -55,7 +55,7 @@ fn scale(s: State, p: Parameters, n: usize, levels: &[i32], out: &mut [i32])
     let qp_prime = QpPrime(signed(p.qp_prime));
     let entries = s.entries;
     if s.listed {
-        scaling::dequantize_scaled_into_scalar_i32(
+        scaling_wide::dequantize_scaled_into_scalar_i32(
             levels,
             n,
             qp_prime,
@@ -67,7 +67,7 @@ fn scale(s: State, p: Parameters, n: usize, levels: &[i32], out: &mut [i32])
         );
         return;
     }
-    scaling::dequantize_into_scalar_i32(
+    scaling_wide::dequantize_into_scalar_i32(
         levels,
         n,
         qp_prime,
@@ -87,7 +87,7 @@ fn skip(s: State, p: Parameters, n: usize, levels: &[i32], out: &mut [i32])
     let qp_prime = QpPrime(signed(p.qp_prime));
     let entries = s.entries;
     if uses_list(s.listed, Mode::Skip, n) {
-        scaling::dequantize_transform_skip_scaled_into_scalar_i32(
+        scaling_wide::dequantize_transform_skip_scaled_into_scalar_i32(
             levels,
             n,
             qp_prime,
@@ -99,7 +99,7 @@ fn skip(s: State, p: Parameters, n: usize, levels: &[i32], out: &mut [i32])
         );
         return;
     }
-    scaling::dequantize_transform_skip_into_scalar_i32(
+    scaling_wide::dequantize_transform_skip_into_scalar_i32(
         levels,
         n,
         qp_prime,

@@ -22,7 +22,7 @@ use Rattle.refusal.specs.Condition.{sizeRefused, listRefused}
 use Rattle.refusal.specs.Outcome.{Outcome, accepted, refused}
 use Rattle.refusal.proofs.RefusalLaws.{number-least}
 use Rattle.scaling.specs.Factor.{scalingCoeff}
-use Rattle.scaling.proofs.FactorLaws.{position-inside}
+use Rattle.scaling_values.proofs.FactorLaws.{position-inside}
 use Rattle.feed.specs.declared.Mode.{Mode}
 use Rattle.feed.specs.Block.{listIgnored, listFor}
 use Rattle.feed.specs.Answers.{listIn}

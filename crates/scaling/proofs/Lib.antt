@@ -1,9 +1,2 @@
 -- Laws that belong to no one function.
-pub mod FactorLaws
-pub mod LevelLaws
-pub mod FlatLaws
-pub mod PlainLaws
-pub mod SkipLaws
-pub mod WorkLaws
-pub mod LadderLaws
-pub mod BlockLaws
+pub mod AnswerLaws

@@ -1,13 +1,10 @@
 -- The lookup of m. Document 01, "Scaling", and rows 1, 5 and 8 of its table.
 --   scalingCoeff entries d n i   the answer at index i of a block of size n, for a list with DC number d
---   WholeList len n              what a lookup below the refusals relies on: a size, and 64 entries
-use mathlib.Core.Path.{_≡_}
 use mathlib.Core.Bool.{cond}
 use mathlib.Core.List.{List}
 use Prim.Native.Nat.{ℕ, _*_}
-use lib.Dec.{T, leb}
+use lib.Dec.{leb}
 use lib.ListN.{length}
-use Rattle.h265.specs.Range.{isSize}
 use Rattle.h265.specs.ScalingFactor.{scalingFactor}
 use Rattle.h265.specs.ScalingFactor.ScalingList.{listed}
 use Rattle.refusal.specs.declared.Refusal.the-variants.{SizeInvalid, ListLengthInvalid, PlaceOutside}
@@ -20,7 +17,3 @@ scalingCoeff entries d n i =
     (cond (listRefused (length entries)) (refused 0 ListLengthInvalid)
     (cond (leb (n * n) i) (refused 0 PlaceOutside)
     (accepted (scalingFactor (listed entries d) n i))))
-
-pub record WholeList (len n : ℕ) : Type 0 where
-  pub size : T (isSize n)
-  pub whole : len ≡ 64

@@ -1,27 +1,14 @@
 -- One level. Document 01, "Scaling", and rows 1 and 2 of its table.
---   scaledLevel             the answer for a level of a block: size n, QP′ as given, depth b, flag x
--- The same by the machine's numbers, as the functions below the refusals have them; proofs/LevelLaws.antt takes them to clause 8.6.
---   levelBy p f level       (level × f + rounding) >> shift, limited before and after
---   flatLevel p level       the same without a list: the factor holds m = 16
---   listedLevel p m level   the same with the m of a list
---   Manageable p            what these rely on: 64 bits hold every product and sum
---   Ends w p                the ends of the range fit a signed type of width w
+--   scaledLevel   the answer for a level of a block: size n, QP′ as given, depth b, flag x
 use mathlib.Core.Bool.{Bool, cond}
-use Prim.Native.Nat.{ℕ, _<_}
-use lib.IntN.{ℤ, pos, natAbs, _+ℤ_, _*ℤ_}
-use lib.Signed.{_≤ℤ_}
-use mir.Syntax.{Width}
-use mir.Val.{SFits}
-use Rattle.integers.specs.Clip.{clip3}
-use Rattle.integers.specs.Shift.{shiftRight}
-use Rattle.integers.specs.Within.{Within}
+use Prim.Native.Nat.{ℕ}
+use lib.IntN.{ℤ, pos, natAbs}
 use Rattle.h265.specs.Range.{log2Size, transformRange}
 use Rattle.h265.specs.Quantization.{clipQpPrime}
 use Rattle.h265.specs.Scaling.{bdShift, scaleLevel}
 use Rattle.refusal.specs.declared.Refusal.the-variants.{SizeInvalid, DepthInvalid}
 use Rattle.refusal.specs.Condition.{sizeRefused, depthRefused}
 use Rattle.refusal.specs.Outcome.{Outcome, accepted, refused}
-use Rattle.parameters.specs.declared.DequantParams.{DequantParams}
 
 unfoldable pub scaledLevel : ℤ → ℕ → ℕ → ℤ → ℕ → Bool → Outcome ℤ
 scaledLevel level m n q b x =
@@ -29,26 +16,3 @@ scaledLevel level m n q b x =
     cond (sizeRefused n) (refused (pos 0) SizeInvalid)
     (cond (depthRefused b) (refused (pos 0) DepthInvalid)
     (accepted (scaleLevel r (bdShift b (log2Size n) r) (natAbs (clipQpPrime b q)) m level)))
-
-unfoldable pub levelBy : DequantParams → ℤ → ℤ → ℤ
-levelBy p f level =
-    clip3 (p .«clip_min») (p .«clip_max»)
-    (shiftRight (clip3 (p .«clip_min») (p .«clip_max») level *ℤ f +ℤ p .add) (p .shift))
-
-unfoldable pub flatLevel : DequantParams → ℤ → ℤ
-flatLevel p level = levelBy p (p .factor) level
-
-unfoldable pub listedLevel : DequantParams → ℕ → ℤ → ℤ
-listedLevel p m level = levelBy p (shiftRight (p .factor) 4 *ℤ pos m) level
-
-pub record Manageable (p : DequantParams) : Type 0 where
-  pub factor : Within 75497472 (p .factor)
-  pub add : Within 32768 (p .add)
-  pub shift : p .shift < 64
-  pub least : Within 4194304 (p .«clip_min»)
-  pub most : Within 4194304 (p .«clip_max»)
-  pub ordered : p .«clip_min» ≤ℤ p .«clip_max»
-
-pub record Ends (w : Width) (p : DequantParams) : Type 0 where
-  pub least : SFits w (p .«clip_min»)
-  pub most : SFits w (p .«clip_max»)

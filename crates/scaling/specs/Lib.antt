@@ -1,8 +1,3 @@
 pub mod Answers
 pub mod Factor
 pub mod Level
-pub mod Plain
-pub mod Flat
-pub mod Skip
-pub mod Blocks
-pub mod Work

@@ -1,13 +1,12 @@
 // The scaling factor m of a list. No division: a size is a power of two.
 ghost use mathlib.Core.Path.{_≡_};
 ghost use Prim.Native.Nat.{_+_, _-_, _*_, _/_, _%_, _^_, _<_, _≤_};
-ghost use lib.Dec.{T};
 ghost use lib.ListN.{length};
-ghost use Rattle.h265.specs.Range.{isSize, log2Size};
 ghost use Rattle.h265.specs.ScalingFactor.{scalingFactor};
 ghost use Rattle.h265.specs.ScalingFactor.ScalingList.{listed};
 ghost use Rattle.scaling.specs.Answers.{factorOutcome};
-ghost use Rattle.scaling.specs.Factor.{scalingCoeff, WholeList};
+ghost use Rattle.scaling.specs.Factor.{scalingCoeff};
+ghost use Rattle.scaling_values.specs.Factor.{WholeList};
 use crate::FactorAnswer;
 use refusal::Refusal;
 
@@ -22,20 +21,8 @@ fn repeated_position(index: usize, log2n: u32) -> usize
     (row >> repeats) * 8 + (column >> repeats)
 }
 
-// How many columns, and rows, share an entry, as a power of two.
-pub(crate) fn repeats_of(n: usize) -> u32
-    requires { ⌜ T (isSize n) ⌝ }
-    requires { ⌜ 16 ≤ n ⌝ }
-    ensures { λ r. ⌜ r ≡ log2Size n - 3 ⌝ }
-{
-    if n == 16 {
-        return 1;
-    }
-    2
-}
-
 // m at an index of a block.
-pub(crate) fn factor_at(list: &[u8], dc: u8, n: usize, index: usize) -> u8
+fn factor_at(list: &[u8], dc: u8, n: usize, index: usize) -> u8
     requires { ⌜ WholeList (length (now list)) n ⌝ }
     requires { ⌜ index < n * n ⌝ }
     ensures { λ r. ⌜ r ≡ scalingFactor (listed (now (list .entry)) dc) n index ⌝ }

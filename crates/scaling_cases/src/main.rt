@@ -74,7 +74,7 @@ fn put_kept(same: bool) {
 
 // One call on places that hold the mark, by QP′ 4 and DC 30.
 fn flat_32(n: usize, bit_depth: u8, extended: bool, levels: &[i32], out: &mut [i32]) {
-    put_answer(scaling::dequantize_into_scalar_i32(
+    put_answer(scaling_wide::dequantize_into_scalar_i32(
         levels,
         n,
         QpPrime(4),
@@ -86,7 +86,7 @@ fn flat_32(n: usize, bit_depth: u8, extended: bool, levels: &[i32], out: &mut [i
 }
 
 fn skip_32(n: usize, bit_depth: u8, extended: bool, levels: &[i32], out: &mut [i32]) {
-    put_answer(scaling::dequantize_transform_skip_into_scalar_i32(
+    put_answer(scaling_wide::dequantize_transform_skip_into_scalar_i32(
         levels,
         n,
         QpPrime(4),
@@ -105,7 +105,7 @@ fn listed_32(
     levels: &[i32],
     out: &mut [i32],
 ) {
-    put_answer(scaling::dequantize_scaled_into_scalar_i32(
+    put_answer(scaling_wide::dequantize_scaled_into_scalar_i32(
         levels,
         n,
         QpPrime(4),
@@ -126,7 +126,7 @@ fn skip_listed_32(
     levels: &[i32],
     out: &mut [i32],
 ) {
-    put_answer(scaling::dequantize_transform_skip_scaled_into_scalar_i32(
+    put_answer(scaling_wide::dequantize_transform_skip_scaled_into_scalar_i32(
         levels,
         n,
         QpPrime(4),
@@ -140,7 +140,7 @@ fn skip_listed_32(
 }
 
 fn flat_16(n: usize, bit_depth: u8, extended: bool, levels: &[i32], out: &mut [i16]) {
-    put_answer(scaling::dequantize_into_scalar_i16(
+    put_answer(scaling_narrow::dequantize_into_scalar_i16(
         levels,
         n,
         QpPrime(4),
@@ -152,7 +152,7 @@ fn flat_16(n: usize, bit_depth: u8, extended: bool, levels: &[i32], out: &mut [i
 }
 
 fn skip_16(n: usize, bit_depth: u8, extended: bool, levels: &[i32], out: &mut [i16]) {
-    put_answer(scaling::dequantize_transform_skip_into_scalar_i16(
+    put_answer(scaling_narrow::dequantize_transform_skip_into_scalar_i16(
         levels,
         n,
         QpPrime(4),
@@ -171,7 +171,7 @@ fn listed_16(
     levels: &[i32],
     out: &mut [i16],
 ) {
-    put_answer(scaling::dequantize_scaled_into_scalar_i16(
+    put_answer(scaling_narrow::dequantize_scaled_into_scalar_i16(
         levels,
         n,
         QpPrime(4),
@@ -192,7 +192,7 @@ fn skip_listed_16(
     levels: &[i32],
     out: &mut [i16],
 ) {
-    put_answer(scaling::dequantize_transform_skip_scaled_into_scalar_i16(
+    put_answer(scaling_narrow::dequantize_transform_skip_scaled_into_scalar_i16(
         levels,
         n,
         QpPrime(4),
@@ -385,11 +385,25 @@ fn small_blocks() {
     levels[2] = 40000;
     let mut out = [7i32; 20];
     io::write_all(STDOUT_FILENO, b"block:");
-    put_answer(scaling::dequantize_into_scalar_i32(&levels, 4, QpPrime(4), 8, false, &mut out));
+    put_answer(scaling_wide::dequantize_into_scalar_i32(
+        &levels,
+        4,
+        QpPrime(4),
+        8,
+        false,
+        &mut out,
+    ));
     put_first(&out);
     let mut short = [7i16; 20];
     io::write_all(STDOUT_FILENO, b"block, 16-bit:");
-    put_answer(scaling::dequantize_into_scalar_i16(&levels, 4, QpPrime(4), 8, false, &mut short));
+    put_answer(scaling_narrow::dequantize_into_scalar_i16(
+        &levels,
+        4,
+        QpPrime(4),
+        8,
+        false,
+        &mut short,
+    ));
     put_short(short[0]);
     put_short(short[1]);
     put_short(short[2]);
@@ -405,7 +419,7 @@ fn small_blocks() {
     levels[2] = -1;
     levels[3] = -1;
     io::write_all(STDOUT_FILENO, b"block with a list:");
-    put_answer(scaling::dequantize_scaled_into_scalar_i32(
+    put_answer(scaling_wide::dequantize_scaled_into_scalar_i32(
         &levels,
         4,
         QpPrime(0),
@@ -417,7 +431,7 @@ fn small_blocks() {
     ));
     put_first(&out);
     io::write_all(STDOUT_FILENO, b"skip with a list:");
-    put_answer(scaling::dequantize_transform_skip_scaled_into_scalar_i32(
+    put_answer(scaling_wide::dequantize_transform_skip_scaled_into_scalar_i32(
         &levels,
         4,
         QpPrime(0),
@@ -437,12 +451,19 @@ fn large_blocks() {
     levels[1023] = 3;
     let mut out = [7i32; 1025];
     io::write_all(STDOUT_FILENO, b"size 32:");
-    put_answer(scaling::dequantize_into_scalar_i32(&levels, 32, QpPrime(40), 16, false, &mut out));
+    put_answer(scaling_wide::dequantize_into_scalar_i32(
+        &levels,
+        32,
+        QpPrime(40),
+        16,
+        false,
+        &mut out,
+    ));
     put_signed(out[0]);
     put_signed(out[1023]);
     put_signed(out[1024]);
     io::write_all(STDOUT_FILENO, b"\nskip, size 32:");
-    put_answer(scaling::dequantize_transform_skip_into_scalar_i32(
+    put_answer(scaling_wide::dequantize_transform_skip_into_scalar_i32(
         &levels,
         32,
         QpPrime(40),
@@ -454,7 +475,7 @@ fn large_blocks() {
     put_signed(out[1023]);
     put_signed(out[1024]);
     io::write_all(STDOUT_FILENO, b"\nskip, size 32, extended:");
-    put_answer(scaling::dequantize_transform_skip_into_scalar_i32(
+    put_answer(scaling_wide::dequantize_transform_skip_into_scalar_i32(
         &levels,
         32,
         QpPrime(40),
@@ -475,7 +496,7 @@ fn repeated_block() {
     list[0] = 20;
     let mut out = [7i32; 257];
     io::write_all(STDOUT_FILENO, b"size 16 with a list:");
-    put_answer(scaling::dequantize_scaled_into_scalar_i32(
+    put_answer(scaling_wide::dequantize_scaled_into_scalar_i32(
         &levels,
         16,
         QpPrime(10),

@@ -4,7 +4,7 @@ use Prim.Native.Nat.{ℕ, _*_}
 use native.Mathlib.Omega.{arith}
 use lib.ListN.{getD}
 use Rattle.h265.specs.ScalingFactor.{repeatedPosition}
-use Rattle.scaling.proofs.FactorLaws.{size-square, size-last, factor-four, factor-eight, factor-dc, factor-repeated, position-16, position-32, position-inside}
+use Rattle.scaling_values.proofs.FactorLaws.{size-square, size-last, factor-four, factor-eight, factor-dc, factor-repeated, position-16, position-32, position-inside}
 use Rattle.scaling.proofs.factor.factor_at.Statement.{statement}
 use Rattle.scaling.proofs.factor.factor_at.Tie as tie
 

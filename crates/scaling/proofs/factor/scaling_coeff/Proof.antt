@@ -9,7 +9,7 @@ use Rattle.h265.specs.Range.{isSize}
 use Rattle.refusal.specs.Condition.{sizeRefused, listRefused}
 use Rattle.refusal.proofs.ConditionLaws.{size-accepted}
 use Rattle.scaling.specs.Factor.{scalingCoeff}
-use Rattle.scaling.proofs.FactorLaws.{size-square}
+use Rattle.scaling_values.proofs.FactorLaws.{size-square}
 use Rattle.scaling.proofs.factor.scaling_coeff.Statement.{statement}
 use Rattle.scaling.proofs.factor.scaling_coeff.Tie as tie
 

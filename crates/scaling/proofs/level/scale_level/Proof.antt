@@ -5,7 +5,7 @@ use Rattle.integers.proofs.MachineLaws.{round-trip}
 use Rattle.refusal.specs.Outcome.{accepted, refused}
 use Rattle.parameters.specs.Answers.{noDequant, dequantOutcome}
 use Rattle.parameters.specs.Parameters.{dequantParams}
-use Rattle.scaling.proofs.LevelLaws.{level-refused, level-ready}
+use Rattle.scaling.proofs.AnswerLaws.{level-refused, level-ready}
 use Rattle.scaling.proofs.level.scale_level.Statement.{statement}
 use Rattle.scaling.proofs.level.scale_level.Tie as tie
 

@@ -1,0 +1,206 @@
+-- Laws of a call on a block, of every width and with or without a list: what its numbers answer, what is known below the
+-- refusals, and what the working functions' lists are in clause 8.6's terms.
+--   block-refused        a call whose numbers are refused hands back that refusal and the output as lent
+--   Ready, block-ready   what holds once the numbers are there
+--   ready-regular        the numbers are regular
+--   narrow-ends, narrow-shift, narrow-plain   of a 16-bit output: the range's ends fit 16 bits, t > 0, and 32 bits do for scaling
+--   flat-writes, listed-writes, flat-skips, listed-skips   what was written is what the definition says
+use mathlib.Core.Path.{_≡_, refl, sym, ap, subst, _∙_}
+use mathlib.Core.Bool.{Bool, true, false, _&&_}
+use mathlib.Core.List.{List, [], _∷_}
+use Prim.Native.Nat.{ℕ, _+_, _*_, _≤_, _<_}
+use native.Mathlib.Omega.{arith}
+use borrow.Author.Tests.{eqb-true, ltb-false, not-false}
+use lib.Dec.{eqb, lit<}
+use lib.IntN.{ℤ, pos, negℤ, _-ℤ_}
+use lib.ListN.{length, getD}
+use lib.Signed.{_≤ℤ_}
+use mir.Syntax.{w16}
+use Rattle.integers.specs.Lists.{overwrite}
+use Rattle.integers.proofs.LinearLaws.{parts-add, parts-neg, le-out}
+use Rattle.integers.proofs.BoundLaws.{within-out}
+use Rattle.integers.proofs.ListsLaws.{overwrite-cong}
+use Rattle.h265.specs.Range.{log2Size, transformRange, coeffMin, coeffMax}
+use Rattle.h265.specs.ScalingFactor.{ScalingList, factorSource, factorBy, scalingFactor}
+use Rattle.h265.specs.ScalingFactor.ScalingList.{flat, listed}
+use Rattle.h265.specs.Scaling.{scaledAt}
+use Rattle.h265.specs.TransformSkip.{tsShift, tsResidual, skippedAt}
+use Rattle.h265.proofs.RangeLaws.{transformRange-least, transformRange-depth}
+use Rattle.refusal.specs.declared.Answer.the-variants.{Done, Refused}
+use Rattle.refusal.specs.declared.Refusal.{Refusal}
+use Rattle.refusal.specs.declared.Refusal.the-variants.{SizeInvalid, DepthInvalid, WidthTooNarrow, ListLengthInvalid, InputTooShort, OutputTooShort}
+use Rattle.refusal.specs.Condition.{sizeRefused, depthRefused, widthRefused, listRefused, blockRefused}
+use Rattle.refusal.specs.Outcome.{accepted, refused}
+use Rattle.refusal.proofs.ConditionLaws.{size-accepted, width-accepted}
+use Rattle.parameters.specs.declared.TransformSkipParams.{TransformSkipParams}
+use Rattle.parameters.specs.Answers.{noTransformSkip}
+use Rattle.parameters.specs.Parameters.{dequantOf, transformSkipOf, KnownSize}
+use Rattle.parameters.proofs.ParametersLaws.{known-accepted}
+use Rattle.scaling_blocks.specs.Blocks.{blockLadder, blockParams, blockWritten, dequantized, transformSkipped, entriesOf, Written, Writes}
+use Rattle.scaling_values.specs.Factor.{WholeList}
+use Rattle.scaling_values.specs.Level.{Ends}
+use Rattle.scaling_values.specs.Flat.{Regular}
+use Rattle.scaling_values.specs.Plain.{Plain}
+use Rattle.scaling_values.specs.Skip.{Skippable}
+use Rattle.scaling_values.specs.Work.{flatAt, listedAt, flatResidualAt, listedResidualAt, Room}
+use Rattle.refusal.proofs.LadderLaws.{Rung, Passed, first-accepted, first-passed, first-refused, with-value}
+use Rattle.refusal.proofs.LadderLaws.Rung.{rung}
+use Rattle.scaling_values.proofs.FactorLaws.{size-square}
+use Rattle.scaling_values.proofs.FlatLaws.{dequantOf-regular}
+use Rattle.scaling_values.proofs.PlainLaws.{dequantOf-plain}
+use Rattle.scaling_values.proofs.LevelLaws.{dequantOf-manageable, flatLevel-eq, listedLevel-eq}
+
+abbrev pub rungs : Bool → ℕ → ℕ → Bool → ℕ → ℕ → ℕ → List Rung
+rungs narrow n b x entries levels places =
+    rung (sizeRefused n) SizeInvalid
+    ∷ rung (depthRefused b) DepthInvalid
+    ∷ rung (narrow && widthRefused b x) WidthTooNarrow
+    ∷ rung (listRefused entries) ListLengthInvalid
+    ∷ rung (blockRefused n levels) InputTooShort
+    ∷ rung (blockRefused n places) OutputTooShort
+    ∷ []
+
+-- ---- refused
+pub block-refused : (narrow : Bool) (list : ScalingList) (n : ℕ) (q : ℤ) (b : ℕ) (x : Bool) (levels out : List ℤ) (at : ℕ → ℤ) (e : Refusal)
+    → refused noTransformSkip e ≡ blockParams narrow n q b x (entriesOf list) (length levels) (length out)
+    → Writes (Refused e) out (blockWritten narrow list n b x levels out at)
+unfolding blockParams blockWritten blockLadder
+block-refused narrow list n q b x levels out at e h =
+    first-refused noTransformSkip (transformSkipOf (log2Size n) q b x) _ _ (λ w. Writes (Refused e) out w) e
+    (λ f k. record { answered = with-value tt e f k; out = refl }) (rungs narrow n b x (entriesOf list) (length levels) (length out)) h
+
+-- ---- accepted
+transformSkipOf-skippable : (l : ℕ) (q : ℤ) (b : ℕ) (x : Bool) → KnownSize l b → Skippable (transformSkipOf l q b x)
+unfolding transformSkipOf tsShift
+transformSkipOf-skippable l q b x k =
+    let r : ℕ = transformRange b x in
+    record {
+      scaling = dequantOf-manageable l q b x k;
+      shift =
+          within-out (pos r -ℤ pos (b + l))
+          (omega (arith, k, parts-add (pos r) (negℤ (pos (b + l))), parts-neg (pos (b + l)), transformRange-least b x, transformRange-depth b x (k .deep)));
+      add = refl;
+    }
+
+block-room : (n len : ℕ) → blockRefused n len ≡ false → n * n ≤ len
+unfolding blockRefused
+block-room n len e = ltb-false len (n * n) e
+
+list-whole : (len : ℕ) → listRefused len ≡ false → len ≡ 64
+unfolding listRefused
+list-whole len e = eqb-true len 64 (not-false (eqb len 64) e)
+
+pub record Ready (narrow : Bool) (n : ℕ) (q : ℤ) (b : ℕ) (x : Bool) (entries levels places : ℕ) (p : TransformSkipParams) : Type 0 where
+  pub passed : Passed (rungs narrow n b x entries levels places)
+  pub is : p ≡ transformSkipOf (log2Size n) q b x
+  pub known : KnownSize (log2Size n) b
+  pub skippable : Skippable p
+  pub room : Room (n * n) levels places
+  pub whole : WholeList entries n
+  pub square : n * n ≤ 1024
+
+pub block-ready : (narrow : Bool) (n : ℕ) (q : ℤ) (b : ℕ) (x : Bool) (entries levels places : ℕ) (p : TransformSkipParams)
+    → accepted p ≡ blockParams narrow n q b x entries levels places → Ready narrow n q b x entries levels places p
+unfolding blockParams blockLadder
+block-ready narrow n q b x entries levels places p h =
+    let a = first-accepted noTransformSkip (transformSkipOf (log2Size n) q b x) p (rungs narrow n b x entries levels places) h in
+    let s = a .0 in
+    let size = size-accepted n (s .0) in
+    let known = known-accepted n b (s .0) (s .1 .0) in
+    record {
+      passed = s;
+      is = a .1;
+      known = known;
+      skippable = subst Skippable (sym (a .1)) (transformSkipOf-skippable (log2Size n) q b x known);
+      room = record { levels = block-room n levels (s .1 .1 .1 .1 .0); places = block-room n places (s .1 .1 .1 .1 .1 .0) };
+      whole = record { size = size; whole = list-whole entries (s .1 .1 .1 .0) };
+      square = size-square n size;
+    }
+
+pub ready-regular : {narrow : Bool} {n : ℕ} {q : ℤ} {b : ℕ} {x : Bool} {entries levels places : ℕ} {p : TransformSkipParams}
+    → Ready narrow n q b x entries levels places p → Regular (p .dequant)
+unfolding transformSkipOf
+ready-regular {n = n} {q} {b} {x} r =
+    subst (λ (s : TransformSkipParams). Regular (s .dequant)) (sym (r .is)) (dequantOf-regular (log2Size n) q b x (r .known))
+
+-- ---- 16-bit output
+plain-ends : (l : ℕ) (q : ℤ) (b : ℕ) → Ends w16 (dequantOf l q b false)
+unfolding dequantOf transformRange coeffMin coeffMax
+plain-ends l q b = record { least = record { sfits = lit< tt }; most = record { sfits = lit< tt } }
+
+plain-shift : (l b : ℕ) → l ≤ 5 → b ≤ 9 → pos 1 ≤ℤ tsShift (transformRange b false) b l
+unfolding tsShift transformRange
+plain-shift l b h k =
+    le-out (pos 1) (pos 15 -ℤ pos (b + l)) (omega (arith, parts-add (pos 15) (negℤ (pos (b + l))), parts-neg (pos (b + l))))
+
+module _ (n : ℕ) (q : ℤ) (b : ℕ) (x : Bool) (entries levels places : ℕ) (p : TransformSkipParams) (r : Ready true n q b x entries levels places p) where
+  pub narrow-ends : Ends w16 (p .dequant)
+  unfolding transformSkipOf
+  narrow-ends =
+      let w = width-accepted b x (r .passed .1 .1 .0) in
+      subst (λ (s : TransformSkipParams). Ends w16 (s .dequant)) (sym (r .is))
+      (subst (λ (y : Bool). Ends w16 (dequantOf (log2Size n) q b y)) (sym (w .1)) (plain-ends (log2Size n) q b))
+
+  pub narrow-shift : pos 1 ≤ℤ p .«tr_shift»
+  unfolding transformSkipOf
+  narrow-shift =
+      let w = width-accepted b x (r .passed .1 .1 .0) in
+      subst (λ (s : TransformSkipParams). pos 1 ≤ℤ s .«tr_shift») (sym (r .is))
+      (subst (λ (y : Bool). pos 1 ≤ℤ tsShift (transformRange b y) b (log2Size n)) (sym (w .1)) (plain-shift (log2Size n) b (r .known .most) (w .0)))
+
+  pub narrow-plain : Plain (p .dequant)
+  unfolding transformSkipOf
+  narrow-plain =
+      let w = width-accepted b x (r .passed .1 .1 .0) in
+      subst (λ (s : TransformSkipParams). Plain (s .dequant)) (sym (r .is))
+      (subst (λ (y : Bool). Plain (dequantOf (log2Size n) q b y)) (sym (w .1)) (dequantOf-plain (log2Size n) q b (r .known) (w .0)))
+
+-- ---- what was written
+flat-at : (n : ℕ) (q : ℤ) (b : ℕ) (x : Bool) (levels : List ℤ) (i : ℕ) → flatAt (dequantOf (log2Size n) q b x) levels i ≡ scaledAt flat n b x q levels i
+unfolding flatAt scaledAt scalingFactor factorSource factorBy
+flat-at n q b x levels i = flatLevel-eq (log2Size n) q b x (getD levels i (pos 0))
+
+listed-at : (list : ScalingList) (n : ℕ) (q : ℤ) (b : ℕ) (x : Bool) (levels : List ℤ) (i : ℕ) → listedAt (dequantOf (log2Size n) q b x) list n levels i ≡ scaledAt list n b x q levels i
+unfolding listedAt scaledAt
+listed-at list n q b x levels i = listedLevel-eq (log2Size n) q b x (scalingFactor list n i) (getD levels i (pos 0))
+
+module _ (narrow : Bool) (n : ℕ) (q : ℤ) (b : ℕ) (x : Bool) (levels out after : List ℤ) (p : TransformSkipParams) where
+  -- `by` is the working function's list at the block's numbers, `at` the definition's
+  written : (list : ScalingList) (by : TransformSkipParams → ℕ → ℤ) (at : ℕ → ℤ) → Ready narrow n q b x (entriesOf list) (length levels) (length out) p
+      → after ≡ overwrite (n * n) (by p) out → ((i : ℕ) → by (transformSkipOf (log2Size n) q b x) i ≡ at i)
+      → Writes Done after (blockWritten narrow list n b x levels out at)
+  unfolding blockWritten blockLadder
+  written list by at r e k =
+      subst (λ (w : Written). Writes Done after w)
+      (sym (first-passed (λ f. record { answer = refused tt f; out = out }) (record { answer = accepted tt; out = overwrite (n * n) at out }) (rungs narrow n b x (entriesOf list) (length levels) (length out)) (r .passed)))
+      (record {
+        answered = refl;
+        out = e ∙ ap (λ (s : TransformSkipParams). overwrite (n * n) (by s) out) (r .is) ∙ overwrite-cong (n * n) (by (transformSkipOf (log2Size n) q b x)) at out (λ i h. k i);
+      })
+
+  pub flat-writes : Ready narrow n q b x 64 (length levels) (length out) p → after ≡ overwrite (n * n) (flatAt (p .dequant) levels) out
+      → Writes Done after (dequantized narrow flat n q b x levels out)
+  unfolding dequantized transformSkipOf
+  flat-writes r e = written flat (λ s. flatAt (s .dequant) levels) (scaledAt flat n b x q levels) r e (flat-at n q b x levels)
+
+  pub flat-skips : Ready narrow n q b x 64 (length levels) (length out) p → after ≡ overwrite (n * n) (flatResidualAt p levels) out
+      → Writes Done after (transformSkipped narrow flat n q b x levels out)
+  unfolding transformSkipped transformSkipOf flatResidualAt skippedAt
+  flat-skips r e =
+      written flat (λ s. flatResidualAt s levels) (skippedAt flat n b x q levels) r e
+      (λ i. ap (tsResidual (tsShift (transformRange b x) b (log2Size n))) (flat-at n q b x levels i))
+
+  pub listed-writes : (es : List ℕ) (d : ℕ) → Ready narrow n q b x (length es) (length levels) (length out) p
+      → after ≡ overwrite (n * n) (listedAt (p .dequant) (listed es d) n levels) out
+      → Writes Done after (dequantized narrow (listed es d) n q b x levels out)
+  unfolding dequantized transformSkipOf
+  listed-writes es d r e =
+      written (listed es d) (λ s. listedAt (s .dequant) (listed es d) n levels) (scaledAt (listed es d) n b x q levels) r e (listed-at (listed es d) n q b x levels)
+
+  pub listed-skips : (es : List ℕ) (d : ℕ) → Ready narrow n q b x (length es) (length levels) (length out) p
+      → after ≡ overwrite (n * n) (listedResidualAt p (listed es d) n levels) out
+      → Writes Done after (transformSkipped narrow (listed es d) n q b x levels out)
+  unfolding transformSkipped transformSkipOf listedResidualAt skippedAt
+  listed-skips es d r e =
+      written (listed es d) (λ s. listedResidualAt s (listed es d) n levels) (skippedAt (listed es d) n b x q levels) r e
+      (λ i. ap (tsResidual (tsShift (transformRange b x) b (log2Size n))) (listed-at (listed es d) n q b x levels i))

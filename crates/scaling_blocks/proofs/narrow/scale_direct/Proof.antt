@@ -1,0 +1,99 @@
+-- `scaling_blocks::narrow::scale_direct` meets its contract. The loop's invariant: the first i places hold their coefficients, and the others are as lent.
+use mathlib.Core.Path.{_≡_}
+use Prim.Native.Nat.{_-_, _≤_}
+use native.Mathlib.Omega.{arith}
+use borrow.Author.Needs.{needs}
+use lib.IntN.{pos}
+use lib.ListN.{getD}
+use mir.Syntax.{w16, w32}
+use mir.Val.{SFits}
+use Rattle.integers.proofs.MachineLaws.{round-trip}
+use Rattle.integers.proofs.ListsLaws.{Stored, stored-none, stored-more, stored-length, stored-all}
+use Rattle.scaling_values.specs.Work.{directAt}
+use Rattle.scaling_blocks.proofs.WorkLaws.{directAt-fits, cast-fits, cast-as}
+use Rattle.scaling_blocks.proofs.narrow.scale_direct.Statement.{statement}
+use Rattle.scaling_blocks.proofs.narrow.scale_direct.Tie as tie
+
+abbrev Inv-loop : tie.InvT-loop
+Inv-loop levels count by list out₀ i₀ out i = Stored (directAt by list levels) out₀ i out × (i ≤ count)
+
+abbrev μ-loop : tie.MeasureT-loop
+μ-loop levels count by list out₀ i₀ out i = count - i
+
+loop-holds : tie.Need-loop-holds Inv-loop μ-loop
+loop-holds c = (stored-none, omega arith)
+
+mul-scaled-listed : tie.Need-mul-scaled-listed Inv-loop μ-loop
+mul-scaled-listed c = search needs
+
+shared-slice-copy-out-scaled-listed : tie.Need-shared-slice-copy-out-scaled-listed Inv-loop μ-loop
+shared-slice-copy-out-scaled-listed c = omega (arith, c .before .before .before .pre .1 .0)
+
+shared-slice-read-scaled-listed : tie.Need-shared-slice-read-scaled-listed Inv-loop μ-loop
+shared-slice-read-scaled-listed c = omega (arith, c .before .before .before .before .before .pre .1 .1 .0)
+
+scaled-listed-requires : tie.Need-scaled-listed-requires Inv-loop μ-loop
+scaled-listed-requires c κs = c .before .before .before .before .before .pre .0
+
+-- the level that was read, and what was worked out of it
+level-fits : (c : tie.After-scaled-listed-arg Inv-loop μ-loop) → let l = c .before .before in SFits w32 (getD (l .before .before .args .levels .now) (l .loop .i) (pos 0))
+level-fits c = record { sfits = c .scaled-listed-arg .given }
+
+value-is : (c : tie.After-scaled-listed Inv-loop μ-loop)
+    → let l = c .before .before .before .before in let s = l .before .before in c .scaled-listed .result .value ≡ directAt (s .args .by) (s .args .list .now) (s .args .levels .now) (l .loop .i)
+unfolding directAt
+value-is c = rw (round-trip (level-fits (c .before .before))) at (c .scaled-listed .ensures)
+
+value-fits : (c : tie.After-scaled-listed Inv-loop μ-loop) → let l = c .before .before .before .before in let s = l .before .before in SFits w16 (directAt (s .args .by) (s .args .list .now) (s .args .levels .now) (l .loop .i))
+value-fits c =
+    let l = c .before .before .before .before in
+    let s = l .before .before in
+    directAt-fits (s .args .levels .now) (l .loop .i) (s .pre .1 .1 .1) (s .args .list .now)
+
+cast-out : tie.Need-cast-out Inv-loop μ-loop
+cast-out c = cast-fits (value-is (c .before .before)) (value-fits (c .before .before)) w32 tt
+
+mul-t15 : tie.Need-mul-t15 Inv-loop μ-loop
+mul-t15 c = search needs
+
+slice-set-from-out : tie.Need-slice-set-from-out Inv-loop μ-loop
+slice-set-from-out c =
+    let l = c .before .before .before .before .before .before in
+    omega (arith, stored-length (l .loop .inv .0), l .before .before .pre .1 .0)
+
+add-i : tie.Need-add-i Inv-loop μ-loop
+add-i c = omega arith
+
+loop-less : tie.Need-loop-less Inv-loop μ-loop
+loop-less c = omega arith
+
+loop-again : tie.Need-loop-again Inv-loop μ-loop
+loop-again c =
+    let l = c .before .before .before .before .before .before in
+    (stored-more (l .loop .inv .0) (omega (arith, l .before .before .pre .1 .0)) (cast-as (value-is (c .before .before)) (value-fits (c .before .before)) w32 tt), omega arith)
+
+same-length : tie.Need-same-length Inv-loop μ-loop
+same-length c = stored-length (c .before .loop .inv .0)
+
+returns : tie.Need-returns Inv-loop μ-loop
+returns c = stored-all (c .before .loop .inv .0) (omega arith)
+
+pub scale-direct-spec : {M : Type 1} → statement M
+scale-direct-spec =
+    tie.close
+    (tie.spec
+    Inv-loop
+    μ-loop
+    loop-holds
+    mul-scaled-listed
+    shared-slice-copy-out-scaled-listed
+    shared-slice-read-scaled-listed
+    scaled-listed-requires
+    cast-out
+    mul-t15
+    slice-set-from-out
+    add-i
+    loop-less
+    loop-again
+    same-length
+    returns)

@@ -1,0 +1,6 @@
+pub mod Factor
+pub mod Level
+pub mod Plain
+pub mod Flat
+pub mod Skip
+pub mod Work

@@ -1,0 +1,61 @@
+-- Whole blocks by the machine's numbers, as the working functions below the refusals have them.
+--   flatAt, listedAt                 the coefficient at an index of a block of levels
+--   directAt                         the same at sizes 4 and 8
+--   repeatedAt                       the same at sizes 16 and 32 by the list alone, at index 0 too
+--   flatResidualAt, listedResidualAt the residual there
+--   residualAt                       the residual of the coefficient at an index
+--   Room count input output          both buffers hold the block
+--   Rows n r                         a size at which an entry stands for 2^r columns and rows
+--   Coefficients count xs            the first elements are coefficients
+--   Continues f i j ys zs            where ys has f at the indices below i, zs has f at those below j
+use mathlib.Core.Path.{_≡_}
+use mathlib.Core.List.{List}
+use Prim.Native.Nat.{ℕ, _-_, _≤_, _<_}
+use lib.Dec.{T}
+use lib.IntN.{ℤ, pos}
+use lib.ListN.{length, getD}
+use Rattle.integers.specs.Lists.{overwrite}
+use Rattle.integers.specs.Within.{Within}
+use Rattle.h265.specs.Range.{isSize, log2Size}
+use Rattle.h265.specs.ScalingFactor.{ScalingList, repeatedPosition, scalingFactor}
+use Rattle.h265.specs.TransformSkip.{tsResidual}
+use Rattle.parameters.specs.declared.DequantParams.{DequantParams}
+use Rattle.parameters.specs.declared.TransformSkipParams.{TransformSkipParams}
+use Rattle.scaling_values.specs.Level.{flatLevel, listedLevel}
+
+unfoldable pub flatAt : DequantParams → List ℤ → ℕ → ℤ
+flatAt p levels i = flatLevel p (getD levels i (pos 0))
+
+unfoldable pub listedAt : DequantParams → ScalingList → ℕ → List ℤ → ℕ → ℤ
+listedAt p list n levels i = listedLevel p (scalingFactor list n i) (getD levels i (pos 0))
+
+unfoldable pub directAt : DequantParams → List ℕ → List ℤ → ℕ → ℤ
+directAt p entries levels i = listedLevel p (getD entries i 0) (getD levels i (pos 0))
+
+unfoldable pub repeatedAt : DequantParams → List ℕ → ℕ → List ℤ → ℕ → ℤ
+repeatedAt p entries n levels i = listedLevel p (getD entries (repeatedPosition n i) 0) (getD levels i (pos 0))
+
+unfoldable pub flatResidualAt : TransformSkipParams → List ℤ → ℕ → ℤ
+flatResidualAt p levels i = tsResidual (p .«tr_shift») (flatAt (p .dequant) levels i)
+
+unfoldable pub listedResidualAt : TransformSkipParams → ScalingList → ℕ → List ℤ → ℕ → ℤ
+listedResidualAt p list n levels i = tsResidual (p .«tr_shift») (listedAt (p .dequant) list n levels i)
+
+unfoldable pub residualAt : ℤ → List ℤ → ℕ → ℤ
+residualAt t coefficients i = tsResidual t (getD coefficients i (pos 0))
+
+pub record Room (count input output : ℕ) : Type 0 where
+  pub levels : count ≤ input
+  pub places : count ≤ output
+
+pub record Rows (n r : ℕ) : Type 0 where
+  pub size : T (isSize n)
+  pub large : 16 ≤ n
+  pub repeats : r ≡ log2Size n - 3
+
+pub record Coefficients (count : ℕ) (xs : List ℤ) : Type 0 where
+  pub at : (i : ℕ) → i < count → Within 4194304 (getD xs i (pos 0))
+
+pub record Continues (f : ℕ → ℤ) (i j : ℕ) (ys zs : List ℤ) : Type 0 where
+  pub same : length zs ≡ length ys
+  pub more : (xs : List ℤ) → i ≤ length xs → ys ≡ overwrite i f xs → zs ≡ overwrite j f xs

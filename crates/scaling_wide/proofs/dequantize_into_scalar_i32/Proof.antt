@@ -1,0 +1,81 @@
+-- `scaling_wide::dequantize_into_scalar_i32` meets its contract: refused where the numbers of the block are, else the coefficients that were written are the definition's.
+use mathlib.Core.Path.{_≡_, sym, ap, _∙_}
+use Prim.Native.Nat.{_*_}
+use native.Mathlib.Omega.{arith}
+use borrow.Author.Needs.{needs}
+use lib.ListN.{length}
+use Rattle.h265.specs.Scaling.{scaledAt}
+use Rattle.h265.specs.ScalingFactor.ScalingList.{flat}
+use Rattle.refusal.specs.Outcome.{refused}
+use Rattle.parameters.specs.Answers.{noTransformSkip, transformSkipOutcome}
+use Rattle.scaling_blocks.specs.Blocks.{bits32, dequantized, blockParams}
+use Rattle.scaling_blocks.proofs.BlockLaws.{Ready, block-ready, block-refused, flat-writes, ready-regular}
+use Rattle.scaling_values.proofs.FlatLaws.{flatFor-short, short-overwrite}
+use Rattle.scaling_wide.proofs.dequantize_into_scalar_i32.Statement.{statement}
+use Rattle.scaling_wide.proofs.dequantize_into_scalar_i32.Tie as tie
+
+-- what the numbers answered
+ready : (c : tie.After-found)
+    → let a = c .before .before .before .args in Ready bits32 (a .n) (a .qp-prime .0) (a .bit-depth) (a .extended-precision) 64 (length (a .levels .now)) (length (a .out .now)) (c .found .given .0 .0)
+ready c =
+    let a = c .before .before .before .args in
+    block-ready bits32 (a .n) (a .qp-prime .0) (a .bit-depth) (a .extended-precision) 64 (length (a .levels .now)) (length (a .out .now)) (c .found .given .0 .0)
+    (sym (ap transformSkipOutcome (c .found .given .1)) ∙ c .before .before .block-params .ensures)
+
+is-refused : (c : tie.After-found2)
+    → let a = c .before .before .before .args in refused noTransformSkip (c .found2 .given .0 .0) ≡ blockParams bits32 (a .n) (a .qp-prime .0) (a .bit-depth) (a .extended-precision) 64 (length (a .levels .now)) (length (a .out .now))
+is-refused c = sym (ap transformSkipOutcome (c .found2 .given .1)) ∙ c .before .before .block-params .ensures
+
+block-params-requires : tie.Need-block-params-requires
+block-params-requires c κs = search needs
+
+enum-known-found : tie.Need-enum-known-found
+enum-known-found c = search needs
+
+mul-scale-flat : tie.Need-mul-scale-flat
+mul-scale-flat c = omega (arith, ready (c .before .before) .square)
+
+flat-params-requires : tie.Need-flat-params-requires
+flat-params-requires c κs = let r = ready (c .before .before) in (r .skippable .scaling, ready-regular r)
+
+scale-flat-requires : tie.Need-scale-flat-requires
+scale-flat-requires c κs =
+    let r = ready (c .before .before .before .before) in
+    (flatFor-short (ready-regular r) (c .before .flat-params .ensures) (r .skippable .scaling), r .room)
+
+enum-known-found-2 : tie.Need-enum-known-found-2
+enum-known-found-2 c = search needs
+
+same-length : tie.Need-same-length
+same-length c = search needs
+
+returns : tie.Need-returns
+returns c =
+    let w = c .before in
+    let k = w .before .before in
+    let f = k .before .before .before in
+    let a = f .before .before .before .args in
+    let written = w .scale-flat .ensures ∙ short-overwrite (ready-regular (ready f)) (k .flat-params .ensures) (a .n * a .n) (a .levels .now) (a .out .now) in
+    flat-writes bits32 (a .n) (a .qp-prime .0) (a .bit-depth) (a .extended-precision) (a .levels .now) (a .out .now) _ (f .found .given .0 .0) (ready f) written
+
+returns-2 : tie.Need-returns-2
+unfolding dequantized
+returns-2 c =
+    let f = c .before in
+    let a = f .before .before .before .args in
+    block-refused bits32 flat (a .n) (a .qp-prime .0) (a .bit-depth) (a .extended-precision) (a .levels .now) (a .out .now)
+    (scaledAt flat (a .n) (a .bit-depth) (a .extended-precision) (a .qp-prime .0) (a .levels .now)) (f .found2 .given .0 .0) (is-refused f)
+
+pub dequantize-into-scalar-i32-spec : {M : Type 1} → statement M
+dequantize-into-scalar-i32-spec =
+    tie.close
+    (tie.spec
+    block-params-requires
+    enum-known-found
+    mul-scale-flat
+    flat-params-requires
+    scale-flat-requires
+    enum-known-found-2
+    same-length
+    returns
+    returns-2)

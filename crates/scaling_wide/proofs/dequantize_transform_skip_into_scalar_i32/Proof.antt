@@ -1,0 +1,97 @@
+-- `scaling_wide::dequantize_transform_skip_into_scalar_i32` meets its contract: refused where the numbers of the block are, else the residuals that were written are the definition's.
+use mathlib.Core.Path.{_≡_, sym, ap, _∙_}
+use Prim.Native.Nat.{_*_}
+use native.Mathlib.Omega.{arith}
+use borrow.Author.Needs.{needs}
+use lib.ListN.{length}
+use Rattle.integers.proofs.ListsLaws.{overwrite-length}
+use Rattle.h265.specs.ScalingFactor.ScalingList.{flat}
+use Rattle.h265.specs.TransformSkip.{skippedAt}
+use Rattle.refusal.specs.Outcome.{refused}
+use Rattle.parameters.specs.Answers.{noTransformSkip, transformSkipOutcome}
+use Rattle.scaling_blocks.specs.Blocks.{bits32, transformSkipped, blockParams}
+use Rattle.scaling_values.specs.Work.{flatAt, flatResidualAt}
+use Rattle.scaling_blocks.proofs.BlockLaws.{Ready, block-ready, block-refused, flat-skips, ready-regular}
+use Rattle.scaling_values.proofs.FlatLaws.{flatFor-short, short-overwrite}
+use Rattle.scaling_blocks.proofs.WorkLaws.{residuals-of, coefficients-of, flatAt-within}
+use Rattle.scaling_wide.proofs.dequantize_transform_skip_into_scalar_i32.Statement.{statement}
+use Rattle.scaling_wide.proofs.dequantize_transform_skip_into_scalar_i32.Tie as tie
+
+-- what the numbers answered
+ready : (c : tie.After-found)
+    → let a = c .before .before .before .args in Ready bits32 (a .n) (a .qp-prime .0) (a .bit-depth) (a .extended-precision) 64 (length (a .levels .now)) (length (a .out .now)) (c .found .given .0 .0)
+ready c =
+    let a = c .before .before .before .args in
+    block-ready bits32 (a .n) (a .qp-prime .0) (a .bit-depth) (a .extended-precision) 64 (length (a .levels .now)) (length (a .out .now)) (c .found .given .0 .0)
+    (sym (ap transformSkipOutcome (c .found .given .1)) ∙ c .before .before .block-params .ensures)
+
+is-refused : (c : tie.After-found2)
+    → let a = c .before .before .before .args in refused noTransformSkip (c .found2 .given .0 .0) ≡ blockParams bits32 (a .n) (a .qp-prime .0) (a .bit-depth) (a .extended-precision) 64 (length (a .levels .now)) (length (a .out .now))
+is-refused c = sym (ap transformSkipOutcome (c .found2 .given .1)) ∙ c .before .before .block-params .ensures
+
+block-params-requires : tie.Need-block-params-requires
+block-params-requires c κs = search needs
+
+enum-known-found : tie.Need-enum-known-found
+enum-known-found c = search needs
+
+mul-count : tie.Need-mul-count
+mul-count c = omega (arith, ready (c .before) .square)
+
+flat-params-requires : tie.Need-flat-params-requires
+flat-params-requires c κs = let r = ready (c .before .before) in (r .skippable .scaling, ready-regular r)
+
+scale-flat-requires : tie.Need-scale-flat-requires
+scale-flat-requires c κs =
+    let r = ready (c .before .before .before .before) in
+    (flatFor-short (ready-regular r) (c .before .flat-params .ensures) (r .skippable .scaling), r .room)
+
+skip-block-requires : tie.Need-skip-block-requires
+skip-block-requires c κs =
+    let w = c .before .before in
+    let k = w .before .before in
+    let f = k .before .before .before in
+    let a = f .before .before .before .args in
+    let written = w .scale-flat .ensures ∙ short-overwrite (ready-regular (ready f)) (k .flat-params .ensures) (a .n * a .n) (a .levels .now) (a .out .now) in
+    let r = ready f in
+    (r .skippable, (omega (arith, ap length written, overwrite-length (a .n * a .n) (flatAt (f .found .given .0 .0 .dequant) (a .levels .now)) (a .out .now) (r .room .places), r .room .places), coefficients-of (a .n * a .n) (flatAt (f .found .given .0 .0 .dequant) (a .levels .now)) (a .out .now) written (λ i. flatAt-within (a .levels .now) i (r .skippable .scaling))))
+
+enum-known-found-2 : tie.Need-enum-known-found-2
+enum-known-found-2 c = search needs
+
+same-length : tie.Need-same-length
+same-length c = search needs
+
+returns : tie.Need-returns
+unfolding flatResidualAt
+returns c =
+    let w = c .before .before .before .before in
+    let k = w .before .before in
+    let f = k .before .before .before in
+    let a = f .before .before .before .args in
+    let written = w .scale-flat .ensures ∙ short-overwrite (ready-regular (ready f)) (k .flat-params .ensures) (a .n * a .n) (a .levels .now) (a .out .now) in
+    flat-skips bits32 (a .n) (a .qp-prime .0) (a .bit-depth) (a .extended-precision) (a .levels .now) (a .out .now) _ (f .found .given .0 .0) (ready f)
+    (residuals-of (a .n * a .n) (flatAt (f .found .given .0 .0 .dequant) (a .levels .now)) (a .out .now) written (f .found .given .0 .0 .«tr_shift») (c .before .skip-block .ensures))
+
+returns-2 : tie.Need-returns-2
+unfolding transformSkipped
+returns-2 c =
+    let f = c .before in
+    let a = f .before .before .before .args in
+    block-refused bits32 flat (a .n) (a .qp-prime .0) (a .bit-depth) (a .extended-precision) (a .levels .now) (a .out .now)
+    (skippedAt flat (a .n) (a .bit-depth) (a .extended-precision) (a .qp-prime .0) (a .levels .now)) (f .found2 .given .0 .0) (is-refused f)
+
+pub dequantize-transform-skip-into-scalar-i32-spec : {M : Type 1} → statement M
+dequantize-transform-skip-into-scalar-i32-spec =
+    tie.close
+    (tie.spec
+    block-params-requires
+    enum-known-found
+    mul-count
+    flat-params-requires
+    scale-flat-requires
+    skip-block-requires
+    enum-known-found-2
+    same-length
+    returns
+    returns-2)

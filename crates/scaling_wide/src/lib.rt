@@ -1,0 +1,152 @@
+// Scaling and transform skip of whole blocks with 32-bit output, with and without a list.
+ghost use mathlib.Core.Path.{_≡_};
+ghost use Rattle.h265.specs.ScalingFactor.ScalingList.{flat, listed};
+ghost use Rattle.scaling_blocks.specs.Blocks.{bits32, dequantized, transformSkipped, Writes};
+use parameters::QpPrime;
+use parameters::TransformSkipAnswer;
+use refusal::Answer;
+use scaling_blocks::refuse;
+use scaling_blocks::wide;
+use scaling_values::flat;
+
+// The coefficients of a block without a list.
+pub fn dequantize_into_scalar_i32(
+    levels: &[i32],
+    n: usize,
+    qp_prime: QpPrime,
+    bit_depth: u8,
+    extended_precision: bool,
+    out: &mut [i32],
+) -> Answer
+    ensures { λ r. ⌜ Writes r (now (out .exit)) (dequantized bits32 flat n («qp_prime» .0) «bit_depth» «extended_precision» (now (levels .entry)) (now (out .entry))) ⌝ }
+{
+    let found = refuse::block_params(
+        false,
+        n,
+        qp_prime,
+        bit_depth,
+        extended_precision,
+        64,
+        levels.len(),
+        out.len(),
+    );
+    match found {
+        TransformSkipAnswer::Params(by) => {
+            let dequant = by.dequant;
+            wide::scale_flat(levels, n * n, flat::flat_params(dequant), out);
+            Answer::Done
+        }
+        TransformSkipAnswer::Refused(why) => Answer::Refused(why),
+    }
+}
+
+// The coefficients of a block with a list.
+pub fn dequantize_scaled_into_scalar_i32(
+    levels: &[i32],
+    n: usize,
+    qp_prime: QpPrime,
+    bit_depth: u8,
+    extended_precision: bool,
+    list: &[u8],
+    dc: u8,
+    out: &mut [i32],
+) -> Answer
+    ensures { λ r. ⌜ Writes r (now (out .exit)) (dequantized bits32 (listed (now (list .entry)) dc) n («qp_prime» .0) «bit_depth» «extended_precision» (now (levels .entry)) (now (out .entry))) ⌝ }
+{
+    let found = refuse::block_params(
+        false,
+        n,
+        qp_prime,
+        bit_depth,
+        extended_precision,
+        list.len(),
+        levels.len(),
+        out.len(),
+    );
+    match found {
+        TransformSkipAnswer::Params(by) => {
+            if n <= 8 {
+                let dequant = by.dequant;
+                wide::scale_direct(levels, n * n, dequant, list, out);
+            } else {
+                let dequant = by.dequant;
+                wide::scale_repeated(levels, n, dequant, list, dc, out);
+            }
+            Answer::Done
+        }
+        TransformSkipAnswer::Refused(why) => Answer::Refused(why),
+    }
+}
+
+// The residuals of a block without a list.
+pub fn dequantize_transform_skip_into_scalar_i32(
+    levels: &[i32],
+    n: usize,
+    qp_prime: QpPrime,
+    bit_depth: u8,
+    extended_precision: bool,
+    out: &mut [i32],
+) -> Answer
+    ensures { λ r. ⌜ Writes r (now (out .exit)) (transformSkipped bits32 flat n («qp_prime» .0) «bit_depth» «extended_precision» (now (levels .entry)) (now (out .entry))) ⌝ }
+{
+    let found = refuse::block_params(
+        false,
+        n,
+        qp_prime,
+        bit_depth,
+        extended_precision,
+        64,
+        levels.len(),
+        out.len(),
+    );
+    match found {
+        TransformSkipAnswer::Params(by) => {
+            let count = n * n;
+            let dequant = by.dequant;
+            wide::scale_flat(levels, count, flat::flat_params(dequant), out);
+            wide::skip_block(count, by, out);
+            Answer::Done
+        }
+        TransformSkipAnswer::Refused(why) => Answer::Refused(why),
+    }
+}
+
+// The residuals of a block with a list.
+pub fn dequantize_transform_skip_scaled_into_scalar_i32(
+    levels: &[i32],
+    n: usize,
+    qp_prime: QpPrime,
+    bit_depth: u8,
+    extended_precision: bool,
+    list: &[u8],
+    dc: u8,
+    out: &mut [i32],
+) -> Answer
+    ensures { λ r. ⌜ Writes r (now (out .exit)) (transformSkipped bits32 (listed (now (list .entry)) dc) n («qp_prime» .0) «bit_depth» «extended_precision» (now (levels .entry)) (now (out .entry))) ⌝ }
+{
+    let found = refuse::block_params(
+        false,
+        n,
+        qp_prime,
+        bit_depth,
+        extended_precision,
+        list.len(),
+        levels.len(),
+        out.len(),
+    );
+    match found {
+        TransformSkipAnswer::Params(by) => {
+            let count = n * n;
+            if n <= 8 {
+                let dequant = by.dequant;
+                wide::scale_direct(levels, count, dequant, list, out);
+            } else {
+                let dequant = by.dequant;
+                wide::scale_repeated(levels, n, dequant, list, dc, out);
+            }
+            wide::skip_block(count, by, out);
+            Answer::Done
+        }
+        TransformSkipAnswer::Refused(why) => Answer::Refused(why),
+    }
+}
