@@ -9,11 +9,11 @@ use borrow.Author.Tests.{ne-eqb}
 use Rattle.refusal.specs.declared.Answer.{Answer}
 use Rattle.refusal.specs.Outcome.{Outcome, answer}
 use Rattle.text.proofs.WroteLaws.{Left}
-use Rattle.feed.specs.declared.State.{State}
-use Rattle.feed.specs.Record.{FeedState, Effect, recordEffect}
+use Rattle.feed_block.specs.declared.State.{State}
+use Rattle.feed_records.specs.Record.{FeedState, Effect, recordEffect}
 use Rattle.feed.specs.Feed.{refusedText, blocksText}
-use Rattle.feed.specs.Answers.{stateOf, answerOf}
-use Rattle.feed.proofs.EffectLaws.{effect-moved}
+use Rattle.feed_records.specs.Taken.{stateOf, answerOf}
+use Rattle.feed_records.proofs.EffectLaws.{effect-moved}
 use Rattle.feed.proofs.WalkLaws.{Walk, walkText, Going, effectAt, Turn, Passed, passed, going-refused}
 
 abbrev pub feedWalk : Walk

@@ -22,13 +22,13 @@ use lib.Seq.{drop-cons, drop-drop, take-all}
 use Rattle.refusal.specs.Outcome.{Outcome}
 use Rattle.text.specs.Text.{Wrote, WroteUpTo}
 use Rattle.text.proofs.WroteLaws.{Left, left-start, left-more}
-use Rattle.feed.specs.declared.State.{State}
-use Rattle.feed.specs.Format.{recordLength}
-use Rattle.feed.specs.Record.{FeedState, Effect}
+use Rattle.feed_block.specs.declared.State.{State}
+use Rattle.feed_block.specs.Format.{recordLength}
+use Rattle.feed_records.specs.Record.{FeedState, Effect}
 use Rattle.feed.specs.Feed.{opening, refusedText, andThen, textBy}
-use Rattle.feed.specs.Answers.{stateOf, capped}
-use Rattle.feed.proofs.StateLaws.{capped-id}
-use Rattle.feed.proofs.EffectLaws.{Moved}
+use Rattle.feed_records.specs.Taken.{stateOf, capped}
+use Rattle.feed_records.proofs.StateLaws.{capped-id}
+use Rattle.feed_records.proofs.EffectLaws.{Moved}
 
 pub record Walk : Type 0 where
   pub effect : FeedState → ℕ → List ℕ → Outcome Effect

@@ -12,9 +12,9 @@ use lib.ListN.{length, take, drop}
 use Rattle.h265.specs.ScalingFactor.ScalingList.{flat}
 use Rattle.refusal.specs.Outcome.{Outcome}
 use Rattle.text.specs.Text.{space, lineEnd, unsignedText}
-use Rattle.feed.specs.declared.Given.the-variants.{Nothing}
-use Rattle.feed.specs.Format.{recordLength}
-use Rattle.feed.specs.Record.{FeedState, Effect, recordEffect}
+use Rattle.feed_block.specs.declared.Given.the-variants.{Nothing}
+use Rattle.feed_block.specs.Format.{recordLength}
+use Rattle.feed_records.specs.Record.{FeedState, Effect, recordEffect}
 
 -- the word `refused` and a space
 abbrev pub refusedWord : List ℕ

@@ -1,6 +1,2 @@
-pub mod Format
-pub mod Block
-pub mod Record
 pub mod Feed
 pub mod Answers
-pub mod Work

@@ -5,15 +5,15 @@ ghost use lib.ListN.{length};
 ghost use Rattle.refusal.specs.Outcome.{answer as answer·spec};
 ghost use Rattle.text.specs.Text.{Wrote, Counts};
 ghost use Rattle.feed.specs.Feed.{opening, feedText};
-ghost use Rattle.feed.specs.Answers.{stateOf, feedRoom, stepping, Steps, Runs};
-use crate::Given;
+ghost use Rattle.feed_records.specs.Taken.{stateOf};
+ghost use Rattle.feed.specs.Answers.{feedRoom, stepping, Steps, Runs};
 use crate::Ran;
-use crate::State;
 use crate::StepAnswer;
 use crate::Stepped;
-use crate::format;
 use crate::lines;
-use crate::records;
+use feed_block::Given;
+use feed_block::State;
+use feed_block::format;
 use refusal::Answer;
 
 // The state before the first record.
@@ -43,7 +43,7 @@ pub fn step(state: State, kind: u8, body: &[u8], out: &mut [u8]) -> Stepped
             end: 0,
         };
     }
-    let taken = records::take_record(state, kind, body, out, 0);
+    let taken = feed_records::take_record(state, kind, body, out, 0);
     let answer = taken.answer;
     let next = taken.state;
     let end = taken.end;
@@ -88,7 +88,7 @@ fn run_within(input: &[u8], out: &mut [u8]) -> usize
         let kind = input[at];
         let from = at + 1;
         let stop = least(from + format::record_length(kind), input.len());
-        let taken = records::take_record(state, kind, &input[from..stop], out, end);
+        let taken = feed_records::take_record(state, kind, &input[from..stop], out, end);
         let answer = taken.answer;
         let number = number_of(answer);
         let reached = taken.end;

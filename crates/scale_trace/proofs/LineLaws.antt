@@ -15,7 +15,7 @@ use Rattle.h265.specs.ScalingFactor.{ScalingList}
 use Rattle.text.specs.Text.{space, unsignedText, Wrote, WroteUpTo}
 use Rattle.text.proofs.WroteLaws.{Left, wrote-more, left-start, left-more, left-done}
 use Rattle.text.proofs.NumberLaws.{unsigned-length}
-use Rattle.feed.specs.declared.Mode.{Mode}
+use Rattle.feed_block.specs.declared.Mode.{Mode}
 use Rattle.scale_trace.specs.Trace.{BlockSource, blockSource, blockFactor, ruleText, lineText, linesFrom, blockLines}
 
 -- ---- one line

@@ -23,9 +23,8 @@ use Rattle.refusal.specs.Outcome.{Outcome, accepted, refused}
 use Rattle.refusal.proofs.RefusalLaws.{number-least}
 use Rattle.scaling.specs.Factor.{scalingCoeff}
 use Rattle.scaling_values.proofs.FactorLaws.{position-inside}
-use Rattle.feed.specs.declared.Mode.{Mode}
-use Rattle.feed.specs.Block.{listIgnored, listFor}
-use Rattle.feed.specs.Answers.{listIn}
+use Rattle.feed_block.specs.declared.Mode.{Mode}
+use Rattle.feed_block.specs.Block.{listIgnored, listFor, listIn}
 use Rattle.scale_trace.specs.declared.Source.{Source}
 use Rattle.scale_trace.specs.declared.Source.the-variants.{None, Four, Eight, Dc, Repeat, Skip}
 use Rattle.scale_trace.specs.Trace.{blockSource, sourceFactor, blockFactor, Explains}

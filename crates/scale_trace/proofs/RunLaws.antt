@@ -17,14 +17,15 @@ use Rattle.refusal.specs.Outcome.{Outcome}
 use Rattle.text.specs.Text.{Wrote}
 use Rattle.text.proofs.WroteLaws.{Left, wrote-length}
 use Rattle.feed.specs.declared.Line.{Line}
-use Rattle.feed.specs.declared.State.{State}
+use Rattle.feed_block.specs.declared.State.{State}
 use Rattle.feed.specs.declared.StepAnswer.{StepAnswer}
 use Rattle.feed.specs.declared.StepAnswer.the-variants.{Done, Refused, NoRoom}
-use Rattle.feed.specs.Record.{FeedState, Effect}
+use Rattle.feed_records.specs.Record.{FeedState, Effect}
 use Rattle.feed.specs.Feed.{refusedText}
-use Rattle.feed.specs.Answers.{stepAnswer, answerOf, Lines}
+use Rattle.feed_records.specs.Taken.{answerOf}
+use Rattle.feed.specs.Answers.{stepAnswer, Lines}
 use Rattle.feed.specs.Answers.Room.{enough}
-use Rattle.feed.proofs.EffectLaws.{Moved, effect-moved}
+use Rattle.feed_records.proofs.EffectLaws.{Moved, effect-moved}
 use Rattle.feed.proofs.WalkLaws.{Walk, walkText, Going, Turn, Passed, passed, going-refused}
 use Rattle.scale_trace.specs.Trace.{traceEffect}
 use Rattle.scale_trace.specs.Work.{isDone, refusalOf}

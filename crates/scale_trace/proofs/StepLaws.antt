@@ -24,21 +24,22 @@ use Rattle.refusal.specs.Outcome.{Outcome}
 use Rattle.refusal.proofs.RefusalLaws.{number-least}
 use Rattle.text.specs.Text.{WroteUpTo}
 use Rattle.text.proofs.WroteLaws.{wrote-none}
-use Rattle.feed.specs.declared.Kind.{Kind}
-use Rattle.feed.specs.declared.Kind.the-variants.{Parameters, List as ListKind, NoList, Levels, Unknown}
-use Rattle.feed.specs.declared.Given.{Given}
-use Rattle.feed.specs.declared.Given.the-variants.{Nothing, These}
+use Rattle.feed_block.specs.declared.Kind.{Kind}
+use Rattle.feed_block.specs.declared.Kind.the-variants.{Parameters, List as ListKind, NoList, Levels, Unknown}
+use Rattle.feed_block.specs.declared.Given.{Given}
+use Rattle.feed_block.specs.declared.Given.the-variants.{Nothing, These}
 use Rattle.feed.specs.declared.Stepped.{Stepped}
 use Rattle.feed.specs.declared.StepAnswer.{StepAnswer}
 use Rattle.feed.specs.declared.StepAnswer.the-variants.{Done, Refused, NoRoom}
-use Rattle.feed.specs.Format.{kindOf, bodyLength, recordLength}
-use Rattle.feed.specs.Block.{dstRefused}
-use Rattle.feed.specs.Record.{FeedState, Effect, isUnknown, parameterRefused, parametersEffect, listEffect, levelsBy, levelsEffect, bodyEffect, recordEffect}
-use Rattle.feed.specs.Work.{sizeKnown}
-use Rattle.feed.specs.Answers.{Room, stateOf, capped, stepAnswer, answerOf, stepping, Steps}
+use Rattle.feed_block.specs.Format.{kindOf, bodyLength, recordLength}
+use Rattle.feed_block.specs.Block.{dstRefused}
+use Rattle.feed_records.specs.Record.{FeedState, Effect, isUnknown, parameterRefused, parametersEffect, listEffect, levelsBy, levelsEffect, bodyEffect, recordEffect}
+use Rattle.feed_block.specs.Work.{sizeKnown}
+use Rattle.feed_records.specs.Taken.{stateOf, capped, answerOf}
+use Rattle.feed.specs.Answers.{Room, stepAnswer, stepping, Steps}
 use Rattle.feed.specs.Answers.Room.{tooLittle, enough}
-use Rattle.feed.proofs.FormatLaws.{kind-size}
-use Rattle.feed.proofs.EffectLaws.{effect-moved}
+use Rattle.feed_block.proofs.FormatLaws.{kind-size}
+use Rattle.feed_records.proofs.EffectLaws.{effect-moved}
 use Rattle.scale_trace.specs.Trace.{linesFrom, blockLines, levelsLines, recordLines, traceEffect, traceRoom}
 use Rattle.scale_trace.specs.Work.{isDone, sizeOf, TracesAt}
 

@@ -31,19 +31,20 @@ use Rattle.h265.specs.ScalingFactor.ScalingList.{flat, listed}
 use Rattle.h265.specs.ScalingFactor.FactorSource.{none, four, eight, dc, repeated}
 use Rattle.refusal.specs.Outcome.{Outcome}
 use Rattle.text.specs.Text.{space, lineEnd, minus, unsignedText, Wrote, Counts}
-use Rattle.feed.specs.declared.Kind.{Kind}
-use Rattle.feed.specs.declared.Kind.the-variants.{Parameters, List as ListKind, NoList, Levels, Unknown}
-use Rattle.feed.specs.declared.Mode.{Mode}
-use Rattle.feed.specs.declared.Given.{Given}
-use Rattle.feed.specs.declared.Given.the-variants.{Nothing, These}
+use Rattle.feed_block.specs.declared.Kind.{Kind}
+use Rattle.feed_block.specs.declared.Kind.the-variants.{Parameters, List as ListKind, NoList, Levels, Unknown}
+use Rattle.feed_block.specs.declared.Mode.{Mode}
+use Rattle.feed_block.specs.declared.Given.{Given}
+use Rattle.feed_block.specs.declared.Given.the-variants.{Nothing, These}
 use Rattle.feed.specs.declared.Stepped.{Stepped}
 use Rattle.feed.specs.declared.Ran.{Ran}
 use Rattle.feed.specs.declared.Ran.the-variants.{Text, NoRoom}
-use Rattle.feed.specs.Format.{kindOf}
-use Rattle.feed.specs.Block.{listIgnored, listFor}
-use Rattle.feed.specs.Record.{FeedState, Effect, recordEffect}
+use Rattle.feed_block.specs.Format.{kindOf}
+use Rattle.feed_block.specs.Block.{listIgnored, listFor}
+use Rattle.feed_records.specs.Record.{FeedState, Effect, recordEffect}
 use Rattle.feed.specs.Feed.{opening, textBy}
-use Rattle.feed.specs.Answers.{stateOf, capped, stepAnswer, answerOf, Stepping}
+use Rattle.feed_records.specs.Taken.{stateOf, capped, answerOf}
+use Rattle.feed.specs.Answers.{stepAnswer, Stepping}
 use Rattle.feed.specs.Answers.Room.{tooLittle, enough}
 
 -- ---- m and its rule

@@ -18,15 +18,17 @@ use Rattle.h265.specs.ScalingFactor.FactorSource.{none, four, eight, dc, repeat
 use Rattle.refusal.specs.Refusal.{number}
 use Rattle.refusal.specs.Outcome.{Outcome}
 use Rattle.text.specs.Text.{WroteUpTo}
-use Rattle.feed.specs.declared.Kind.{Kind}
-use Rattle.feed.specs.declared.Kind.the-variants.{Parameters, List as ListKind, NoList, Levels, Unknown}
-use Rattle.feed.specs.declared.Mode.{Mode}
+use Rattle.feed_block.specs.declared.Kind.{Kind}
+use Rattle.feed_block.specs.declared.Kind.the-variants.{Parameters, List as ListKind, NoList, Levels, Unknown}
+use Rattle.feed_block.specs.declared.Mode.{Mode}
 use Rattle.feed.specs.declared.Stepped.{Stepped}
 use Rattle.feed.specs.declared.StepAnswer.{StepAnswer}
 use Rattle.feed.specs.declared.StepAnswer.the-variants.{Done, Refused, NoRoom}
-use Rattle.feed.specs.Record.{Effect}
+use Rattle.feed_records.specs.Record.{Effect}
 use Rattle.feed.specs.Feed.{refusedText}
-use Rattle.feed.specs.Answers.{listIn, stateOf, capped, stepAnswer, answerOf}
+use Rattle.feed_block.specs.Block.{listIn}
+use Rattle.feed_records.specs.Taken.{stateOf, capped, answerOf}
+use Rattle.feed.specs.Answers.{stepAnswer}
 use Rattle.feed.specs.Answers.Room.{enough}
 use Rattle.scale_trace.specs.declared.Source.{Source}
 use Rattle.scale_trace.specs.declared.Source.the-variants.{None, Four, Eight, Dc, Repeat, Skip}

@@ -3,7 +3,7 @@ ghost use mathlib.Core.List.{[], _∷_, _++_};
 ghost use Prim.Native.Nat.{_+_, _*_, _<_, _≤_};
 ghost use lib.ListN.{length};
 ghost use Rattle.text.specs.Text.{space, unsignedText, WroteUpTo};
-ghost use Rattle.feed.specs.Answers.{listIn};
+ghost use Rattle.feed_block.specs.Block.{listIn};
 ghost use Rattle.scale_trace.specs.Trace.{reasonText, positionText, ruleText, lineText, blockLines};
 ghost use Rattle.scale_trace.specs.Work.{sourceIs, positionOf, LineAsk, BlockAsk};
 use crate::Source;

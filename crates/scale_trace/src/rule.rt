@@ -4,7 +4,7 @@ ghost use Prim.Native.Nat.{_*_, _<_};
 ghost use lib.Dec.{T};
 ghost use lib.ListN.{length};
 ghost use Rattle.h265.specs.Range.{isSize};
-ghost use Rattle.feed.specs.Answers.{listIn};
+ghost use Rattle.feed_block.specs.Block.{listIn};
 ghost use Rattle.scale_trace.specs.Trace.{blockFactor};
 ghost use Rattle.scale_trace.specs.Work.{LineAsk, SourceAt};
 use crate::Source;

@@ -1,7 +1,7 @@
 -- `feed::lines::refusal_line` meets its contract: a local array is the blank line.
 use borrow.Author.Needs.{needs}
 use Rattle.integers.specs.Lists.{tabulate, tabulateFrom}
-use Rattle.feed.proofs.StateLaws.{lines-wrote}
+use Rattle.feed.proofs.LineLaws.{lines-wrote}
 use Rattle.feed.proofs.lines.refusal_line.Statement.{statement}
 use Rattle.feed.proofs.lines.refusal_line.Tie as tie
 

@@ -9,9 +9,10 @@ use lib.Dec.{ltb}
 use lib.ListN.{length}
 use Rattle.refusal.specs.Outcome.{Outcome}
 use Rattle.text.proofs.WroteLaws.{wrote-none, counts}
-use Rattle.feed.specs.Answers.{Room, stateOf, stepping}
+use Rattle.feed_records.specs.Taken.{stateOf}
+use Rattle.feed.specs.Answers.{Room, stepping}
 use Rattle.feed.specs.Answers.Room.{enough}
-use Rattle.feed.proofs.StateLaws.{capped-id}
+use Rattle.feed_records.proofs.StateLaws.{capped-id}
 use Rattle.feed.proofs.stream.step.Statement.{statement}
 use Rattle.feed.proofs.stream.step.Tie as tie
 

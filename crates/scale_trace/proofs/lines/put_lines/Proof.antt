@@ -1,7 +1,7 @@
 -- `scale_trace::lines::put_lines` meets its contract: the lines from the present index on are left to write, and each took at most 20 bytes.
 use Prim.Native.Nat.{_+_, _-_, _*_, _≤_}
 use Rattle.text.proofs.WroteLaws.{Left}
-use Rattle.feed.specs.Answers.{listIn}
+use Rattle.feed_block.specs.Block.{listIn}
 use Rattle.scale_trace.specs.Trace.{linesFrom, blockLines}
 use Rattle.scale_trace.proofs.LineLaws.{index-side, lines-start, lines-more, lines-done}
 use native.Mathlib.Omega.{arith}

@@ -3,7 +3,7 @@ use mathlib.Core.Path.{_≡_, sym, _∙_}
 use mathlib.Core.Bool.{false, not}
 use Rattle.scale_trace.proofs.RuleLaws.{source-none, source-skip, source-four, source-eight, source-dc, source-repeat, position-16, position-32}
 use Rattle.scaling_values.proofs.FactorLaws.{size-last}
-use Rattle.feed.specs.Block.{listIgnored}
+use Rattle.feed_block.specs.Block.{listIgnored}
 use borrow.Author.Needs.{needs}
 use Rattle.scale_trace.proofs.rule.source_of.Statement.{statement}
 use Rattle.scale_trace.proofs.rule.source_of.Tie as tie

@@ -1,6 +1,6 @@
 -- `scale_trace::stream::size_of` meets its contract: an arm for each kind with levels.
 use mathlib.Core.Path.{refl}
-use Rattle.feed.specs.Format.{kindOf}
+use Rattle.feed_block.specs.Format.{kindOf}
 use Rattle.scale_trace.proofs.StepLaws.{size-none}
 use Rattle.scale_trace.proofs.stream.size_of.Statement.{statement}
 use Rattle.scale_trace.proofs.stream.size_of.Tie as tie

@@ -4,8 +4,8 @@ use Prim.Native.Nat.{_*_}
 use borrow.Author.Tests.{lt-ltb, le-ltb}
 use lib.ListN.{length}
 use Rattle.text.proofs.WroteLaws.{wrote-none, counts}
-use Rattle.feed.specs.Answers.{stateOf}
-use Rattle.feed.proofs.StateLaws.{capped-id}
+use Rattle.feed_records.specs.Taken.{stateOf}
+use Rattle.feed_records.proofs.StateLaws.{capped-id}
 use Rattle.scale_trace.specs.Trace.{tracing}
 use borrow.Author.Needs.{needs}
 use native.Mathlib.Omega.{arith}

@@ -2,8 +2,8 @@
 use mathlib.Core.Path.{_≡_, sym, _∙_}
 use mathlib.Core.Bool.{true}
 use lib.ListN.{length-take}
-use Rattle.feed.specs.Record.{recordEffect}
-use Rattle.feed.specs.Answers.{stateOf}
+use Rattle.feed_records.specs.Record.{recordEffect}
+use Rattle.feed_records.specs.Taken.{stateOf}
 use Rattle.scale_trace.specs.Work.{isDone}
 use Rattle.scale_trace.proofs.RuleLaws.{not-true, not-false}
 use Rattle.scale_trace.proofs.StepLaws.{kind-side, kind-room, Fed, fed, trace-refused, trace-whole, trace-accepted}

@@ -1,0 +1,67 @@
+-- The residual of one block of a feed, by the parameters and the list in force. Document 01, "The feed program"; clause 8.6 in `h265`.
+-- Letters: n size, p the parameters, levels the block's levels in row order.
+--   dstRefused mode n          row 4: the DST has size 4 only
+--   listIgnored mode n         a block that is scaled without a list, though one may be in force
+--   listIn on entries d        the list in force: entries with DC number d, or none
+--   listFor mode n list        the list by which a block is scaled, where `list` is in force
+--   coefficients list p n      the scaled levels
+--   transformedAt t b x n      the residual at an index, of coefficients by a matrix t
+--   residualBy mode list p n   the residual at an index, of levels by the mode: 0 DCT, 1 DST, 2 transform skip
+--   residualAt list p n        the same where `list` is in force
+--   blockResidual list p n     the whole block
+use mathlib.Core.Bool.{Bool, true, false, not, cond}
+use mathlib.Core.List.{List}
+use Prim.Native.Nat.{ℕ, _*_}
+use lib.Dec.{eqb, ltb}
+use lib.IntN.{ℤ, pos}
+use Rattle.integers.specs.Lists.{tabulate}
+use Rattle.h265.specs.Range.{transformRange}
+use Rattle.h265.specs.ScalingFactor.{ScalingList}
+use Rattle.h265.specs.ScalingFactor.ScalingList.{flat, listed}
+use Rattle.h265.specs.Scaling.{scaledAt}
+use Rattle.h265.specs.TransformSkip.{skippedAt}
+use Rattle.h265.specs.Matrix.{transMatrix, dstMatrix}
+use Rattle.h265.specs.Transform.{residual, rowOrder}
+use Rattle.feed_block.specs.declared.Mode.{Mode}
+use Rattle.feed_block.specs.declared.Mode.the-variants.{Dct, Dst, Skip}
+use Rattle.feed_block.specs.declared.Parameters.{Parameters}
+
+unfoldable pub dstRefused : Mode → ℕ → Bool
+dstRefused Dct n = false
+dstRefused Dst n = not (eqb n 4)
+dstRefused Skip n = false
+
+-- clause 8.6: m is 16 for a transform-skip block with nTbS above 4
+unfoldable pub listIgnored : Mode → ℕ → Bool
+listIgnored Dct n = false
+listIgnored Dst n = false
+listIgnored Skip n = ltb 4 n
+
+abbrev pub listIn : Bool → List ℕ → ℕ → ScalingList
+listIn true entries d = listed entries d
+listIn false entries d = flat
+
+unfoldable pub listFor : Mode → ℕ → ScalingList → ScalingList
+listFor mode n list = cond (listIgnored mode n) flat list
+
+unfoldable pub coefficients : ScalingList → Parameters → ℕ → List ℤ → List ℤ
+coefficients list p n levels =
+    tabulate (n * n) (scaledAt list n (p .«bit_depth») (p .«extended_precision») (pos (p .«qp_prime»)) levels)
+
+-- both stages over coefficients, with every column read
+unfoldable pub transformedAt : (ℕ → ℕ → ℤ) → ℕ → Bool → ℕ → List ℤ → ℕ → ℤ
+transformedAt t b x n d = rowOrder n (residual t n b (transformRange b x) n d)
+
+unfoldable pub residualBy : Mode → ScalingList → Parameters → ℕ → List ℤ → ℕ → ℤ
+residualBy Dct list p n levels =
+    transformedAt (transMatrix n) (p .«bit_depth») (p .«extended_precision») n (coefficients list p n levels)
+residualBy Dst list p n levels =
+    transformedAt dstMatrix (p .«bit_depth») (p .«extended_precision») n (coefficients list p n levels)
+residualBy Skip list p n levels =
+    skippedAt list n (p .«bit_depth») (p .«extended_precision») (pos (p .«qp_prime»)) levels
+
+unfoldable pub residualAt : ScalingList → Parameters → ℕ → List ℤ → ℕ → ℤ
+residualAt list p n levels = residualBy (p .mode) (listFor (p .mode) n list) p n levels
+
+unfoldable pub blockResidual : ScalingList → Parameters → ℕ → List ℤ → List ℤ
+blockResidual list p n levels = tabulate (n * n) (residualAt list p n levels)

@@ -1,0 +1,53 @@
+-- The format of a feed's records: one byte of kind, then a body whose length the kind fixes. Document 01, "The feed program".
+--   kindOf k          what a byte of kind stands for
+--   bodyLength kind   how many bytes of body follow it
+--   recordLength k    the same by the byte: 4, 65, 0 for 1, 2, 3, and 4 n² for 4 .. 7; a kind that is not known has none
+--   modeOf m          DCT, DST, transform skip for 0, 1, 2
+--   signed32 u        the signed number that 32 bits stand for
+--   levelAt body i    level i of a body: four bytes, low byte first, signed
+--   levelsOf n body   the n² levels of a body
+use mathlib.Core.Bool.{cond}
+use mathlib.Core.List.{List}
+use Prim.Native.Nat.{ℕ, _+_, _*_}
+use lib.Dec.{eqb, ltb}
+use lib.IntN.{ℤ, pos, _-ℤ_}
+use lib.ListN.{getD}
+use Rattle.integers.specs.Lists.{tabulate}
+use Rattle.feed_block.specs.declared.Kind.{Kind}
+use Rattle.feed_block.specs.declared.Kind.the-variants.{Parameters, List as ListKind, NoList, Levels, Unknown}
+use Rattle.feed_block.specs.declared.Mode.{Mode}
+use Rattle.feed_block.specs.declared.Mode.the-variants.{Dct, Dst, Skip}
+
+unfoldable pub kindOf : ℕ → Kind
+kindOf k =
+    cond (eqb k 1) Parameters
+    (cond (eqb k 2) ListKind
+    (cond (eqb k 3) NoList
+    (cond (eqb k 4) (Levels 4)
+    (cond (eqb k 5) (Levels 8)
+    (cond (eqb k 6) (Levels 16)
+    (cond (eqb k 7) (Levels 32) Unknown))))))
+
+abbrev pub bodyLength : Kind → ℕ
+bodyLength Parameters = 4
+bodyLength ListKind = 65
+bodyLength NoList = 0
+bodyLength (Levels n) = 4 * (n * n)
+bodyLength Unknown = 0
+
+unfoldable pub recordLength : ℕ → ℕ
+recordLength k = bodyLength (kindOf k)
+
+unfoldable pub modeOf : ℕ → Mode
+modeOf m = cond (eqb m 0) Dct (cond (eqb m 1) Dst Skip)
+
+unfoldable pub signed32 : ℕ → ℤ
+signed32 u = cond (ltb u 2147483648) (pos u) (pos u -ℤ pos 4294967296)
+
+unfoldable pub levelAt : List ℕ → ℕ → ℤ
+levelAt body i =
+    let byte : ℕ → ℕ = λ k. getD body (4 * i + k) 0 in
+    signed32 (byte 0 + 256 * (byte 1 + 256 * (byte 2 + 256 * byte 3)))
+
+unfoldable pub levelsOf : ℕ → List ℕ → List ℤ
+levelsOf n body = tabulate (n * n) (levelAt body)

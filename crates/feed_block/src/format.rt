@@ -1,0 +1,47 @@
+// Kinds of records and what a body holds.
+ghost use mathlib.Core.Path.{_≡_};
+ghost use Prim.Native.Nat.{_≤_};
+ghost use Rattle.feed_block.specs.Format.{kindOf, bodyLength, recordLength, modeOf};
+use crate::Kind;
+use crate::Mode;
+
+pub fn kind_of(kind: u8) -> Kind
+    ensures { λ r. ⌜ r ≡ kindOf kind ⌝ }
+{
+    match kind {
+        1 => Kind::Parameters,
+        2 => Kind::List,
+        3 => Kind::NoList,
+        4 => Kind::Levels(4),
+        5 => Kind::Levels(8),
+        6 => Kind::Levels(16),
+        7 => Kind::Levels(32),
+        _ => Kind::Unknown,
+    }
+}
+
+// How many bytes of body follow a kind; a kind that is not known has none.
+pub fn record_length(kind: u8) -> usize
+    ensures { λ r. ⌜ r ≡ recordLength kind ⌝ }
+    ensures { λ r. ⌜ r ≤ 4096 ⌝ }
+{
+    match kind {
+        1 => 4,
+        2 => 65,
+        4 => 64,
+        5 => 256,
+        6 => 1024,
+        7 => 4096,
+        _ => 0,
+    }
+}
+
+pub fn mode_of(mode: u8) -> Mode
+    ensures { λ r. ⌜ r ≡ modeOf mode ⌝ }
+{
+    match mode {
+        0 => Mode::Dct,
+        1 => Mode::Dst,
+        _ => Mode::Skip,
+    }
+}

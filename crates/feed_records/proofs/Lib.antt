@@ -1,0 +1,3 @@
+-- Laws of records; each file builds only on those above it.
+pub mod StateLaws
+pub mod EffectLaws

@@ -1,0 +1,39 @@
+-- `feed_records::records::take_list` meets its contract: the state is the given one with the body's list.
+use borrow.Author.Needs.{needs}
+use mathlib.Core.Path.{ap}
+use mathlib.Core.List.{List}
+use Prim.Native.Nat.{ℕ, _≤_}
+use native.Mathlib.Omega.{arith}
+use lib.ListN.{getD}
+use Rattle.h265.specs.ScalingFactor.ScalingList.{listed}
+use Rattle.feed_records.specs.Record.{FeedState, listEffect}
+use Rattle.feed_records.proofs.StateLaws.{silent-moved}
+use Rattle.feed_records.proofs.records.take_list.Statement.{statement}
+use Rattle.feed_records.proofs.records.take_list.Tie as tie
+
+entries-of-requires : tie.Need-entries-of-requires
+entries-of-requires c κs = search needs
+
+shared-slice-read-t8 : tie.Need-shared-slice-read-t8
+shared-slice-read-t8 c = search needs
+
+behind-requires : tie.Need-behind-requires
+behind-requires c κs = search needs
+
+moved-requires : tie.Need-moved-requires
+moved-requires c κs = search needs
+
+fits : (c : tie.Start) → c .args .s .blocks ≤ 18446744073709551615
+fits c = omega arith
+
+returns : tie.Need-returns
+unfolding listEffect
+returns c =
+    let e = c .before .before .before in
+    let a = e .before .before .args in
+    let given-list : List ℕ → FeedState = λ l. record { given = a .s .given; list = listed l (getD (a .body .now) 64 0); blocks = a .s .blocks; offset = c .before .behind .result } in
+    rw (c .moved .ensures) (silent-moved _ _ _ (fits (e .before .before)) (c .before .behind .ensures) (ap given-list (e .entries-of .ensures)))
+
+pub take-list-spec : {M : Type 1} → statement M
+take-list-spec =
+    tie.close (tie.spec entries-of-requires shared-slice-read-t8 behind-requires moved-requires returns)

@@ -1,0 +1,21 @@
+-- `feed_records::records::take_no_list` meets its contract: the state is the given one without its list.
+use borrow.Author.Needs.{needs}
+use mathlib.Core.Path.{refl}
+use native.Mathlib.Omega.{arith}
+use Rattle.feed_records.specs.Record.{noListEffect}
+use Rattle.feed_records.proofs.StateLaws.{silent-moved}
+use Rattle.feed_records.proofs.records.take_no_list.Statement.{statement}
+use Rattle.feed_records.proofs.records.take_no_list.Tie as tie
+
+behind-requires : tie.Need-behind-requires
+behind-requires c κs = search needs
+
+moved-requires : tie.Need-moved-requires
+moved-requires c κs = search needs
+
+returns : tie.Need-returns
+unfolding noListEffect
+returns c = rw (c .moved .ensures) (silent-moved _ _ _ (omega arith) (c .before .behind .ensures) refl)
+
+pub take-no-list-spec : {M : Type 1} → statement M
+take-no-list-spec = tie.close (tie.spec behind-requires moved-requires returns)

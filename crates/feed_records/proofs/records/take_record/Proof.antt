@@ -1,0 +1,77 @@
+-- `feed_records::records::take_record` meets its contract: the tests are the definition's, in its order.
+use borrow.Author.Needs.{needs}
+use mathlib.Core.Path.{_≡_, sym, ap, _∙_}
+use mathlib.Core.Bool.{Bool}
+use Prim.Native.Nat.{_≤_}
+use native.Mathlib.Omega.{arith}
+use borrow.Author.Tests.{lt-ltb, le-ltb}
+use lib.ListN.{length}
+use Rattle.feed_block.specs.Format.{kindOf, recordLength}
+use Rattle.feed_records.specs.Record.{isUnknown, recordEffect}
+use Rattle.feed_block.proofs.FormatLaws.{kind-size}
+use Rattle.feed_records.proofs.StateLaws.{silent-takes}
+use Rattle.feed_records.proofs.records.take_record.Statement.{statement}
+use Rattle.feed_records.proofs.records.take_record.Tie as tie
+
+kind-of-requires : tie.Need-kind-of-requires
+kind-of-requires c κs = search needs
+
+is-unknown-requires : tie.Need-is-unknown-requires
+is-unknown-requires c κs = search needs
+
+kept-requires : tie.Need-kept-requires
+kept-requires c κs = search needs
+
+known : {b : Bool} (c : tie.After-is-unknown) → c .is-unknown .result ≡ b → isUnknown (kindOf (c .before .before .before .before .args .kind)) ≡ b
+known c e = sym (c .is-unknown .ensures ∙ ap isUnknown (c .before .kind-of .ensures)) ∙ e
+
+returns : tie.Need-returns
+unfolding recordEffect
+returns c = rw (known (c .before .before) (c .before .if1 .taken)) (silent-takes _ _ (c .kept .ensures))
+
+record-length-requires : tie.Need-record-length-requires
+record-length-requires c κs = search needs
+
+kept-requires-2 : tie.Need-kept-requires-2
+kept-requires-2 c κs = search needs
+
+returns-2 : tie.Need-returns-2
+unfolding recordEffect
+returns-2 c =
+    let e = c .before .before in
+    rw (known (e .before .before) (e .before .if1 .left), lt-ltb _ _ (rw (e .record-length .ensures .0) at (c .before .if2 .taken))) (silent-takes _ _ (c .kept2 .ensures))
+
+take-body-requires : tie.Need-take-body-requires
+unfolding recordLength
+take-body-requires c κs =
+    let e = c .before .before in
+    let k = e .before .before .before in
+    let s = k .before .before .before in
+    (record { long = rw (k .kind-of .ensures, ← e .record-length .ensures .0) (c .before .if2 .left); size = rw (k .kind-of .ensures) (kind-size (s .args .kind)) }, s .pre)
+
+same-length : tie.Need-same-length
+same-length c = search needs
+
+returns-3 : tie.Need-returns-3
+unfolding recordEffect
+returns-3 c =
+    let b = c .before .before in
+    let e = b .before .before .before in
+    let u = e .before .before in
+    rw (known u (e .before .if1 .left), le-ltb _ _ (rw (e .record-length .ensures .0) at (b .before .before .if2 .left)))
+    (rw (u .before .kind-of .ensures) at (b .take-body .ensures))
+
+pub take-record-spec : {M : Type 1} → statement M
+take-record-spec =
+    tie.close
+    (tie.spec
+    kind-of-requires
+    is-unknown-requires
+    kept-requires
+    returns
+    record-length-requires
+    kept-requires-2
+    returns-2
+    take-body-requires
+    same-length
+    returns-3)
