@@ -1,7 +1,7 @@
 // The inverse transforms of whole blocks: the DCT with a column count, and the DST of size 4.
 ghost use mathlib.Core.Bool.{true, false};
 ghost use Rattle.transform_1d.specs.declared.Kind.the-variants.{Dct, Dst};
-ghost use Rattle.transform.specs.Blocks.{inverted};
+ghost use Rattle.transform_blocks.specs.Blocks.{inverted};
 ghost use Rattle.c_api.specs.Blocks.{Writes};
 use crate::Answered;
 use crate::answers;

@@ -22,7 +22,7 @@ use Rattle.coefficients.specs.Outside.{outsideAt, firstOutside}
 use Rattle.transform_1d.specs.declared.Kind.{Kind}
 use Rattle.transform_1d.specs.declared.Kind.the-variants.{Dct, Dst}
 use Rattle.transform_1d.specs.MatrixOf.{matrixOf}
-use Rattle.transform.specs.Blocks.{inverted}
+use Rattle.transform_blocks.specs.Blocks.{inverted}
 use Rattle.feed_block.specs.declared.Mode.{Mode}
 use Rattle.feed_block.specs.declared.Mode.the-variants.{Dct as DctMode, Dst as DstMode, Skip as SkipMode}
 use Rattle.feed_block.specs.Block.{dstRefused, transformedAt}

@@ -40,7 +40,8 @@ use Rattle.feed.specs.Answers.{Room, stepAnswer, stepping, Steps}
 use Rattle.feed.specs.Answers.Room.{tooLittle, enough}
 use Rattle.feed_block.proofs.FormatLaws.{kind-size}
 use Rattle.feed_records.proofs.EffectLaws.{effect-moved}
-use Rattle.scale_trace.specs.Trace.{linesFrom, blockLines, levelsLines, recordLines, traceEffect, traceRoom}
+use Rattle.scale_trace_block.specs.Block.{linesFrom, blockLines}
+use Rattle.scale_trace.specs.Trace.{levelsLines, recordLines, traceEffect, traceRoom}
 use Rattle.scale_trace.specs.Work.{isDone, sizeOf, TracesAt}
 
 -- ---- sizes of kinds

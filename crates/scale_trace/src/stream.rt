@@ -9,7 +9,6 @@ ghost use Rattle.feed_block.specs.Format.{kindOf};
 ghost use Rattle.feed_records.specs.Taken.{stateOf};
 ghost use Rattle.scale_trace.specs.Trace.{levelsLines, traceEffect, traceRoom, tracing, Traces, traceText, listingRoom, Lists};
 ghost use Rattle.scale_trace.specs.Work.{isDone, sizeOf, refusalOf, TracesAt};
-use crate::lines;
 use feed::Given;
 use feed::Ran;
 use feed::State;
@@ -57,7 +56,7 @@ fn put_levels(state: State, n: usize, out: &mut [u8], at: usize) -> usize
         Given::Nothing => at,
         Given::These(p) => {
             let mode = p.mode;
-            lines::put_lines(state.listed, &entries, state.dc, mode, n, out, at)
+            scale_trace_block::put_lines(state.listed, &entries, state.dc, mode, n, out, at)
         }
     }
 }

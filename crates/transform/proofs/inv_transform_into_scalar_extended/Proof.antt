@@ -1,6 +1,6 @@
 -- `transform::inv_transform_into_scalar_extended` meets its contract: it is the general function's, for a DCT.
 use borrow.Author.Needs.{needs}
-use Rattle.transform.proofs.BlocksLaws.{of-dct}
+use Rattle.transform_blocks.proofs.BlocksLaws.{of-dct}
 use Rattle.transform.proofs.inv_transform_into_scalar_extended.Statement.{statement}
 use Rattle.transform.proofs.inv_transform_into_scalar_extended.Tie as tie
 
