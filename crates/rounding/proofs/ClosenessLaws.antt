@@ -23,8 +23,8 @@ use Rattle.refusal.proofs.ConditionLaws.{size-accepted, depth-accepted}
 use Rattle.transform_1d.specs.declared.Kind.{Kind}
 use Rattle.transform_1d.specs.MatrixOf.{matrixOf}
 use Rattle.coefficients.specs.Outside.{firstOutside}
-use Rattle.transform.specs.Blocks.{inverted}
-use Rattle.transform.proofs.BlocksLaws.{Checked, inverted-done}
+use Rattle.transform_blocks.specs.Blocks.{inverted}
+use Rattle.transform_blocks.proofs.BlocksLaws.{Checked, inverted-done}
 use Rattle.edited_block.specs.History.{rangeOf, historyResidual}
 use Rattle.edited_block.specs.Run.{ran, historyAfter}
 use Rattle.edited_block.proofs.OpeningLaws.{opened-accepted}

@@ -14,7 +14,7 @@ use Rattle.h265.specs.Transform.{blockAt, residual}
 use Rattle.transform_1d.specs.declared.Kind.{Kind}
 use Rattle.transform_1d.specs.declared.Kind.the-variants.{Dst}
 use Rattle.transform_1d.specs.MatrixOf.{matrixOf}
-use Rattle.transform.specs.Blocks.{OfKind, inverted}
+use Rattle.transform_blocks.specs.Blocks.{OfKind, inverted}
 use Rattle.edited_block.specs.Edit.{Buffers}
 use Rattle.edited_block.specs.History.{Edit, Opening}
 use Rattle.edited_block.specs.Run.{openedAs, ran, historyAfter}
