@@ -96,7 +96,7 @@ pub extern "C" fn residual_edit(
         extended: extended_precision,
         columns,
     };
-    let e = edited_block::edit_by_value(block, coeff, inter, residual, row, column, value);
+    let e = edited_record::edit_by_value(block, coeff, inter, residual, row, column, value);
     let given = e.answer;
     let after = e.block;
     block_answered(given, after)

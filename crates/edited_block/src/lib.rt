@@ -185,41 +185,6 @@ pub fn edit_core(
     }
 }
 
-// One edit of an open block: sets the value, and writes the column count, the intermediate and the residual. A refused edit changes nothing.
-pub fn edit(
-    block: &mut EditedBlock,
-    coeff: &mut [i32],
-    inter: &mut [i32],
-    residual: &mut [i32],
-    row: usize,
-    column: usize,
-    value: i32,
-) -> Answer
-    ensures { λ r. ⌜ Edits (edited (now (block .entry)) (buffers (now (coeff .entry)) (now (inter .entry)) (now (residual .entry))) row column value) r (now (block .exit)) (now (coeff .exit)) (now (inter .exit)) (now (residual .exit)) ⌝ }
-{
-    let b = *block;
-    let e = edit_core(b, coeff, inter, residual, row, column, value);
-    block.columns = e.columns;
-    e.answer
-}
-
-// The same edit of a record that is given by value and handed back.
-pub fn edit_by_value(
-    block: EditedBlock,
-    coeff: &mut [i32],
-    inter: &mut [i32],
-    residual: &mut [i32],
-    row: usize,
-    column: usize,
-    value: i32,
-) -> Opened
-    ensures { λ r. ⌜ Edits (edited block (buffers (now (coeff .entry)) (now (inter .entry)) (now (residual .entry))) row column value) (r .answer) (r .block) (now (coeff .exit)) (now (inter .exit)) (now (residual .exit)) ⌝ }
-{
-    let mut b = block;
-    let answer = edit(&mut b, coeff, inter, residual, row, column, value);
-    Opened { answer, block: b }
-}
-
 // The residual of an intermediate: stage two alone, for a caller whose residual is out of date.
 pub fn refresh_residual(
     kind: Kind,

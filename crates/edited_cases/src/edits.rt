@@ -21,7 +21,7 @@ fn edit(
     lines::put(row as u64);
     lines::put(column as u64);
     lines::put_signed(value);
-    let edited = edited_block::edit_by_value(block, coeff, inter, residual, row, column, value);
+    let edited = edited_record::edit_by_value(block, coeff, inter, residual, row, column, value);
     let answer = edited.answer;
     let after = edited.block;
     lines::put_answer(answer);

@@ -39,7 +39,7 @@ fn turn(
     let row = edit.row;
     let column = edit.column;
     let value = edit.value;
-    let edited = edited_block::edit_by_value(block, coeff, inter, residual, row, column, value);
+    let edited = edited_record::edit_by_value(block, coeff, inter, residual, row, column, value);
     let after = edited.block;
     let answer = edited.answer;
     let number = lines::answer_number(answer);

@@ -67,7 +67,7 @@ fn edit_each(
     let mut b = block;
     let mut i: usize = 0;
     while i < count {
-        let e = edited_block::edit_by_value(
+        let e = edited_record::edit_by_value(
             b,
             coeff,
             inter,

@@ -1,4 +1,4 @@
--- `edited_block::edit` meets its contract: a walk of its MIR, by hand. All that it knows of `edit_core` is that it meets its contract.
+-- `edited_record::edit` meets its contract: a walk of its MIR, by hand. All that it knows of `edit_core` is that it meets its contract.
 -- The record's borrow is opened and stays open over the call: the record is copied out, and the count that the core returns is written back. The slices go to the core at their own lifetimes, shares and names, and are given up for good (`gave-slice`).
 use mathlib.Core.Path.{_≡_, refl, ap}
 use Prim.Native.Nat.{ℕ, _<_, _^_}
@@ -45,23 +45,23 @@ use denote.Triple.Clauses.{ensured, lasts}
 use denote.Triple.Table.{entered, cited}
 use denote.Triple.Walked.{says, Stays, stay-ref, stay-none, gave-slice, walkOf, goes-none, goes-ref, goes-gave-slice, Walks, ends-at, walked, walk-meets}
 use denote.Exit.{yes}
 use Rattle.edited_block.specs.declared.EditedBlock.{EditedBlock}
 use Rattle.edited_block.specs.declared.Edited.{Edited}
 use Rattle.edited_block.specs.Edit.{buffers, edited, withColumns, Edits}
 use Rattle.edited_block.proofs.EditedBlock as T
 use Rattle.edited_block.proofs.EditedBlock.Laws as T′
 use Rattle.edited_block.proofs.Edited as D
 use Rattle.edited_block.proofs.Edited.Laws as D′
 use Rattle.refusal.proofs.Answer as S
 use Rattle.refusal.proofs.Answer.Laws as S′
 use Rattle.edited_block.proofs.edit_core as core
 use Rattle.edited_block.proofs.edit_core.Symbol as core-def
 use Rattle.edited_block.proofs.edit_core.Symbol.{name as #edited-block·edit-core}
 use Rattle.edited_block.proofs.edit_core.Met as core-thm
-use Rattle.edited_block.proofs.edit.Key.{name as #edited-block·edit}
-use Rattle.edited_block.proofs.edit as edit
-use Rattle.edited_block.proofs.edit.Statement as stated
-use Rattle.edited_block.proofs.edit.Code as code
+use Rattle.edited_record.proofs.edit.Key.{name as #edited-record·edit}
+use Rattle.edited_record.proofs.edit as edit
+use Rattle.edited_record.proofs.edit.Statement as stated
+use Rattle.edited_record.proofs.edit.Code as code
 
 abbrev stayed : Stays (edit.ended .signature .params) (edit.ended .kept)
 stayed = (stay-ref (0 ∷ []) tt (plain (λ _. T.the-row)), (gave-slice (1 ∷ []) tt (plain (λ _. i32)), (gave-slice (2 ∷ []) tt (plain (λ _. i32)), (gave-slice (3 ∷ []) tt (plain (λ _. i32)), (stay-none (λ _. usize) yes, (stay-none (λ _. usize) yes, (stay-none (λ _. i32) yes, tt)))))))
@@ -207,6 +207,6 @@ pub edit-spec : {M : Type 1} → stated.statement M
 unfolding code.routine tablesOf
 edit-spec 𝓤 H 𝓜 𝓖 𝓡 =
     entered 𝓤 H (tripleOf 𝓤 H (𝓖 .A) edit.signature (edit.spec 𝓤 H (𝓖 .A) (𝓜 .mem) (𝓡 .run)))
-    (tables 𝓤 H 𝓜 𝓡 code.env .C) (tables 𝓤 H 𝓜 𝓡 code.env .Λ) #edited-block·edit code.function (code.unfolded 𝓤 H 𝓜 𝓡)
+    (tables 𝓤 H 𝓜 𝓡 code.env .C) (tables 𝓤 H 𝓜 𝓡 code.env .Λ) #edited-record·edit code.function (code.unfolded 𝓤 H 𝓜 𝓡)
     (edit-meets 𝓤 H (𝓖 .A) (givenOf 𝓤 H 𝓜 𝓖) (𝓜 .mem) (𝓡 .run) (tablesOf 𝓤 H 𝓜 (tables 𝓤 H 𝓜 𝓡 code.env))
     (cited 𝓤 H (Core 𝓤 H (𝓖 .A) (𝓜 .mem) (𝓡 .run)) 𝓜 𝓡 code.env #edited-block·edit-core core-def.routine code.calls-edited-block·edit-core (core-thm.met 𝓤 H 𝓜 𝓖 𝓡)))

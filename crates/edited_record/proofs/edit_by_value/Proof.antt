@@ -1,4 +1,4 @@
--- `edited_block::edit_by_value` meets its contract: a walk of its MIR, by hand. A local that holds the record is lent to `edit` for a lifetime of the call, and comes back at the last value that `edit`'s contract says.
+-- `edited_record::edit_by_value` meets its contract: a walk of its MIR, by hand. A local that holds the record is lent to `edit` for a lifetime of the call, and comes back at the last value that `edit`'s contract says.
 use mathlib.Core.Path.{_≡_, refl, ap, subst}
 use Prim.Native.Nat.{ℕ, _<_, _^_}
 use mathlib.Core.List.{[], _∷_, List}
@@ -46,24 +46,24 @@ use denote.Triple.Clauses.{ensured, lasts}
 use denote.Triple.Table.{entered, cited}
 use denote.Triple.Walked.{says, Stays, stay-none, gave-slice, walkOf, goes-none, goes-gave-slice, Walks, ends-at, walked, walk-meets}
 use denote.Exit.{yes}
 use Rattle.edited_block.specs.declared.EditedBlock.{EditedBlock}
 use Rattle.edited_block.specs.declared.Opened.{Opened}
 use Rattle.refusal.specs.declared.Answer.{Answer}
 use Rattle.edited_block.specs.Edit.{buffers, edited, Edits}
 use Rattle.edited_block.proofs.EditedBlock as T
 use Rattle.edited_block.proofs.EditedBlock.Laws as T′
 use Rattle.edited_block.proofs.Opened as D
 use Rattle.edited_block.proofs.Opened.Laws as D′
 use Rattle.refusal.proofs.Answer as S
 use Rattle.refusal.proofs.Answer.Laws as S′
-use Rattle.edited_block.proofs.edit as edit
-use Rattle.edited_block.proofs.edit.Symbol as edit-def
-use Rattle.edited_block.proofs.edit.Symbol.{name as #edited-block·edit}
-use Rattle.edited_block.proofs.edit.Met as edit-thm
-use Rattle.edited_block.proofs.edit_by_value.Key.{name as #edited-block·edit-by-value}
-use Rattle.edited_block.proofs.edit_by_value as outer
-use Rattle.edited_block.proofs.edit_by_value.Statement as stated
-use Rattle.edited_block.proofs.edit_by_value.Code as code
+use Rattle.edited_record.proofs.edit as edit
+use Rattle.edited_record.proofs.edit.Symbol as edit-def
+use Rattle.edited_record.proofs.edit.Symbol.{name as #edited-record·edit}
+use Rattle.edited_record.proofs.edit.Met as edit-thm
+use Rattle.edited_record.proofs.edit_by_value.Key.{name as #edited-record·edit-by-value}
+use Rattle.edited_record.proofs.edit_by_value as outer
+use Rattle.edited_record.proofs.edit_by_value.Statement as stated
+use Rattle.edited_record.proofs.edit_by_value.Code as code
 
 abbrev stayed : Stays (outer.ended .signature .params) (outer.ended .kept)
 stayed = (stay-none (λ _. T.the-row) yes, (gave-slice (0 ∷ []) tt (plain (λ _. i32)), (gave-slice (1 ∷ []) tt (plain (λ _. i32)), (gave-slice (2 ∷ []) tt (plain (λ _. i32)), (stay-none (λ _. usize) yes, (stay-none (λ _. usize) yes, (stay-none (λ _. i32) yes, tt)))))))
@@ -152,7 +152,7 @@ module _ {M : Type 1} (𝓤 : URA M) (H : Heap 𝓤) (A : Atoms 𝓤) (W : Given
   whole-is : (r : Answer) (d : EditedBlock) (w : Val) → Is S.the-row r (w ∷ []) → Is T.the-row d (mach d ∷ []) → Is D.the-row (made r d) (out r d ∷ [])
   whole-is r d w is g = LL.owes D.the-type D′.the-laws (made r d) (subst (Is S.the-row r) (EL.tells S.the-type S′.the-laws r _ is) is, (g, tt))
 
-  module _ (C : Calls 𝓤 H) (Λ : Loops 𝓤 H) (fm : FmC 𝓤 H (W .laws) C) (known : Triple 𝓤 (C #edited-block·edit) (Callee 𝓤 H A at-mem run)) where
+  module _ (C : Calls 𝓤 H) (Λ : Loops 𝓤 H) (fm : FmC 𝓤 H (W .laws) C) (known : Triple 𝓤 (C #edited-record·edit) (Callee 𝓤 H A at-mem run)) where
     walk : Is T.the-row h (mach h ∷ []) → Room i32 (length ys₁) → Room i32 (length ys₂) → Room i32 (length ys₃) → ent 𝓤 (onEntry 𝓤 H A outer.signature (κ₁, (κ₂, (κ₃, tt))) (q₁, (q₂, (q₃, tt))) a vals) (WpFn 𝓤 H C Λ code.function (mach h ∷ s₁ ∷ s₂ ∷ s₃ ∷ vint w64 row ∷ vint w64 column ∷ vint w32 (ofZ w32 z) ∷ []) Post)
     unfolding partOf
     walk g room₁ room₂ room₃ =
@@ -194,13 +194,13 @@ module _ {M : Type 1} (𝓤 : URA M) (H : Heap 𝓤) (A : Atoms 𝓤) (W : Given
         keep ! (1 ∷ 6 ∷ 5 ∷ 3 ∷ []) $ by ! (exits r (zs .0) (zs .1 .0) (zs .1 .1 .0) (zs .1 .1 .1 .0) e l₁ l₂ l₃ g (whole-is r (zs .0) w is g′))))))))))))))))))))))))))))))))
 
 module _ {M : Type 1} (𝓤 : URA M) (H : Heap 𝓤) (A : Atoms 𝓤) (W : Given 𝓤 H A) (mem : Memory → SProp 𝓤) (run : Routine → Fun 𝓤) where
-  outer-walks : (C : Calls 𝓤 H) (Λ : Loops 𝓤 H) → FmC 𝓤 H (W .laws) C → Triple 𝓤 (C #edited-block·edit) (Callee 𝓤 H A mem run) → Walks 𝓤 H A outer.ended stayed (WpFn 𝓤 H C Λ code.function) (outer.clauses 𝓤 H A mem run)
+  outer-walks : (C : Calls 𝓤 H) (Λ : Loops 𝓤 H) → FmC 𝓤 H (W .laws) C → Triple 𝓤 (C #edited-record·edit) (Callee 𝓤 H A mem run) → Walks 𝓤 H A outer.ended stayed (WpFn 𝓤 H C Λ code.function) (outer.clauses 𝓤 H A mem run)
   outer-walks C Λ fm known = walked 𝓤 H A outer.ended stayed (outer.clauses 𝓤 H A mem run) (WpFn 𝓤 H C Λ code.function)
       (λ κs. (LL.vals T.the-type T′.the-laws, (slice-vals, (slice-vals, (slice-vals, (uint-vals w64, (uint-vals w64, (sint-vals w32, tt)))))))) (λ κs. (LL.tells T.the-type T′.the-laws, (mut-slice-tells (named 0) (κs .0) i32, (mut-slice-tells (named 1) (κs .1 .0) i32, (mut-slice-tells (named 2) (κs .1 .1 .0) i32, (uint-tells w64, (uint-tells w64, (sint-tells w32, tt))))))))
       (λ κs qs bounds a g are. via 𝓤 _ (fst∗ 𝓤 _ (emp 𝓤))
       (walk 𝓤 H A W mem run (κs .0) (κs .1 .0) (κs .1 .1 .0) (qs .0) (qs .1 .0) (qs .1 .1 .0) (a .0) (a .1 .0 .ptr .0) (a .1 .0 .ptr .1) (a .1 .0 .name) (a .1 .0 .now) (a .1 .1 .0 .ptr .0) (a .1 .1 .0 .ptr .1) (a .1 .1 .0 .name) (a .1 .1 .0 .now) (a .1 .1 .1 .0 .ptr .0) (a .1 .1 .1 .0 .ptr .1) (a .1 .1 .1 .0 .name) (a .1 .1 .1 .0 .now) (a .1 .1 .1 .1 .0) (a .1 .1 .1 .1 .1 .0) (a .1 .1 .1 .1 .1 .1 .0) (are .1 .1 .1 .1 .0 .1) (are .1 .1 .1 .1 .1 .0 .1) (record { sfits = are .1 .1 .1 .1 .1 .1 .0 .1 }) C Λ fm known (are .0) (are .1 .0 .0 .1) (are .1 .1 .0 .0 .1) (are .1 .1 .1 .0 .0 .1)))
 
-outer-meets : {M : Type 1} (𝓤 : URA M) (H : Heap 𝓤) (A : Atoms 𝓤) → Given 𝓤 H A → (mem : Memory → SProp 𝓤) (run : Routine → Fun 𝓤) (𝓣 : Tables 𝓤 H) → Triple 𝓤 (𝓣 .C #edited-block·edit) (Callee 𝓤 H A mem run)
+outer-meets : {M : Type 1} (𝓤 : URA M) (H : Heap 𝓤) (A : Atoms 𝓤) → Given 𝓤 H A → (mem : Memory → SProp 𝓤) (run : Routine → Fun 𝓤) (𝓣 : Tables 𝓤 H) → Triple 𝓤 (𝓣 .C #edited-record·edit) (Callee 𝓤 H A mem run)
     → Meets 𝓤 H A outer.signature (WpFn 𝓤 H (𝓣 .C) (𝓣 .Λ) code.function) (outer.spec 𝓤 H A mem run)
 outer-meets 𝓤 H A W mem run 𝓣 known =
     walk-meets 𝓤 H A outer.ended stayed W (goes-none 𝓤 H A W 3 (λ _. T.the-row) yes (λ κs x f. refl), (goes-gave-slice 𝓤 H A W 3 0 tt (plain (λ _. i32)), (goes-gave-slice 𝓤 H A W 3 1 tt (plain (λ _. i32)), (goes-gave-slice 𝓤 H A W 3 2 tt (plain (λ _. i32)), (goes-none 𝓤 H A W 3 (λ _. usize) yes (λ κs x f. refl), (goes-none 𝓤 H A W 3 (λ _. usize) yes (λ κs x f. refl), (goes-none 𝓤 H A W 3 (λ _. i32) yes (λ κs x f. refl), tt))))))) (outer.clauses 𝓤 H A mem run)
@@ -210,6 +210,6 @@ pub edit-by-value-spec : {M : Type 1} → stated.statement M
 unfolding code.routine tablesOf
 edit-by-value-spec 𝓤 H 𝓜 𝓖 𝓡 =
     entered 𝓤 H (tripleOf 𝓤 H (𝓖 .A) outer.signature (outer.spec 𝓤 H (𝓖 .A) (𝓜 .mem) (𝓡 .run)))
-    (tables 𝓤 H 𝓜 𝓡 code.env .C) (tables 𝓤 H 𝓜 𝓡 code.env .Λ) #edited-block·edit-by-value code.function (code.unfolded 𝓤 H 𝓜 𝓡)
+    (tables 𝓤 H 𝓜 𝓡 code.env .C) (tables 𝓤 H 𝓜 𝓡 code.env .Λ) #edited-record·edit-by-value code.function (code.unfolded 𝓤 H 𝓜 𝓡)
     (outer-meets 𝓤 H (𝓖 .A) (givenOf 𝓤 H 𝓜 𝓖) (𝓜 .mem) (𝓡 .run) (tablesOf 𝓤 H 𝓜 (tables 𝓤 H 𝓜 𝓡 code.env))
-    (cited 𝓤 H (Callee 𝓤 H (𝓖 .A) (𝓜 .mem) (𝓡 .run)) 𝓜 𝓡 code.env #edited-block·edit edit-def.routine code.calls-edited-block·edit (edit-thm.met 𝓤 H 𝓜 𝓖 𝓡)))
+    (cited 𝓤 H (Callee 𝓤 H (𝓖 .A) (𝓜 .mem) (𝓡 .run)) 𝓜 𝓡 code.env #edited-record·edit edit-def.routine code.calls-edited-record·edit (edit-thm.met 𝓤 H 𝓜 𝓖 𝓡)))
