@@ -1,2 +1,3 @@
--- What row 9 asks, row by row.
+-- Laws of this crate's definitions.
 pub mod OutsideLaws
+pub mod RowsLaws

@@ -1,4 +1,4 @@
-// The range of coefficients, and where a block has one outside it. Internal: the crates above call these and meet what they require.
+// The range of coefficients, where a block has one outside it, and which rows are in use. Internal: the crates above call these and meet what they require.
 ghost use mathlib.Core.Path.{_≡_};
 ghost use mathlib.Core.Bool.{true, false};
 ghost use Prim.Native.Nat.{ℕ, _+_, _*_, _<_, _≤_};
@@ -8,6 +8,10 @@ ghost use lib.ListN.{getD, length};
 ghost use Rattle.integers.specs.Search.{firstWhere};
 ghost use Rattle.h265.specs.Range.{isSize, transformRange, outsideRange};
 ghost use Rattle.coefficients.specs.Outside.{Reaches, firstOutside};
+
+mod rows; // which rows are in use
+
+pub use rows::rows_used;
 
 // R: coefficients lie in -2^R .. 2^R - 1.
 pub fn transform_range(bit_depth: u8, extended_precision: bool) -> u32

@@ -4,13 +4,13 @@
 --   columnCount-append         the count reads the block alone
 --   ZeroRows, zero-row, other-row   what a scan down a column has seen
 --   count-used, count-unused   what a column says of the count
---   rowsUsed-all, rowsUsed-pred, zero-rows-all   what a scan of the rows has seen, and what it says of a column
+--   zero-rows-all              what a scan of the rows says of a column
 use mathlib.Core.Path.{_≡_, refl, sym, ap, _∙_}
 use mathlib.Core.Bool.{Bool, true, false, not, _&&_, cond}
 use mathlib.Core.List.{List, _++_}
 use Prim.Native.Nat.{ℕ, zero, suc, zero-le, _+_, _-_, _*_, _/_, _%_, _≤_, _<_}
 use native.Mathlib.Decide.{decLt, ℕ-discrete}
-use native.Mathlib.Nat.{le-div-iff-mul-le, mul-le-mul-right, suc-mul}
+use native.Mathlib.Nat.{le-div-iff-mul-le}
 use native.Mathlib.Omega.{arith}
 use borrow.Author.Tests.{lt-ltb, le-ltb, eq-eqb, ne-eqb}
 use lib.Dec.{eqb, ltb}
@@ -22,8 +22,9 @@ use Rattle.integers.proofs.ListsLaws.{tabulate-length, tabulate-getD, overwrite
 use Rattle.integers.proofs.SearchLaws.{None, firstWhere-none, firstWhere-found, firstWhere-cong}
 use Rattle.h265.specs.Transform.{blockAt, rowOrder}
 use Rattle.h265.proofs.TransformLaws.{cell-row, cell-column, blockAt-append}
+use Rattle.coefficients.specs.Rows.{RowsUsed}
 use Rattle.stages_wide.specs.Wide.{columnReplaced}
-use Rattle.edited_block.specs.Columns.{columnUsed, lastWhere, columnCount, RowsUsed}
+use Rattle.edited_block.specs.Columns.{columnUsed, lastWhere, columnCount}
 
 pub columnReplaced-length : (n c : ℕ) (f : ℕ → ℤ) (xs : List ℤ) → length (columnReplaced n c f xs) ≡ length xs
 unfolding columnReplaced
@@ -113,28 +114,8 @@ pub count-unused : (n : ℕ) (xs : List ℤ) (c : ℕ) → ZeroRows n xs c n →
 unfolding lastWhere columnUsed zeroAt
 count-unused n xs c z = rw (firstWhere-none n (omega arith) z, le-ltb n n (omega arith))
 
--- ---- rows in use
-pub rowsUsed-all : {xs : List ℤ} {n : ℕ} → RowsUsed xs n n
-rowsUsed-all = record { most = omega arith; zero = λ k c a b l. absurd (let no : ⊥ = omega (arith, a, b) in no) }
-
--- the row before them is zero too
-pub rowsUsed-pred : {xs : List ℤ} {n k : ℕ} → 0 < k → RowsUsed xs n k → ((c : ℕ) → c < n → getD xs ((k - 1) * n + c) (pos 0) ≡ pos 0) → RowsUsed xs n (k - 1)
-rowsUsed-pred {xs} {n} {k} h u row =
-    record {
-      most = omega (arith, u .most);
-      zero = λ i c a b l.
-          elim (decLt (k - 1) i) [
-            | yes q ↦ u .zero i c (omega (arith, q)) b l
-            | no q ↦ let e : i ≡ k - 1 = omega (arith, q, a) in rw e (row c l)
-          ];
-    }
-
--- a row lies in the block
-pub row-inside : (n k : ℕ) → k < n → k * n + n ≤ n * n
-row-inside n k h = omega (arith, mul-le-mul-right n h, suc-mul k n)
-
 -- a column whose rows in use are zero is zero
-pub zero-rows-all : {xs : List ℤ} {n r : ℕ} (c : ℕ) → c < n → RowsUsed xs n r → ZeroRows n xs c r → ZeroRows n xs c n
+pub zero-rows-all : {xs : List ℤ} {n r : ℕ} (c : ℕ) → c < n → RowsUsed xs n n r → ZeroRows n xs c r → ZeroRows n xs c n
 zero-rows-all {xs} {n} {r} c h u z =
     record {
       at = λ i l.

@@ -1,14 +1,11 @@
 -- Columns of a block in row order. Document 01, "The held block".
 --   columnUsed n xs c         column c has a coefficient other than zero
 --   columnCount n xs          one past the last such column, or 0
---   RowsUsed xs n r           rows from r on hold zeros only
-use mathlib.Core.Path.{_≡_}
 use mathlib.Core.Bool.{Bool, not, cond}
 use mathlib.Core.List.{List}
-use Prim.Native.Nat.{ℕ, zero, suc, _+_, _*_, _≤_, _<_}
+use Prim.Native.Nat.{ℕ, zero, suc}
 use lib.Dec.{eqb, ltb}
-use lib.IntN.{ℤ, pos, natAbs}
-use lib.ListN.{getD}
+use lib.IntN.{ℤ, natAbs}
 use Rattle.integers.specs.Search.{firstWhere}
 use Rattle.h265.specs.Transform.{blockAt}
 
@@ -22,7 +19,3 @@ lastWhere (suc k) p = cond (p k) (suc k) (lastWhere k p)
 
 unfoldable pub columnCount : ℕ → List ℤ → ℕ
 columnCount n xs = lastWhere n (columnUsed n xs)
-
-pub record RowsUsed (xs : List ℤ) (n r : ℕ) : Type 0 where
-  pub most : r ≤ n
-  pub zero : (k c : ℕ) → r ≤ k → k < n → c < n → getD xs (k * n + c) (pos 0) ≡ pos 0

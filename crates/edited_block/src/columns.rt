@@ -5,7 +5,8 @@ ghost use lib.Dec.{T};
 ghost use lib.IntN.{pos};
 ghost use lib.ListN.{length, getD};
 ghost use Rattle.h265.specs.Range.{isSize};
-ghost use Rattle.edited_block.specs.Columns.{columnCount, RowsUsed};
+ghost use Rattle.coefficients.specs.Rows.{RowsUsed};
+ghost use Rattle.edited_block.specs.Columns.{columnCount};
 
 // 1 for a number other than zero.
 fn one_where(x: i32) -> u32
@@ -28,10 +29,10 @@ fn nonzeros(coeff: &[i32], at: usize, w: usize) -> u32
     found
 }
 
-// One past the last row that has a coefficient other than zero.
+// What `coefficients::rows_used` gives for all columns, with no way out of a row.
 fn rows_used(coeff: &[i32], n: usize) -> usize
     requires { ⌜ T (isSize n) × (n * n ≤ length (now coeff)) ⌝ }
-    ensures { λ r. ⌜ RowsUsed (now (coeff .entry)) n r ⌝ }
+    ensures { λ r. ⌜ RowsUsed (now (coeff .entry)) n n r ⌝ }
 {
     let mut k = n;
     while 0 < k {

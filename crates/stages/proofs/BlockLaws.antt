@@ -40,7 +40,8 @@ use Rattle.transform_1d.specs.Rows.{Placed, Filled}
 use Rattle.transform_1d.proofs.KernelLaws.{laneMatrix-low, laneMatrix-high}
 use Rattle.transform_1d.proofs.RowsLaws.{row-unique, filled-overwrite}
 use Rattle.transform_1d.proofs.MatrixLaws.{transformLine-within, transMatrix-mirror-8, transMatrix-mirror-16, Laid}
-use Rattle.stages.specs.Passes.{shiftedResidual, RowsUsed, PassAsk, columnValue, rowValue, folded, foldedLane}
+use Rattle.coefficients.specs.Rows.{RowsUsed}
+use Rattle.stages.specs.Passes.{shiftedResidual, PassAsk, columnValue, rowValue, folded, foldedLane}
 use Rattle.stages.proofs.FinishLaws.{clip-fits}
 use Rattle.stages.proofs.PassesLaws.{folded-low, folded-high, folded-inside, folded-back, foldedLane-low, foldedLane-high}
 

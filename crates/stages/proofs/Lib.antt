@@ -1,5 +1,4 @@
 -- Laws of this crate's definitions; each file builds only on those above it.
-pub mod ScanLaws
 pub mod FinishLaws
 pub mod PassesLaws
 pub mod BlockLaws

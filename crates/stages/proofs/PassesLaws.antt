@@ -27,7 +27,7 @@ use Rattle.transform_1d.specs.Lanes.{laneOutput, lineSum, LineAsk, LineSums}
 use Rattle.transform_1d.specs.Rows.{Placed, Filled}
 use Rattle.transform_1d.proofs.RowsLaws.{placed-cong, placed-append, filled-suc}
 use Rattle.stages.specs.Passes.{Halves, PassAsk, folded, foldedLane, Turned}
-use Rattle.stages.proofs.ScanLaws.{row-inside}
+use Rattle.coefficients.proofs.RowsLaws.{row-inside}
 
 module _ {n : ℕ} {t x : List ℤ} {count groups d : ℕ} (a : PassAsk n t x count groups d) where
   pub passAsk-line : (c : ℕ) → c < count → LineAsk n t x c n groups

@@ -5,7 +5,7 @@
 --   plainAsk-block             what the plain range asks covers what a block asks
 --   result-dct, result-dst     a block's result is the residual of its kind
 --   first-inside, first-fits, times-64   the first coefficient, and 64 times it
---   rowsUsed-one, dc-residual, dc-result  one coefficient alone: every output is the same
+--   dc-residual, dc-result  one coefficient alone: every output is the same
 use mathlib.Core.Path.{_≡_, refl, sym, ap, _∙_, subst}
 use mathlib.Core.List.{List}
 use mathlib.Core.Bool.{Bool, true, false, _||_}
@@ -30,7 +30,8 @@ use Rattle.transform_1d.specs.declared.Kind.{Kind}
 use Rattle.transform_1d.specs.declared.Kind.the-variants.{Dct, Dst}
 use Rattle.transform_1d.specs.MatrixOf.{matrixOf}
 use Rattle.stages.specs.Plain.{PlainAsk}
-use Rattle.stages.specs.Passes.{shiftedResidual, RowsUsed, BlockAsk}
+use Rattle.coefficients.specs.Rows.{RowsUsed}
+use Rattle.stages.specs.Passes.{shiftedResidual, BlockAsk}
 use Rattle.stages.proofs.BlockLaws.{transformLine-short, intermediate-past}
 
 -- ---- sizes
@@ -88,9 +89,6 @@ result-dst n b nx coeff out r e f h =
     subst (λ (k : Kind). Plain k n b nx coeff out r) (sym e) (subst (λ (i : ℕ). Plain Dst i b nx coeff out r) (sym f) h)
 
 -- ---- one coefficient
-pub rowsUsed-one : {coeff : List ℤ} {n nx r : ℕ} → r ≤ 1 → 1 ≤ n → RowsUsed coeff n nx r → RowsUsed coeff n nx 1
-rowsUsed-one l h u = record { most = h; zero = λ k c a b d. u .zero k c (omega arith) b d }
-
 pub first-inside : {n s : ℕ} {coeff : List ℤ} {len : ℕ} → 0 < n → BlockAsk n s 1 coeff len → 0 < length coeff
 first-inside {n} h a = omega (arith, a .long, mul-le-mul h h)
 

@@ -1,6 +1,5 @@
 -- What passes over a block ask of each other and give. Letters as in h265's Transform; s is the shift of stage two.
 --   shiftedResidual   the residual by a matrix, for a shift
---   RowsUsed          rows from r on are zero in the columns read
 --   BlockAsk          what a block of size n asks
 --   Halves            both sums of each lane leave room for their sum
 --   PassAsk           what a pass over lines of n points asks: it reads columns of x and writes rows of d
@@ -29,10 +28,6 @@ use Rattle.transform_1d.specs.Lanes.{lineSum, SmallEntries}
 
 unfoldable pub shiftedResidual : (ℕ → ℕ → ℤ) → ℕ → ℕ → ℕ → List ℤ → ℕ → ℕ → ℤ
 shiftedResidual t n s nx xs m j = stageTwo t n s (intermediate t n 15 (columnsRead nx (blockAt n xs))) m j
-
-pub record RowsUsed (coeff : List ℤ) (n nx r : ℕ) : Type 0 where
-  pub most : r ≤ n
-  pub zero : (k c : ℕ) → r ≤ k → k < n → c < nx → getD coeff (k * n + c) (pos 0) ≡ pos 0
 
 pub record BlockAsk (n s nx : ℕ) (coeff : List ℤ) (outLength : ℕ) : Type 0 where
   pub least : 0 < s

@@ -11,16 +11,16 @@ ghost use Rattle.h265.specs.Transform.{rowOrder, residual};
 ghost use Rattle.transform_1d.specs.MatrixOf.{matrixOf};
 ghost use Rattle.stages.specs.Plain.{PlainAsk};
 ghost use Rattle.stages.specs.Passes.{shiftedResidual, BlockAsk};
+use coefficients::rows_used;
 use transform_1d::Kind;
 
-mod scan; // which rows are in use, and the narrowing of coefficients
+mod scan; // which rows of 16-bit coefficients are in use, and the narrowing of coefficients
 mod finish; // rounding and storing of a line's outputs
 mod turn; // rows that stand folded, put in order
 mod passes; // one stage of a block, a function for each size
 mod blocks; // both stages of a block, a function for each size
 mod blocks16; // the same, 16 bits wide
 
-use scan::rows_used;
 use scan::rows_used16;
 
 // The DCT of a block of any size.

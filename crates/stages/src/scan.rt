@@ -1,42 +1,12 @@
-// Rows in use, and the narrowing of the coefficients that are read.
+// Rows in use of 16-bit coefficients, and the narrowing of the coefficients that are read.
 ghost use mathlib.Core.Path.{_≡_};
 ghost use mathlib.Core.Bool.{true};
 ghost use Prim.Native.Nat.{ℕ, _+_, _*_, _<_, _≤_};
 ghost use lib.IntN.{pos};
 ghost use lib.ListN.{length, getD};
 ghost use Rattle.h265.specs.Range.{clipCoeff};
+ghost use Rattle.coefficients.specs.Rows.{RowsUsed};
 ghost use Rattle.transform_1d.specs.Rows.{Placed};
-ghost use Rattle.stages.specs.Passes.{RowsUsed};
-
-// Whether nx coefficients from base on are all zero.
-fn zero_run(coeff: &[i32], base: usize, nx: usize) -> bool
-    requires { ⌜ base + nx ≤ length (now coeff) ⌝ }
-    ensures { λ r. ⌜ (r ≡ true → (c : ℕ) → c < nx → getD (now (coeff .entry)) (base + c) (pos 0) ≡ pos 0) ⌝ }
-{
-    let mut c: usize = 0;
-    while c < nx {
-        if coeff[base + c] != 0 {
-            return false;
-        }
-        c += 1;
-    }
-    true
-}
-
-// One past the last row with a coefficient other than zero in its first nx columns; it looks at no row before row least.
-pub fn rows_used(coeff: &[i32], n: usize, nx: usize, least: usize) -> usize
-    requires { ⌜ (n * n ≤ length (now coeff)) × (nx ≤ n) × (n ≤ 32) ⌝ }
-    ensures { λ r. ⌜ RowsUsed (now (coeff .entry)) n nx r ⌝ }
-{
-    let mut k = n;
-    while least < k {
-        if !zero_run(coeff, (k - 1) * n, nx) {
-            return k;
-        }
-        k -= 1;
-    }
-    k
-}
 
 // Whether nx coefficients from base on are all zero, 16 bits wide.
 fn zero_run16(coeff: &[i16], base: usize, nx: usize) -> bool
@@ -53,7 +23,7 @@ fn zero_run16(coeff: &[i16], base: usize, nx: usize) -> bool
     true
 }
 
-// The same, 16 bits wide.
+// What `coefficients::rows_used` gives, 16 bits wide.
 pub fn rows_used16(coeff: &[i16], n: usize, nx: usize, least: usize) -> usize
     requires { ⌜ (n * n ≤ length (now coeff)) × (nx ≤ n) × (n ≤ 32) ⌝ }
     ensures { λ r. ⌜ RowsUsed (now (coeff .entry)) n nx r ⌝ }

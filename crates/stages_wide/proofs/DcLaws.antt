@@ -17,7 +17,8 @@ use Rattle.h265.specs.Range.{clipCoeff}
 use Rattle.h265.specs.Transform.{transformLine, blockAt, columnsRead, stageOneSum, stageOneValue, intermediate, stageTwoSum, stageTwo}
 use Rattle.transform_1d.specs.Rows.{Placed, Filled}
 use Rattle.stages_wide.specs.Wide.{limitedBlock}
-use Rattle.stages_wide.specs.Parts.{limitedAt, RowsUsed, bothStages}
+use Rattle.coefficients.specs.Rows.{RowsUsed}
+use Rattle.stages_wide.specs.Parts.{limitedAt, bothStages}
 use Rattle.stages_wide.proofs.StageLaws.{clipCoeff-zero, line-short, placed-run}
 use Rattle.stages_wide.proofs.ResultLaws.{columnsRead-in, intermediate-past}
 

@@ -1,6 +1,6 @@
 -- Laws of this crate's definitions; each file builds only on those above it.
 pub mod PartsLaws
-pub mod ScanLaws
+pub mod SizeLaws
 pub mod JoinLaws
 pub mod PassLaws
 pub mod StageLaws

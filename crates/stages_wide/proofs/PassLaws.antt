@@ -27,7 +27,7 @@ use Rattle.transform_1d.proofs.RowsLaws.{placed-cong, placed-append, filled-suc
 use Rattle.transform_1d.proofs.KernelLaws.{laneMatrix-low, laneMatrix-high}
 use Rattle.transform_1d.proofs.MatrixLaws.{transMatrix-mirror-16}
 use Rattle.stages_wide.specs.Parts.{joinParts, partsOutput, Layout, Sums, HighSums, LinesAsk, lineValue, PassAsk, passValue}
-use Rattle.stages_wide.proofs.ScanLaws.{size-most}
+use Rattle.stages_wide.proofs.SizeLaws.{size-most}
 
 module _ {n : ℕ} {t x : List ℤ} {lines lead stride groups s room : ℕ} (a : LinesAsk n t x lines lead stride groups s room) (c : ℕ) (i : c < lines) where
   pub linesAsk-line : LineAsk n t x (c * lead) stride groups

@@ -33,7 +33,8 @@ use Rattle.transform_1d.specs.declared.Kind.the-variants.{Dct, Dst}
 use Rattle.transform_1d.proofs.RowsLaws.{row-unique, filled-overwrite}
 use Rattle.transform_1d.proofs.MatrixLaws.{transformLine-cong}
 use Rattle.stages_wide.specs.Wide.{limitedBlock, WideAsk, DepthAsk, CoeffsInRange}
-use Rattle.stages_wide.specs.Parts.{limitedAt, stageValue, RowsUsed, LayoutOf, StagesAsk, Zeros, bothStages}
+use Rattle.coefficients.specs.Rows.{RowsUsed}
+use Rattle.stages_wide.specs.Parts.{limitedAt, stageValue, LayoutOf, StagesAsk, Zeros, bothStages}
 use Rattle.stages_wide.proofs.StageLaws.{clipCoeff-zero, line-short, place-column, filled-cong}
 
 module _ (t u : ℕ → ℕ → ℤ) (n : ℕ) where

@@ -34,7 +34,7 @@ use Rattle.transform_1d.specs.Rows.{Placed, Filled}
 use Rattle.transform_1d.proofs.MatrixLaws.{transformLine-cong}
 use Rattle.stages_wide.specs.Parts.{highPart, lowPart, joinParts, limitedAt, LinesAsk, lineValue, PassAsk, passValue, Narrow, StageAsk, stageValue, BlockAsk}
 use Rattle.stages_wide.proofs.PartsLaws.{parts-join, highPart-within, transformLine-parts, limited-within}
-use Rattle.stages_wide.proofs.ScanLaws.{size-most, size-fours}
+use Rattle.stages_wide.proofs.SizeLaws.{size-most, size-fours}
 
 pub placed-run : {w : ℕ} {f : ℕ → ℤ} {xs ys : List ℤ} → Placed 0 w f xs ys → (i : ℕ) → i < w → getD ys i (pos 0) ≡ f i
 placed-run {ys = ys} p i h = ap (λ (k : ℕ). getD ys k (pos 0)) (sym (zero-add i)) ∙ p .done i h

@@ -15,7 +15,6 @@
 --   StageAsk               what lines over values of any width ask: of the first w values of s, limited as they are read; what a line
 --                          leaves out stands past them
 --   stageValue             output j of line c over limited values, rounded
---   RowsUsed               rows from r on are zero in the first nx columns
 --   ColumnPlaced           ys is xs with f 0, .., f (m - 1) down column c
 --   Zeros x                every place of x is zero
 --   BlockAsk               what a stage of a block asks of its layout, its range, and the lengths of its source, its buffers and its target
@@ -115,10 +114,6 @@ pub record StageAsk (n : ℕ) (t : List ℤ) (lines lead stride groups s r w sou
 abbrev pub stageValue : List ℤ → ℕ → List ℤ → ℕ → ℕ → ℕ → ℕ → ℕ → ℕ → ℤ
 stageValue t r xs lead stride groups s c j =
     roundShift (transformLine (laneMatrix t) (4 * groups) (λ k. limitedAt r xs (c * lead + k * stride)) j) s
-
-pub record RowsUsed (coeff : List ℤ) (n nx r : ℕ) : Type 0 where
-  pub most : r ≤ n
-  pub zero : (k c : ℕ) → r ≤ k → k < n → c < nx → getD coeff (k * n + c) (pos 0) ≡ pos 0
 
 pub record ColumnPlaced (n c : ℕ) (f : ℕ → ℤ) (m : ℕ) (xs ys : List ℤ) : Type 0 where
   pub long : length ys ≡ length xs

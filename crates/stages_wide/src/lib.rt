@@ -2,7 +2,6 @@
 // range serve here too: where the values of a stage do not all fit 16 bits, each is split into two parts that do.
 // Internal: no refusal; callers meet each `requires`.
 mod parts; // values in 16 bits, or limited to the range and split into two parts
-mod scan; // which rows of a block are in use
 mod outputs; // the outputs of a line, rounded or joined of both parts
 mod lines; // lines over 16-bit values
 mod passes; // lines over both parts

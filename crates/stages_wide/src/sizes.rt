@@ -9,7 +9,7 @@ ghost use Rattle.stages_wide.specs.Parts.{StagesAsk, bothStages};
 use crate::blocks::dc_fill;
 use crate::blocks::stages;
 use crate::products::both_4;
-use crate::scan::rows_used;
+use coefficients::rows_used;
 use transform_1d::Kind;
 use transform_1d::lanes_8;
 use transform_1d::lanes_16;
@@ -24,7 +24,7 @@ fn stages_8(shift: u32, range: u32, nx: usize, coeff: &[i32], out: &mut [i32])
     let mut h = [0i16; 64];
     let mut l = [0i16; 64];
     let mut g = [0i32; 64];
-    let ny = rows_used(coeff, 8, nx);
+    let ny = rows_used(coeff, 8, nx, 0);
     stages(
         &t[..],
         8,
@@ -49,7 +49,7 @@ fn stages_16(shift: u32, range: u32, nx: usize, coeff: &[i32], out: &mut [i32])
     let mut h = [0i16; 256];
     let mut l = [0i16; 256];
     let mut g = [0i32; 256];
-    let ny = rows_used(coeff, 16, nx);
+    let ny = rows_used(coeff, 16, nx, 0);
     stages(
         &t[..],
         16,
@@ -74,7 +74,7 @@ fn stages_32(shift: u32, range: u32, nx: usize, coeff: &[i32], out: &mut [i32])
     let mut h = [0i16; 1024];
     let mut l = [0i16; 1024];
     let mut g = [0i32; 1024];
-    let ny = rows_used(coeff, 32, nx);
+    let ny = rows_used(coeff, 32, nx, 0);
     stages(
         &t[..],
         32,
@@ -109,7 +109,7 @@ pub fn stages_dct(n: usize, shift: u32, range: u32, nx: usize, coeff: &[i32], ou
     ensures { λ _. ⌜ Filled n n (bothStages (transMatrix n) n shift range nx (now (coeff .entry))) n (now (out .entry)) (now (out .exit)) ⌝ }
 {
     if nx == 1 {
-        if rows_used(coeff, n, 1) <= 1 {
+        if rows_used(coeff, n, 1, 0) <= 1 {
             dc_fill(n, shift, range, coeff, out);
             return;
         }

@@ -1,6 +1,7 @@
 -- `stages::dct_plain16` meets its contract: a block with one column and one row in use is filled with its one value, any other is worked out.
 use native.Mathlib.Omega.{arith}
-use Rattle.stages.proofs.PlainLaws.{size-bounds, blockAsk-columns, result-columns, rowsUsed-one}
+use Rattle.coefficients.proofs.RowsLaws.{rowsUsed-more}
+use Rattle.stages.proofs.PlainLaws.{size-bounds, blockAsk-columns, result-columns}
 use borrow.Author.Needs.{needs}
 use Rattle.stages.proofs.dct_plain16.Statement.{statement}
 use Rattle.stages.proofs.dct_plain16.Tie as tie
@@ -14,7 +15,7 @@ dc-fill16-requires c κs = (
   size-bounds (c .before .before .before .before .args .n) (c .before .before .before .before .pre .0) .1,
   blockAsk-columns (c .before .before .before .if1 .taken) (c .before .before .before .before .pre .1),
   c .before .before .before .before .pre .2,
-  rowsUsed-one (c .before .if2 .taken) (omega (arith, size-bounds (c .before .before .before .before .args .n) (c .before .before .before .before .pre .0))) (c .before .before .rows-used16 .ensures),
+  rowsUsed-more (c .before .if2 .taken) (omega (arith, size-bounds (c .before .before .before .before .args .n) (c .before .before .before .before .pre .0))) (c .before .before .rows-used16 .ensures),
 )
 
 same-length : tie.Need-same-length

@@ -7,7 +7,7 @@ use Rattle.transform_1d.specs.Lanes.{laneMatrix}
 use Rattle.transform_1d.proofs.RowsLaws.{filled-overwrite}
 use Rattle.h265.specs.Transform.{stageTwoShift}
 use Rattle.stages_wide.specs.Wide.{limitedBlock}
-use Rattle.stages_wide.proofs.ScanLaws.{size-most, square-most}
+use Rattle.stages_wide.proofs.SizeLaws.{size-most, square-most}
 use Rattle.stages_wide.proofs.ColumnLaws.{columnPlaced-cong, columnPlaced-replaced}
 use Rattle.stages_wide.proofs.StageLaws.{filled-cong}
 use Rattle.stages_wide.proofs.ResultLaws.{intermediate-cong, stageTwo-cong, depth-shift}

@@ -6,7 +6,7 @@ use lib.ListN.{length}
 use Rattle.transform_1d.specs.MatrixOf.{matrixOf}
 use Rattle.transform_1d.specs.Lanes.{laneMatrix}
 use Rattle.stages_wide.specs.Wide.{limitedBlock}
-use Rattle.stages_wide.proofs.ScanLaws.{square-most}
+use Rattle.stages_wide.proofs.SizeLaws.{square-most}
 use Rattle.stages_wide.proofs.ColumnLaws.{columnPlaced-cong, columnPlaced-replaced}
 use Rattle.stages_wide.proofs.ResultLaws.{intermediate-cong}
 use Rattle.stages_wide.proofs.intermediate_column.Statement.{statement}

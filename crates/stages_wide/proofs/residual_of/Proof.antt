@@ -7,7 +7,7 @@ use lib.ListN.{length}
 use Rattle.transform_1d.specs.MatrixOf.{matrixOf}
 use Rattle.transform_1d.specs.Lanes.{laneMatrix}
 use Rattle.stages_wide.specs.Wide.{limitedBlock}
-use Rattle.stages_wide.proofs.ScanLaws.{size-most, square-most}
+use Rattle.stages_wide.proofs.SizeLaws.{size-most, square-most}
 use Rattle.h265.specs.Transform.{stageTwoShift}
 use Rattle.transform_1d.proofs.RowsLaws.{filled-overwrite}
 use Rattle.stages_wide.proofs.StageLaws.{filled-cong}

@@ -4,7 +4,7 @@ use mathlib.Core.Path.{_≡_}
 use Prim.Native.Nat.{_+_, _-_}
 use native.Mathlib.Omega.{arith}
 use Rattle.transform_1d.specs.MatrixOf.{matrixOf}
-use Rattle.stages_wide.proofs.ScanLaws.{size-most}
+use Rattle.stages_wide.proofs.SizeLaws.{size-most}
 use Rattle.stages_wide.proofs.ResultLaws.{stagesAsk-wide, stagesAsk-size, filled-residual, filled-dct, filled-dst}
 use Rattle.stages_wide.proofs.residual_wide.Statement.{statement}
 use Rattle.stages_wide.proofs.residual_wide.Tie as tie

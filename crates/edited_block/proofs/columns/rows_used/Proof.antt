@@ -2,13 +2,13 @@
 use Prim.Native.Nat.{_+_, _-_, _*_, _≤_}
 use native.Mathlib.Omega.{arith}
 use Rattle.h265.proofs.RangeLaws.{size-square, size-bound}
-use Rattle.edited_block.specs.Columns.{RowsUsed}
-use Rattle.edited_block.proofs.ColumnsLaws.{row-inside, rowsUsed-all, rowsUsed-pred}
+use Rattle.coefficients.specs.Rows.{RowsUsed}
+use Rattle.coefficients.proofs.RowsLaws.{row-inside, rowsUsed-all, rowsUsed-pred}
 use Rattle.edited_block.proofs.columns.rows_used.Statement.{statement}
 use Rattle.edited_block.proofs.columns.rows_used.Tie as tie
 
 abbrev Inv-loop : tie.InvT-loop
-Inv-loop coeff n k₀ k = RowsUsed coeff n k
+Inv-loop coeff n k₀ k = RowsUsed coeff n n k
 
 abbrev μ-loop : tie.MeasureT-loop
 μ-loop coeff n k₀ k = k
@@ -21,7 +21,7 @@ sub-nonzeros c = omega arith
 
 the-row : (c : tie.In-loop Inv-loop μ-loop)
     → (c .before .loop .k - 1) * c .before .before .args .n + c .before .before .args .n ≤ c .before .before .args .n * c .before .before .args .n
-the-row c = row-inside (c .before .before .args .n) (c .before .loop .k - 1) (omega (arith, c .before .loop .inv .most))
+the-row c = row-inside (c .before .before .args .n) (c .before .loop .k - 1) (c .before .before .args .n) (omega (arith, c .before .loop .inv .most)) (omega arith)
 
 mul-nonzeros : tie.Need-mul-nonzeros Inv-loop μ-loop
 mul-nonzeros c = omega (arith, the-row c, size-square (c .before .before .args .n) (c .before .before .pre .0))

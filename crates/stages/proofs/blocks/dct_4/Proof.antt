@@ -4,7 +4,7 @@ use native.Mathlib.Omega.{arith}
 use Rattle.h265.specs.Matrix.{transMatrix}
 use Rattle.transform_1d.proofs.LanesLaws.{transMatrix-within}
 use Rattle.transform_1d.proofs.MatrixLaws.{Laid, laid}
-use Rattle.stages.proofs.ScanLaws.{rowsUsed-all}
+use Rattle.coefficients.proofs.RowsLaws.{rowsUsed-all}
 use Rattle.stages.proofs.BlockLaws.{source-narrow, enough-four, unfolds-plain, lanes-plain, source-pass, pass-two, block-residual}
 use borrow.Author.Needs.{needs}
 use Rattle.stages.proofs.blocks.dct_4.Statement.{statement}

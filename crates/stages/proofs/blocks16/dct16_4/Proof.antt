@@ -7,7 +7,7 @@ use Rattle.integers.proofs.OrderLaws.{≤ℤ-trans}
 use Rattle.h265.specs.Matrix.{transMatrix}
 use Rattle.transform_1d.proofs.LanesLaws.{transMatrix-within}
 use Rattle.transform_1d.proofs.MatrixLaws.{Laid, laid, transMatrix-absSum-4}
-use Rattle.stages.proofs.ScanLaws.{rowsUsed-all}
+use Rattle.coefficients.proofs.RowsLaws.{rowsUsed-all}
 use Rattle.stages.proofs.BlockLaws.{source-self, enough-four, unfolds-plain, lanes-plain, source-pass, pass-two, block-residual, block-fits}
 use borrow.Author.Needs.{needs}
 use Rattle.stages.proofs.blocks16.dct16_4.Statement.{statement}

@@ -7,7 +7,7 @@ use Rattle.integers.proofs.OrderLaws.{≤ℤ-trans}
 use Rattle.h265.specs.Matrix.{dstMatrix}
 use Rattle.transform_1d.proofs.LanesLaws.{dstMatrix-within}
 use Rattle.transform_1d.proofs.MatrixLaws.{Laid, laid, dstMatrix-absSum}
-use Rattle.stages.proofs.ScanLaws.{rowsUsed-all}
+use Rattle.coefficients.proofs.RowsLaws.{rowsUsed-all}
 use Rattle.stages.proofs.BlockLaws.{source-self, enough-four, unfolds-plain, lanes-plain, source-pass, pass-two, block-residual, block-fits}
 use borrow.Author.Needs.{needs}
 use Rattle.stages.proofs.blocks16.dst16_4.Statement.{statement}

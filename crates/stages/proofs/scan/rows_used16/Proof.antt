@@ -1,8 +1,8 @@
 -- `stages::scan::rows_used16` meets its contract: the rows passed, from the last one up, are zero. The measure is the rows left.
 use Prim.Native.Nat.{_+_, _*_, _≤_, _-_}
 use native.Mathlib.Omega.{arith}
-use Rattle.stages.specs.Passes.{RowsUsed}
-use Rattle.stages.proofs.ScanLaws.{row-inside, square-bound, rowsUsed-all, rowsUsed-pred, not-false}
+use Rattle.coefficients.specs.Rows.{RowsUsed}
+use Rattle.coefficients.proofs.RowsLaws.{row-inside, square-bound, rowsUsed-all, rowsUsed-pred, not-false}
 use Rattle.stages.proofs.scan.rows_used16.Statement.{statement}
 use Rattle.stages.proofs.scan.rows_used16.Tie as tie
 

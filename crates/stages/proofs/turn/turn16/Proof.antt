@@ -3,7 +3,7 @@ use mathlib.Core.Path.{_≡_}
 use Prim.Native.Nat.{ℕ, _+_, _*_, _/_, _≤_, _<_, _-_}
 use native.Mathlib.Omega.{arith}
 use Rattle.stages.specs.Passes.{Run, Turned}
-use Rattle.stages.proofs.ScanLaws.{row-inside, square-bound}
+use Rattle.coefficients.proofs.RowsLaws.{row-inside, square-bound}
 use Rattle.transform_1d.proofs.RowsLaws.{placed-cong}
 use Rattle.stages.proofs.PassesLaws.{turned-zero, turned-suc, turned-all}
 use Rattle.stages.proofs.turn.turn16.Statement.{statement}

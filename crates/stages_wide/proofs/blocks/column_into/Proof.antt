@@ -7,7 +7,7 @@ use lib.ListN.{getD}
 use Rattle.h265.specs.Range.{clipCoeff}
 use Rattle.h265.specs.Transform.{blockAt, stageOneSum, stageOneValue, intermediate}
 use Rattle.stages_wide.specs.Wide.{limitedBlock}
-use Rattle.stages_wide.proofs.ScanLaws.{size-most}
+use Rattle.stages_wide.proofs.SizeLaws.{size-most}
 use Rattle.stages_wide.proofs.StageLaws.{stageAsk-column, stageValue-all, place-first, filled-first}
 use Rattle.stages_wide.proofs.ColumnLaws.{columnPlaced-cong}
 use Rattle.stages_wide.proofs.blocks.column_into.Statement.{statement}

@@ -2,7 +2,7 @@
 use borrow.Author.Needs.{needs}
 use native.Mathlib.Nat.{mul-le-mul-right}
 use native.Mathlib.Omega.{arith}
-use Rattle.stages_wide.proofs.ScanLaws.{square-most}
+use Rattle.stages_wide.proofs.SizeLaws.{square-most}
 use Rattle.stages_wide.proofs.StageLaws.{stageAsk-columns}
 use Rattle.stages_wide.proofs.blocks.columns.Statement.{statement}
 use Rattle.stages_wide.proofs.blocks.columns.Tie as tie

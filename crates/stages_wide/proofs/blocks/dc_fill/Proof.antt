@@ -14,7 +14,7 @@ use Rattle.integers.proofs.BoundLaws.{within-eq, within-le, within-lit-mul, wit
 use Rattle.h265.specs.Range.{clipCoeff}
 use Rattle.stages_wide.specs.Parts.{limitedAt}
 use Rattle.stages_wide.proofs.PartsLaws.{limited-within}
-use Rattle.stages_wide.proofs.ScanLaws.{size-most, square-most}
+use Rattle.stages_wide.proofs.SizeLaws.{size-most, square-most}
 use Rattle.stages_wide.proofs.DcLaws.{first-inside, dcValue, filled-dc}
 use Rattle.stages_wide.proofs.blocks.dc_fill.Statement.{statement}
 use Rattle.stages_wide.proofs.blocks.dc_fill.Tie as tie

@@ -10,7 +10,7 @@ use mir.Syntax.{w32}
 use mir.Val.{SFits}
 use mir.Facts.{toZ-ofZ}
 use Rattle.stages_wide.specs.Parts.{limitedAt, ColumnPlaced}
-use Rattle.stages_wide.proofs.ScanLaws.{row-inside}
+use Rattle.coefficients.proofs.RowsLaws.{row-inside}
 use Rattle.stages_wide.proofs.ColumnLaws.{columnPlaced-zero, columnPlaced-suc, columnPlaced-all}
 use Rattle.stages_wide.proofs.blocks.put_column.Statement.{statement}
 use Rattle.stages_wide.proofs.blocks.put_column.Tie as tie

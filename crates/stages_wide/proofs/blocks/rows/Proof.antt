@@ -6,7 +6,7 @@ use native.Mathlib.Omega.{arith}
 use Rattle.h265.specs.Transform.{blockAt, stageTwoSum, stageTwo}
 use Rattle.stages_wide.specs.Wide.{limitedBlock}
 use Rattle.stages_wide.specs.Parts.{limitedAt}
-use Rattle.stages_wide.proofs.ScanLaws.{size-most, size-fours, square-most}
+use Rattle.stages_wide.proofs.SizeLaws.{size-most, size-fours, square-most}
 use Rattle.stages_wide.proofs.StageLaws.{stageAsk-whole, stageValue-all, place-row, filled-cong}
 use Rattle.stages_wide.proofs.blocks.rows.Statement.{statement}
 use Rattle.stages_wide.proofs.blocks.rows.Tie as tie

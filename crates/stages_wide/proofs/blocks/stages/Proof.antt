@@ -3,7 +3,7 @@ use borrow.Author.Needs.{needs}
 use Prim.Native.Nat.{_+_, _/_}
 use native.Mathlib.Omega.{arith}
 use lib.ListN.{length}
-use Rattle.stages_wide.proofs.ScanLaws.{size-fours}
+use Rattle.stages_wide.proofs.SizeLaws.{size-fours}
 use Rattle.stages_wide.proofs.LayoutLaws.{layoutOf-self}
 use Rattle.stages_wide.proofs.ResultLaws.{filled-stages}
 use Rattle.stages_wide.proofs.blocks.stages.Statement.{statement}

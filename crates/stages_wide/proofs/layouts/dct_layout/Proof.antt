@@ -2,7 +2,7 @@
 use borrow.Author.Needs.{needs}
 use mathlib.Core.Path.{refl}
 use native.Mathlib.Omega.{arith}
-use Rattle.stages_wide.proofs.ScanLaws.{size-else}
+use Rattle.stages_wide.proofs.SizeLaws.{size-else}
 use Rattle.stages_wide.proofs.LayoutLaws.{layoutOf-dct, layoutOf-32, layoutOf-widened, layoutOf-size}
 use Rattle.stages_wide.proofs.layouts.dct_layout.Statement.{statement}
 use Rattle.stages_wide.proofs.layouts.dct_layout.Tie as tie

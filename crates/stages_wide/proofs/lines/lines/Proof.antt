@@ -2,7 +2,7 @@
 use borrow.Author.Needs.{needs}
 use mathlib.Core.Path.{_≡_}
 use lib.Dec.{T}
-use Rattle.stages_wide.proofs.ScanLaws.{size-else}
+use Rattle.stages_wide.proofs.SizeLaws.{size-else}
 use Rattle.stages_wide.proofs.PassLaws.{linesAsk-size, filled-size}
 use Rattle.stages_wide.proofs.lines.lines.Statement.{statement}
 use Rattle.stages_wide.proofs.lines.lines.Tie as tie

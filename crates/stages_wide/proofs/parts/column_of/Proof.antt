@@ -9,7 +9,7 @@ use mir.Val.{SFits}
 use mir.Facts.{toZ-ofZ}
 use Rattle.transform_1d.specs.Rows.{Placed}
 use Rattle.transform_1d.proofs.RowsLaws.{placed-zero, placed-suc, placed-all}
-use Rattle.stages_wide.proofs.ScanLaws.{row-inside, square-bound}
+use Rattle.coefficients.proofs.RowsLaws.{row-inside, square-bound}
 use Rattle.stages_wide.proofs.StageLaws.{placed-run}
 use Rattle.stages_wide.proofs.parts.column_of.Statement.{statement}
 use Rattle.stages_wide.proofs.parts.column_of.Tie as tie

@@ -4,7 +4,7 @@ use native.Mathlib.Nat.{not-suc-le-zero}
 use native.Mathlib.Omega.{arith}
 use Rattle.transform_1d.specs.Lanes.{lanes}
 use Rattle.transform_1d.specs.MatrixOf.{matrixOf}
-use Rattle.stages_wide.proofs.ScanLaws.{rowsUsed-all}
+use Rattle.coefficients.proofs.RowsLaws.{rowsUsed-all}
 use Rattle.stages_wide.proofs.StageLaws.{filled-cong}
 use Rattle.stages_wide.proofs.LayoutLaws.{zeros}
 use Rattle.stages_wide.proofs.ResultLaws.{filled-stages}

@@ -3,7 +3,7 @@ use borrow.Author.Needs.{needs}
 use mathlib.Core.Path.{_≡_}
 use native.Mathlib.Omega.{arith}
 use Rattle.transform_1d.specs.MatrixOf.{matrixOf}
-use Rattle.stages_wide.proofs.ScanLaws.{size-else}
+use Rattle.stages_wide.proofs.SizeLaws.{size-else}
 use Rattle.stages_wide.proofs.ResultLaws.{stagesAsk-size, filled-sized}
 use Rattle.stages_wide.proofs.sizes.dct_sized.Statement.{statement}
 use Rattle.stages_wide.proofs.sizes.dct_sized.Tie as tie

@@ -4,7 +4,7 @@ use mathlib.Core.Path.{refl}
 use native.Mathlib.Omega.{arith}
 use Rattle.h265.specs.Matrix.{transMatrix}
 use Rattle.stages_wide.specs.Parts.{LayoutOf}
-use Rattle.stages_wide.proofs.ScanLaws.{rowsUsed-more}
+use Rattle.coefficients.proofs.RowsLaws.{rowsUsed-more}
 use Rattle.stages_wide.proofs.LayoutLaws.{zeros, layoutOf-dct}
 use Rattle.stages_wide.proofs.ResultLaws.{filled-laid}
 use Rattle.stages_wide.proofs.sizes.stages_16.Statement.{statement}

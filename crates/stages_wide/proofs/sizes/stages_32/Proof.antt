@@ -3,7 +3,7 @@ use borrow.Author.Needs.{needs}
 use native.Mathlib.Omega.{arith}
 use Rattle.h265.specs.Matrix.{transMatrix}
 use Rattle.stages_wide.specs.Parts.{LayoutOf}
-use Rattle.stages_wide.proofs.ScanLaws.{rowsUsed-more}
+use Rattle.coefficients.proofs.RowsLaws.{rowsUsed-more}
 use Rattle.stages_wide.proofs.LayoutLaws.{zeros, layoutOf-32}
 use Rattle.stages_wide.proofs.ResultLaws.{filled-laid}
 use Rattle.stages_wide.proofs.sizes.stages_32.Statement.{statement}

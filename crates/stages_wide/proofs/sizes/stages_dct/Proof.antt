@@ -3,7 +3,8 @@ use borrow.Author.Needs.{needs}
 use mathlib.Core.Path.{refl}
 use native.Mathlib.Omega.{arith}
 use Rattle.h265.specs.Matrix.{transMatrix}
-use Rattle.stages_wide.proofs.ScanLaws.{size-most, rowsUsed-more}
+use Rattle.coefficients.proofs.RowsLaws.{rowsUsed-more}
+use Rattle.stages_wide.proofs.SizeLaws.{size-most}
 use Rattle.stages_wide.proofs.ResultLaws.{stagesAsk-size, filled-count}
 use Rattle.stages_wide.proofs.sizes.stages_dct.Statement.{statement}
 use Rattle.stages_wide.proofs.sizes.stages_dct.Tie as tie

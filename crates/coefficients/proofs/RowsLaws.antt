@@ -3,6 +3,8 @@
 --   square-bound     n × n is small for n ≤ 32
 --   rowsUsed-all     no row is left out at the start
 --   rowsUsed-pred    a zero row leaves one row less in use
+--   rowsUsed-more    more rows than are in use
+--   not-false        what is not false is true
 use mathlib.Core.Path.{_≡_, refl, sym, subst}
 use mathlib.Core.List.{List}
 use mathlib.Core.Bool.{Bool, true, false, not}
@@ -13,7 +15,7 @@ use native.Mathlib.Omega.{arith}
 use lib.Dec.{T}
 use lib.IntN.{ℤ, pos}
 use lib.ListN.{getD}
-use Rattle.stages.specs.Passes.{RowsUsed}
+use Rattle.coefficients.specs.Rows.{RowsUsed}
 
 pub row-inside : (n r w : ℕ) → r < n → w ≤ n → r * n + w ≤ n * n
 row-inside n r w h l = omega (arith, mul-le-mul-right n h, suc-mul r n)
@@ -35,6 +37,9 @@ rowsUsed-pred {coeff} {n} {nx} {k} h u z =
             | no d ↦ u .zero r c (omega arith) a b
           ];
     }
+
+pub rowsUsed-more : {coeff : List ℤ} {n nx r q : ℕ} → r ≤ q → q ≤ n → RowsUsed coeff n nx r → RowsUsed coeff n nx q
+rowsUsed-more h l u = record { most = l; zero = λ k c a b d. u .zero k c (omega arith) b d }
 
 pub not-false : (b : Bool) → not b ≡ false → b ≡ true
 not-false true e = refl

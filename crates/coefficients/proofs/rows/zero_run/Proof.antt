@@ -1,4 +1,4 @@
--- `stages::scan::zero_run` meets its contract: the coefficients passed are zero. The measure is what is left of the run.
+-- `coefficients::rows::zero_run` meets its contract: the coefficients passed are zero. The measure is what is left of the run.
 use mathlib.Core.Path.{_≡_, sym, subst}
 use Prim.Native.Nat.{ℕ, _+_, _≤_, _<_, _-_}
 use native.Mathlib.Omega.{arith}
@@ -9,8 +9,8 @@ use native.Mathlib.Nat.{not-suc-le-zero}
 use lib.Dec.{T}
 use borrow.Author.Count.{below-more}
 use Rattle.integers.proofs.MachineLaws.{eq-bits}
-use Rattle.stages.proofs.scan.zero_run.Statement.{statement}
-use Rattle.stages.proofs.scan.zero_run.Tie as tie
+use Rattle.coefficients.proofs.rows.zero_run.Statement.{statement}
+use Rattle.coefficients.proofs.rows.zero_run.Tie as tie
 
 abbrev Inv-loop : tie.InvT-loop
 Inv-loop coeff base nx c₀ c = (c ≤ nx) × ((k : ℕ) → k < c → getD coeff (base + k) (pos 0) ≡ pos 0)

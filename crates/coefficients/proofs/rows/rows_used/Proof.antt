@@ -1,16 +1,16 @@
--- `stages_wide::scan::rows_used` meets its contract: the rows passed, from the last one up, are zero. The measure is the rows left.
+-- `coefficients::rows::rows_used` meets its contract: the rows passed, from the last one up, are zero. The measure is the rows left.
 use Prim.Native.Nat.{_+_, _*_, _≤_, _-_}
 use native.Mathlib.Omega.{arith}
-use Rattle.stages_wide.specs.Parts.{RowsUsed}
-use Rattle.stages_wide.proofs.ScanLaws.{row-inside, square-bound, rowsUsed-all, rowsUsed-pred, not-false}
-use Rattle.stages_wide.proofs.scan.rows_used.Statement.{statement}
-use Rattle.stages_wide.proofs.scan.rows_used.Tie as tie
+use Rattle.coefficients.specs.Rows.{RowsUsed}
+use Rattle.coefficients.proofs.RowsLaws.{row-inside, square-bound, rowsUsed-all, rowsUsed-pred, not-false}
+use Rattle.coefficients.proofs.rows.rows_used.Statement.{statement}
+use Rattle.coefficients.proofs.rows.rows_used.Tie as tie
 
 abbrev Inv-loop : tie.InvT-loop
-Inv-loop coeff n nx k₀ k = RowsUsed coeff n nx k
+Inv-loop coeff n nx least k₀ k = RowsUsed coeff n nx k
 
 abbrev μ-loop : tie.MeasureT-loop
-μ-loop coeff n nx k₀ k = k
+μ-loop coeff n nx least k₀ k = k
 
 loop-holds : tie.Need-loop-holds Inv-loop μ-loop
 loop-holds c = rowsUsed-all
