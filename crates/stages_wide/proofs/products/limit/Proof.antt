@@ -29,7 +29,7 @@ shared-slice-copy-out-limited : tie.Need-shared-slice-copy-out-limited Inv-loop 
 shared-slice-copy-out-limited c = omega arith
 
 limited-requires : tie.Need-limited-requires Inv-loop μ-loop
-limited-requires c κs = c .before .before .before .pre .0
+limited-requires c κs = omega (arith, c .before .before .before .pre .0)
 
 mul-t11 : tie.Need-mul-t11 Inv-loop μ-loop
 mul-t11 c = omega arith
