@@ -8,12 +8,13 @@ use Rattle.refusal.specs.declared.Answer.{Answer}
 use Rattle.refusal.specs.Outcome.{answer}
 use Rattle.transform_1d.specs.declared.Kind.{Kind}
 use Rattle.transform_1d.specs.declared.Kind.the-variants.{Dct, Dst}
+use Rattle.transform_1d.specs.Kinds.{isDst}
 use Rattle.edited_block.specs.declared.EditedBlock.{EditedBlock}
 use Rattle.edited_block.specs.Edit as Called
 use Rattle.c_api.specs.declared.BlockAnswered.{BlockAnswered}
 use Rattle.c_api.specs.Edits.{kindOf, BlockIs, Opens, Edits}
 
-pub kind-of-flag : (kind : Kind) → kindOf (Called.isDst kind) ≡ kind
+pub kind-of-flag : (kind : Kind) → kindOf (isDst kind) ≡ kind
 kind-of-flag Dct = refl
 kind-of-flag Dst = refl
 

@@ -2,7 +2,8 @@
 ghost use mathlib.Core.Path.{_≡_};
 ghost use lib.ListN.{length};
 ghost use Rattle.refusal.specs.Outcome.{answer as answerOutcome};
-ghost use Rattle.edited_block.specs.Edit.{buffers, isDst, opened, edited, refreshed};
+ghost use Rattle.transform_1d.specs.Kinds.{isDst};
+ghost use Rattle.edited_block.specs.Edit.{buffers, opened, edited, refreshed};
 ghost use Rattle.edited_list.specs.Listed.{editCount, editsOf, openingOf};
 ghost use Rattle.c_api.specs.Blocks.{Writes};
 ghost use Rattle.c_api.specs.Edits.{kindOf, blockGiven, BlockIs, Opens, Edits, Lists};

@@ -33,7 +33,8 @@ use Rattle.transform_1d.specs.declared.Kind.{Kind}
 use Rattle.transform_1d.specs.declared.Kind.the-variants.{Dct, Dst}
 use Rattle.edited_block.specs.declared.EditedBlock.{EditedBlock}
 use Rattle.edited_block.specs.Columns.{columnCount}
-use Rattle.edited_block.specs.Edit.{Buffers, Left, buffers, zeroBlock, dstRefused, residualOf, blockLadder, stopped, opened, openedBuffers, withColumns, edited, editedBuffers, refreshed, Opens, Edits, BlockAsk}
+use Rattle.transform_1d.specs.Kinds.{dstRefused}
+use Rattle.edited_block.specs.Edit.{Buffers, Left, buffers, zeroBlock, residualOf, blockLadder, stopped, opened, openedBuffers, withColumns, edited, editedBuffers, refreshed, Opens, Edits, BlockAsk}
 use Rattle.edited_block.specs.History.{Opening, rangeOf}
 use Rattle.edited_block.specs.Run.{openedAs, blockOf}
 use Rattle.edited_block.proofs.OpeningLaws.{Fits, coeff-long, inter-long, res-long, opened-is}

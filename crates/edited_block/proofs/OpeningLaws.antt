@@ -29,7 +29,8 @@ use Rattle.transform_1d.specs.MatrixOf.{matrixOf}
 use Rattle.coefficients.specs.Outside.{outsideAt, firstOutside}
 use Rattle.edited_block.specs.declared.EditedBlock.{EditedBlock}
 use Rattle.edited_block.specs.Columns.{columnCount}
-use Rattle.edited_block.specs.Edit.{Buffers, Left, dstRefused, intermediateOf, residualOf, blockLadder, opened, openedBuffers}
+use Rattle.transform_1d.specs.Kinds.{dstRefused}
+use Rattle.edited_block.specs.Edit.{Buffers, Left, intermediateOf, residualOf, blockLadder, opened, openedBuffers}
 use Rattle.edited_block.specs.History.{Opening, rangeOf}
 use Rattle.edited_block.specs.Run.{openedAs, blockOf}
 use Rattle.edited_block.proofs.ColumnsLaws.{columnCount-append}

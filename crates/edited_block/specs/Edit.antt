@@ -10,10 +10,10 @@
 --   refreshed                 the residual of an intermediate: stage two alone
 --   Opens, Edits              a call's answer, record and buffers are what `opened` or `edited` says
 use mathlib.Core.Path.{_≡_}
-use mathlib.Core.Bool.{Bool, false, not, _&&_, _||_, cond}
+use mathlib.Core.Bool.{Bool, false, _||_, cond}
 use mathlib.Core.List.{List}
 use Prim.Native.Nat.{ℕ, _+_, _*_, _≤_}
-use lib.Dec.{T, eqb, leb, ltb}
+use lib.Dec.{T, leb, ltb}
 use lib.IntN.{ℤ}
 use lib.ListN.{length, set}
 use Rattle.integers.specs.Lists.{overwrite}
@@ -27,6 +27,7 @@ use Rattle.refusal.specs.Outcome.{Outcome, accepted, refused, answer}
 use Rattle.refusal.specs.Written.{Written, left, wrote}
 use Rattle.transform_1d.specs.declared.Kind.{Kind}
 use Rattle.transform_1d.specs.declared.Kind.the-variants.{Dct, Dst}
+use Rattle.transform_1d.specs.Kinds.{dstRefused}
 use Rattle.transform_1d.specs.MatrixOf.{matrixOf}
 use Rattle.coefficients.specs.Outside.{firstOutside}
 use Rattle.edited_block.specs.declared.EditedBlock.{EditedBlock}
@@ -45,14 +46,6 @@ pub record Left : Type 0 where
 
 abbrev pub zeroBlock : EditedBlock
 zeroBlock = record { kind = Dct; size = 0; depth = 0; extended = Bool.false; columns = 0 }
-
-abbrev pub isDst : Kind → Bool
-isDst Dct = Bool.false
-isDst Dst = Bool.true
-
--- row 4
-unfoldable pub dstRefused : Kind → ℕ → Bool
-dstRefused kind n = isDst kind && not (eqb n 4)
 
 unfoldable pub intermediateOf : Kind → ℕ → ℕ → List ℤ → ℕ → ℕ → ℤ
 intermediateOf kind n r d = intermediate (matrixOf kind n) n r (limitedBlock r n d)

@@ -1,20 +1,10 @@
 // The refusals that an opening, an edit and stage two alone share.
 ghost use mathlib.Core.Path.{_≡_};
 ghost use Rattle.refusal.specs.Outcome.{accepted, refused, answer};
-ghost use Rattle.edited_block.specs.Edit.{dstRefused, blockLadder};
+ghost use Rattle.edited_block.specs.Edit.{blockLadder};
 use refusal::Answer;
 use refusal::Refusal;
 use transform_1d::Kind;
-
-// Row 4: the DST has four points.
-fn dst_refused(kind: Kind, n: usize) -> bool
-    ensures { λ r. ⌜ r ≡ dstRefused kind n ⌝ }
-{
-    match kind {
-        Kind::Dct => false,
-        Kind::Dst => n != 4,
-    }
-}
 
 // The lowest row that applies, by the lengths of the buffers.
 pub(crate) fn block_refusal(
@@ -33,7 +23,7 @@ pub(crate) fn block_refusal(
     if refusal::depth_refused(bit_depth) {
         return Answer::Refused(Refusal::DepthInvalid);
     }
-    if dst_refused(kind, n) {
+    if transform_1d::dst_refused(kind, n) {
         return Answer::Refused(Refusal::DstSizeInvalid);
     }
     let cells = n * n;

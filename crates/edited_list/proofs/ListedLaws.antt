@@ -23,7 +23,8 @@ use Rattle.transform_1d.specs.declared.Kind.{Kind}
 use Rattle.coefficients.specs.Outside.{firstOutside}
 use Rattle.edited_block.specs.declared.EditedBlock.{EditedBlock}
 use Rattle.edited_block.specs.Columns.{columnCount}
-use Rattle.edited_block.specs.Edit.{Buffers, Left, buffers, zeroBlock, dstRefused, blockLadder, stopped, openedBuffers, opened}
+use Rattle.transform_1d.specs.Kinds.{dstRefused}
+use Rattle.edited_block.specs.Edit.{Buffers, Left, buffers, zeroBlock, blockLadder, stopped, openedBuffers, opened}
 use Rattle.edited_block.specs.History.{Edit, Opening, rangeOf, answersTo}
 use Rattle.edited_block.specs.Run.{Ran, ranFrom, ran, openedAs, blockOf}
 use Rattle.edited_block.proofs.HistoryLaws.{edits-follow-history}

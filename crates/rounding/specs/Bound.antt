@@ -7,7 +7,7 @@ use Rattle.refusal.specs.declared.Refusal.the-variants.{SizeInvalid, DepthInval
 use Rattle.refusal.specs.Condition.{sizeRefused, depthRefused}
 use Rattle.refusal.specs.Outcome.{Outcome, accepted, refused}
 use Rattle.transform_1d.specs.declared.Kind.{Kind}
-use Rattle.edited_block.specs.Edit.{dstRefused}
+use Rattle.transform_1d.specs.Kinds.{dstRefused}
 use Rattle.rounding.specs.declared.BoundAnswer.{BoundAnswer}
 use Rattle.rounding.specs.declared.BoundAnswer.the-variants.{Bound, Refused}
 use Rattle.rounding.specs.Exact.{roundingBound}

@@ -3,7 +3,6 @@ ghost use mathlib.Core.Path.{_≡_};
 ghost use Prim.Native.Nat.{_≤_};
 ghost use lib.Dec.{T};
 ghost use Rattle.h265.specs.Range.{isSize};
-ghost use Rattle.edited_block.specs.Edit.{dstRefused};
 ghost use Rattle.rounding.specs.Exact.{dctSum, entrySum, shiftOf, roundingBound};
 ghost use Rattle.rounding.specs.Bound.{boundOutcome, roundingBoundOf};
 use refusal::Refusal;
@@ -54,16 +53,6 @@ fn bound_of(kind: Kind, n: usize, bit_depth: u8, extended_precision: bool) -> u3
     64 * sum + (1u32 << (6 + shift))
 }
 
-// Row 4: the DST has four points.
-fn dst_refused(kind: Kind, n: usize) -> bool
-    ensures { λ r. ⌜ r ≡ dstRefused kind n ⌝ }
-{
-    match kind {
-        Kind::Dct => false,
-        Kind::Dst => n != 4,
-    }
-}
-
 // By how much 2^(7 + s2) times a residual may differ from the exact product, where no stage-one value was limited.
 pub fn rounding_bound(kind: Kind, n: usize, bit_depth: u8, extended_precision: bool) -> BoundAnswer
     ensures { λ r. ⌜ boundOutcome r ≡ roundingBoundOf kind n «bit_depth» «extended_precision» ⌝ }
@@ -74,7 +63,7 @@ pub fn rounding_bound(kind: Kind, n: usize, bit_depth: u8, extended_precision: b
     if refusal::depth_refused(bit_depth) {
         return BoundAnswer::Refused(Refusal::DepthInvalid);
     }
-    if dst_refused(kind, n) {
+    if transform_1d::dst_refused(kind, n) {
         return BoundAnswer::Refused(Refusal::DstSizeInvalid);
     }
     BoundAnswer::Bound(bound_of(kind, n, bit_depth, extended_precision))

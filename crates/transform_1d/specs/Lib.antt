@@ -1,3 +1,4 @@
+pub mod Kinds
 pub mod MatrixOf
 pub mod Lanes
 pub mod Kernel

@@ -1,5 +1,5 @@
 // One-dimensional inverse transforms on 16-bit data: the 32-point matrix, the layouts that the kernel reads, and the lines.
-// Internal: no depth, no limit, no refusal; callers meet each `requires`.
+// Internal: no depth, no limit, no refusal but row 4's test; callers meet each `requires`.
 ghost use mathlib.Core.Path.{_≡_};
 ghost use Prim.Native.Nat.{ℕ, _+_, _*_, _/_, _%_, _<_, _≤_, _^_};
 ghost use lib.IntN.{pos, natAbs, _+ℤ_, _*ℤ_};
@@ -7,6 +7,7 @@ ghost use lib.ListN.{length, getD};
 ghost use Rattle.integers.specs.Lists.{tabulate};
 ghost use Rattle.integers.specs.Within.{Within};
 ghost use Rattle.h265.specs.Matrix.{transMatrix32, transMatrix, dstMatrix};
+ghost use Rattle.transform_1d.specs.Kinds.{dstRefused};
 ghost use Rattle.transform_1d.specs.Lanes.{lanes, SmallEntries, LineAsk, LineSums};
 ghost use Rattle.transform_1d.specs.Kernel.{pairMost, rowPair, Room, Added, HalfSums, GroupAsk};
 ghost use Rattle.transform_1d.specs.Rows.{Placed};
@@ -15,6 +16,16 @@ ghost use Rattle.transform_1d.specs.Rows.{Placed};
 pub enum Kind {
     Dct,
     Dst,
+}
+
+// Row 4: the DST has four points.
+pub fn dst_refused(kind: Kind, n: usize) -> bool
+    ensures { λ r. ⌜ r ≡ dstRefused kind n ⌝ }
+{
+    match kind {
+        Kind::Dct => false,
+        Kind::Dst => n != 4,
+    }
 }
 
 // Row k of the 32-point matrix in line k.

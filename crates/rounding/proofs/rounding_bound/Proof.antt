@@ -4,7 +4,7 @@ use mathlib.Core.Bool.{false}
 use borrow.Author.Needs.{needs}
 use Rattle.refusal.specs.Condition.{sizeRefused, depthRefused}
 use Rattle.refusal.proofs.ConditionLaws.{size-accepted, depth-accepted}
-use Rattle.edited_block.specs.Edit.{dstRefused}
+use Rattle.transform_1d.specs.Kinds.{dstRefused}
 use Rattle.rounding.specs.Bound.{roundingBoundOf}
 use Rattle.rounding.proofs.rounding_bound.Statement.{statement}
 use Rattle.rounding.proofs.rounding_bound.Tie as tie

@@ -11,7 +11,8 @@ use Rattle.h265.specs.Range.{isSize}
 use Rattle.h265.proofs.RangeLaws.{size-square}
 use Rattle.refusal.specs.Condition.{sizeRefused, depthRefused, blockRefused}
 use Rattle.refusal.proofs.ConditionLaws.{size-accepted}
-use Rattle.edited_block.specs.Edit.{dstRefused, blockLadder}
+use Rattle.transform_1d.specs.Kinds.{dstRefused}
+use Rattle.edited_block.specs.Edit.{blockLadder}
 use Rattle.edited_block.proofs.refuse.block_refusal.Statement.{statement}
 use Rattle.edited_block.proofs.refuse.block_refusal.Tie as tie
 

@@ -1,8 +1,8 @@
--- `rounding::dst_refused` meets its contract: by the kind.
+-- `transform_1d::dst_refused` meets its contract: by the kind.
 use borrow.Author.Needs.{needs}
-use Rattle.edited_block.specs.Edit.{dstRefused}
-use Rattle.rounding.proofs.dst_refused.Statement.{statement}
-use Rattle.rounding.proofs.dst_refused.Tie as tie
+use Rattle.transform_1d.specs.Kinds.{dstRefused}
+use Rattle.transform_1d.proofs.dst_refused.Statement.{statement}
+use Rattle.transform_1d.proofs.dst_refused.Tie as tie
 
 enum-told : tie.Need-enum-told
 enum-told c = search needs
