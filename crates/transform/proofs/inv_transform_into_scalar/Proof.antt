@@ -11,7 +11,7 @@ same-length : tie.Need-same-length
 same-length c = search needs
 
 returns : tie.Need-returns
-returns c = search needs
+returns c = c .before .invert-32 .ensures
 
 pub inv-transform-into-scalar-spec : {M : Type 1} → statement M
 inv-transform-into-scalar-spec = tie.close (tie.spec invert-32-requires same-length returns)

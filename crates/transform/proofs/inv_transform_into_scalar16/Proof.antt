@@ -11,7 +11,7 @@ same-length : tie.Need-same-length
 same-length c = search needs
 
 returns : tie.Need-returns
-returns c = search needs
+returns c = c .before .invert-16 .ensures
 
 pub inv-transform-into-scalar16-spec : {M : Type 1} → statement M
 inv-transform-into-scalar16-spec = tie.close (tie.spec invert-16-requires same-length returns)
