@@ -280,3 +280,16 @@ pub mod lists {
         }
     }
 }
+
+#[cfg(has_rounding)]
+pub mod rounding {
+    use super::NumberAnswered;
+
+    unsafe extern "C" {
+        safe fn residual_rounding_bound(dst: bool, n: usize, bit_depth: u8, extended_precision: bool) -> NumberAnswered;
+    }
+
+    pub fn rounding_bound(dst: bool, n: usize, bit_depth: u8, extended_precision: bool) -> NumberAnswered {
+        residual_rounding_bound(dst, n, bit_depth, extended_precision)
+    }
+}

@@ -1,5 +1,5 @@
-//! Compares the archive of the crate c_api with the Rust that was ported, on every exported function; the functions of pictures and of scaling lists, which were not ported, with a plain writing of their rules.
-#![cfg_attr(not(all(has_scaling, has_transform, has_edits, has_lists, has_picture)), allow(dead_code, unused_mut))]
+//! Compares the archive of the crate c_api with the Rust that was ported, on every exported function; the functions of pictures, of scaling lists and of the rounding bound, which were not ported, with a plain writing of their rules.
+#![cfg_attr(not(all(has_scaling, has_transform, has_edits, has_lists, has_picture, has_rounding)), allow(dead_code, unused_mut))]
 mod archive;
 mod blocks;
 #[cfg(has_edits)]
@@ -12,6 +12,8 @@ mod picture;
 mod random;
 mod record;
 mod reference;
+#[cfg(has_rounding)]
+mod rounding;
 #[cfg(has_scaling)]
 mod scaling;
 mod tally;
@@ -70,6 +72,10 @@ fn differential(arguments: &Arguments) -> bool {
     {
         planned += lists::FUNCTIONS;
     }
+    #[cfg(has_rounding)]
+    {
+        planned += rounding::FUNCTIONS;
+    }
     let mut tally = tally::Tally::new(planned);
     parameters::compare(&mut tally, arguments.seed, arguments.cases);
     #[cfg(has_scaling)]
@@ -82,6 +88,8 @@ fn differential(arguments: &Arguments) -> bool {
     picture::compare(&mut tally, arguments.seed, arguments.cases);
     #[cfg(has_lists)]
     lists::compare(&mut tally, arguments.seed, arguments.cases);
+    #[cfg(has_rounding)]
+    rounding::compare(&mut tally, arguments.seed, arguments.cases);
     println!("seed {}, {} random cases a function", arguments.seed, arguments.cases);
     tally.finish()
 }
