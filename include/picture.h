@@ -1,6 +1,7 @@
 /* Rebuilt samples and the picture checksum for C: what the archive of the crate c_api defines beside include/residual.h, on x86-64.
  *
- * Every call answers a record that begins with a number and a place: 0 and 0, or the number of a refusal in docs/RULES.md with the place that it names.
+ * Every call answers a record that begins with a number and a place: zeros, or the number of a refusal in docs/RULES.md with the place that it names.
+ * Row and column name a coefficient, as residual.h says: here they are 0.
  * A refused call changes no element of any buffer, and the values of its record are zeros.
  * A buffer is a pointer and its number of elements; the pointer is valid for that many, is not null, and a plane that is written overlaps no input.
  * The sample in column x and row y of a picture stands at y * stride + x of its plane.
@@ -18,11 +19,15 @@ extern "C" {
 
 typedef struct {
     uint32_t number;
+    uint8_t row;
+    uint8_t column;
     size_t place;
 } picture_answered;
 
 typedef struct {
     uint32_t number;
+    uint8_t row;
+    uint8_t column;
     size_t place;
     uint32_t value;
 } picture_number_answered;

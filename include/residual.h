@@ -1,6 +1,7 @@
 /* The H.265 residual path for C: what the archive of the crate c_api defines, on x86-64.
  *
- * Every call answers a record that begins with a number and a place: 0 and 0, or the number of a refusal in docs/RULES.md with the place that it names.
+ * Every call answers a record that begins with a number and a place: zeros, or the number of a refusal in docs/RULES.md with the place that it names.
+ * The place of a coefficient is its row and column; any other is one number.
  * A refused call changes no element of any buffer, and the values of its record are zeros.
  * A buffer is a pointer and its number of elements; the pointer is valid for that many, is not null, and an output overlaps no input.
  * Blocks are stored row by row. Elements of an output from n * n on are never changed.
@@ -19,17 +20,23 @@ extern "C" {
 
 typedef struct {
     uint32_t number;
+    uint8_t row;
+    uint8_t column;
     size_t place;
 } residual_answered;
 
 typedef struct {
     uint32_t number;
+    uint8_t row;
+    uint8_t column;
     size_t place;
     uint32_t value;
 } residual_number_answered;
 
 typedef struct {
     uint32_t number;
+    uint8_t row;
+    uint8_t column;
     size_t place;
     int32_t value;
 } residual_signed_answered;
@@ -37,12 +44,16 @@ typedef struct {
 /* How many bits were read. */
 typedef struct {
     uint32_t number;
+    uint8_t row;
+    uint8_t column;
     size_t place;
     size_t bits;
 } residual_bits_answered;
 
 typedef struct {
     uint32_t number;
+    uint8_t row;
+    uint8_t column;
     size_t place;
     int64_t factor;
     int64_t add;
@@ -53,6 +64,8 @@ typedef struct {
 
 typedef struct {
     uint32_t number;
+    uint8_t row;
+    uint8_t column;
     size_t place;
     int64_t factor;
     int64_t add;
@@ -66,6 +79,8 @@ typedef struct {
 /* The record of an edited block, zeros where an opening was refused. */
 typedef struct {
     uint32_t number;
+    uint8_t row;
+    uint8_t column;
     size_t place;
     bool dst;
     size_t size;
@@ -131,14 +146,16 @@ residual_number_answered residual_rounding_bound(bool dst, size_t n, uint8_t bit
 
 /* Edited blocks. An opening takes the coefficients and writes intermediate and residual; an edit puts one value at a row and column and brings both up to date.
  * The record that a call hands back goes into the next edit by its parts; an edit that is refused hands back the record it was given.
- * A list of edits is as long as the shortest of rows, columns, values, numbers and places; the answer to edit i goes to numbers[i] and places[i]. */
+ * A list of edits is as long as the shortest of rows, columns, values, numbers, named and across; the answer to edit i goes to numbers[i], with the row
+ * and the column that it names in named[i] and across[i]. */
 residual_block_answered residual_open_block(bool dst, size_t n, uint8_t bit_depth, bool extended_precision, const int32_t *coeff, size_t coeff_len,
     int32_t *inter, size_t inter_len, int32_t *residual, size_t residual_len);
 residual_block_answered residual_edit(bool dst, size_t n, uint8_t bit_depth, bool extended_precision, size_t columns, int32_t *coeff, size_t coeff_len,
     int32_t *inter, size_t inter_len, int32_t *residual, size_t residual_len, size_t row, size_t column, int32_t value);
 residual_list_answered residual_open_and_edit(bool dst, size_t n, uint8_t bit_depth, bool extended_precision, int32_t *coeff, size_t coeff_len,
     int32_t *inter, size_t inter_len, int32_t *residual, size_t residual_len, const size_t *rows, size_t rows_len, const size_t *columns, size_t columns_len,
-    const int32_t *values, size_t values_len, uint8_t *numbers, size_t numbers_len, size_t *places, size_t places_len);
+    const int32_t *values, size_t values_len, uint8_t *numbers, size_t numbers_len, uint8_t *named, size_t named_len,
+    uint8_t *across, size_t across_len);
 /* The residual of an intermediate alone. */
 residual_answered residual_refresh_residual(bool dst, size_t n, uint8_t bit_depth, bool extended_precision, const int32_t *inter, size_t inter_len,
     int32_t *residual, size_t residual_len);

@@ -116,7 +116,10 @@ static void transforms(void) {
     DST(inv_transform_dst_into_scalar16, int16_t)
     int32_t coeff[16] = {[5] = 32768}, out[16] = {9};
     residual_answered a = residual_inv_transform_into_scalar(coeff, 16, 4, 8, 4, out, 16);
-    expect(a.number == 9 && a.place == 5 && out[0] == 9, "inv_transform_into_scalar, refused with a place");
+    expect(a.number == 9 && a.row == 1 && a.column == 1 && a.place == 0 && out[0] == 9, "inv_transform_into_scalar, refused with a place");
+    coeff[5] = -32769;
+    a = residual_inv_transform_into_scalar(coeff, 16, 4, 8, 4, out, 16);
+    expect(a.number == 19 && a.row == 1 && a.column == 1 && a.place == 0 && out[0] == 9, "inv_transform_into_scalar, refused below the range");
 }
 #endif
 
@@ -130,11 +133,11 @@ static void edits(void) {
     bool same = b.number == 0 && b.place == 0 && b.columns == 1 && coeff[0] == 63 && residual[16] == 7;
     for (int i = 0; i < 16; i++) same = same && residual[i] == 1;
     expect(same, "edit");
-    size_t rows[2] = {4, 0}, columns[2] = {0, 0}, places[2] = {9, 9};
+    size_t rows[2] = {4, 0}, columns[2] = {0, 0};
     int32_t values[2] = {1, 0};
-    uint8_t numbers[2] = {9, 9};
-    residual_list_answered l = residual_open_and_edit(false, 4, 8, false, coeff, 16, inter, 16, residual, 17, rows, 2, columns, 2, values, 2, numbers, 2, places, 2);
-    same = l.block.number == 0 && l.block.columns == 0 && l.edits == 2 && numbers[0] == 8 && places[0] == 0 && numbers[1] == 0 && places[1] == 0;
+    uint8_t numbers[2] = {9, 9}, named[2] = {9, 9}, across[2] = {9, 9};
+    residual_list_answered l = residual_open_and_edit(false, 4, 8, false, coeff, 16, inter, 16, residual, 17, rows, 2, columns, 2, values, 2, numbers, 2, named, 2, across, 2);
+    same = l.block.number == 0 && l.block.columns == 0 && l.edits == 2 && numbers[0] == 8 && named[0] == 0 && across[0] == 0 && numbers[1] == 0 && named[1] == 0 && across[1] == 0;
     for (int i = 0; i < 16; i++) same = same && residual[i] == 0 && coeff[i] == 0;
     expect(same && residual[16] == 7, "open_and_edit");
     residual[3] = 9;

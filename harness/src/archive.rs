@@ -5,6 +5,8 @@
 #[derive(Clone, Copy, PartialEq, Eq, Debug, Default)]
 pub struct Answered {
     pub number: u32,
+    pub row: u8,
+    pub column: u8,
     pub place: usize,
 }
 
@@ -12,6 +14,8 @@ pub struct Answered {
 #[derive(Clone, Copy, PartialEq, Eq, Debug, Default)]
 pub struct NumberAnswered {
     pub number: u32,
+    pub row: u8,
+    pub column: u8,
     pub place: usize,
     pub value: u32,
 }
@@ -20,6 +24,8 @@ pub struct NumberAnswered {
 #[derive(Clone, Copy, PartialEq, Eq, Debug, Default)]
 pub struct SignedAnswered {
     pub number: u32,
+    pub row: u8,
+    pub column: u8,
     pub place: usize,
     pub value: i32,
 }
@@ -28,6 +34,8 @@ pub struct SignedAnswered {
 #[derive(Clone, Copy, PartialEq, Eq, Debug, Default)]
 pub struct DequantAnswered {
     pub number: u32,
+    pub row: u8,
+    pub column: u8,
     pub place: usize,
     pub factor: i64,
     pub add: i64,
@@ -40,6 +48,8 @@ pub struct DequantAnswered {
 #[derive(Clone, Copy, PartialEq, Eq, Debug, Default)]
 pub struct TransformSkipAnswered {
     pub number: u32,
+    pub row: u8,
+    pub column: u8,
     pub place: usize,
     pub factor: i64,
     pub add: i64,
@@ -173,6 +183,8 @@ pub mod edits {
     #[derive(Clone, Copy, PartialEq, Eq, Debug, Default)]
     pub struct BlockAnswered {
         pub number: u32,
+        pub row: u8,
+        pub column: u8,
         pub place: usize,
         pub dst: bool,
         pub size: usize,
@@ -193,7 +205,7 @@ pub mod edits {
         fn residual_edit(dst: bool, n: usize, bit_depth: u8, extended_precision: bool, columns: usize, coeff: *mut i32, coeff_len: usize, inter: *mut i32, inter_len: usize, residual: *mut i32, residual_len: usize, row: usize, column: usize, value: i32) -> BlockAnswered;
         fn residual_open_and_edit(
             dst: bool, n: usize, bit_depth: u8, extended_precision: bool, coeff: *mut i32, coeff_len: usize, inter: *mut i32, inter_len: usize, residual: *mut i32, residual_len: usize,
-            rows: *const usize, rows_len: usize, columns: *const usize, columns_len: usize, values: *const i32, values_len: usize, numbers: *mut u8, numbers_len: usize, places: *mut usize, places_len: usize,
+            rows: *const usize, rows_len: usize, columns: *const usize, columns_len: usize, values: *const i32, values_len: usize, numbers: *mut u8, numbers_len: usize, named: *mut u8, named_len: usize, across: *mut u8, across_len: usize,
         ) -> ListAnswered;
     }
 
@@ -219,12 +231,12 @@ pub mod edits {
 
     pub fn open_and_edit(
         dst: bool, n: usize, bit_depth: u8, extended_precision: bool, coeff: &mut [i32], inter: &mut [i32], residual: &mut [i32], rows: &[usize], columns: &[usize], values: &[i32],
-        numbers: &mut [u8], places: &mut [usize],
+        numbers: &mut [u8], named: &mut [u8], across: &mut [u8],
     ) -> ListAnswered {
         unsafe {
             residual_open_and_edit(
                 dst, n, bit_depth, extended_precision, coeff.as_mut_ptr(), coeff.len(), inter.as_mut_ptr(), inter.len(), residual.as_mut_ptr(), residual.len(), rows.as_ptr(), rows.len(),
-                columns.as_ptr(), columns.len(), values.as_ptr(), values.len(), numbers.as_mut_ptr(), numbers.len(), places.as_mut_ptr(), places.len(),
+                columns.as_ptr(), columns.len(), values.as_ptr(), values.len(), numbers.as_mut_ptr(), numbers.len(), named.as_mut_ptr(), named.len(), across.as_mut_ptr(), across.len(),
             )
         }
     }
@@ -261,6 +273,8 @@ pub mod lists {
     #[derive(Clone, Copy, PartialEq, Eq, Debug, Default)]
     pub struct BitsAnswered {
         pub number: u32,
+        pub row: u8,
+        pub column: u8,
         pub place: usize,
         pub bits: usize,
     }

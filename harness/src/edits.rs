@@ -54,8 +54,8 @@ impl Opening {
         }
     }
 
-    fn answered(&self, number: u32, place: usize, columns: usize) -> BlockAnswered {
-        BlockAnswered { number, place, dst: self.dst, size: self.n, depth: self.bit_depth, extended: self.extended, columns }
+    fn answered(&self, (number, row, column): Told, columns: usize) -> BlockAnswered {
+        BlockAnswered { number, row, column, place: 0, dst: self.dst, size: self.n, depth: self.bit_depth, extended: self.extended, columns }
     }
 
     fn limited(&self, xs: &[i32]) -> Vec<i64> {
@@ -107,15 +107,18 @@ fn random_edit(random: &mut Random, o: &Opening) -> Edit {
     Edit { row, column, value: value as i32 }
 }
 
-/// The answer to an edit of a block that is open: rows 8 and 9, or 0.
-fn answer_to(o: &Opening, e: &Edit) -> (u32, usize) {
+/// A number of the table, with the row and the column that it names.
+type Told = (u32, u8, u8);
+
+/// The answer to an edit of a block that is open: rows 8, 9 and 19, or 0.
+fn answer_to(o: &Opening, e: &Edit) -> Told {
     let (lo, hi) = o.ends();
     if e.row >= o.n || e.column >= o.n {
-        (8, 0)
+        (8, 0, 0)
     } else if !(lo..=hi).contains(&i64::from(e.value)) {
-        (9, e.row * o.n + e.column)
+        (reference::side(i64::from(e.value)), e.row as u8, e.column as u8)
     } else {
-        (0, 0)
+        (0, 0, 0)
     }
 }
 
@@ -212,7 +215,7 @@ fn refreshes(tally: &mut Tally, matrices: &Matrices, seed: u64, cases: usize) {
             put(&mut expected.residual, values.into_iter());
         }
         let answered = edits::refresh_residual(o.dst, o.n, o.bit_depth, o.extended, ours.inter.seen(), ours.residual.lend());
-        tally.compared(answered.number, answered == Answered { number, place: 0 } && ours.same(&expected), || format!("{o:?}: {answered:?}, expected {number}"));
+        tally.compared(answered.number, answered == Answered { number, ..Answered::default() } && ours.same(&expected), || format!("{o:?}: {answered:?}, expected {number}"));
     }
 }
 
@@ -232,9 +235,12 @@ fn openings(tally: &mut Tally, matrices: &Matrices, seed: u64, cases: usize) {
         let answer = match (number, outside) {
             (0, None) => {
                 fresh(&o, matrices.of(&o), &mut expected);
-                o.answered(0, 0, column_count(expected.coeff.seen(), o.n))
+                o.answered((0, 0, 0), column_count(expected.coeff.seen(), o.n))
             }
-            (0, Some(place)) => BlockAnswered { number: 9, place, ..BlockAnswered::default() },
+            (0, Some(at)) => {
+                let value = i64::from(ours.coeff.seen()[at]);
+                BlockAnswered { number: reference::side(value), row: (at / o.n) as u8, column: (at % o.n) as u8, ..BlockAnswered::default() }
+            }
             _ => BlockAnswered { number, ..BlockAnswered::default() },
         };
         let answered = open(&o, &mut ours);
@@ -278,12 +284,12 @@ fn single_edits_and_lists(tally: &mut Tally, matrices: &Matrices, seed: u64, lis
             if random.one_in(10) {
                 stray_edit(tally, matrices, &mut random, &o, &ours, columns, e);
             }
-            let (number, place) = answer_to(&o, e);
-            if number == 0 {
+            let told = answer_to(&o, e);
+            if told.0 == 0 {
                 expected.coeff.lend()[e.row * o.n + e.column] = e.value;
                 fresh(&o, matrices.of(&o), &mut expected);
             }
-            let answer = o.answered(number, place, column_count(expected.coeff.seen(), o.n));
+            let answer = o.answered(told, column_count(expected.coeff.seen(), o.n));
             let answered = edit(&o, columns, &mut ours, e);
             columns = answered.columns;
             tally.compared(answered.number, answered == answer && ours.same(&expected), || format!("{o:?}, {e:?}: {answered:?}, expected {answer:?}"));
@@ -313,11 +319,11 @@ fn stray_edit(tally: &mut Tally, matrices: &Matrices, random: &mut Random, o: &O
     }
     let columns = random.pick(&[columns, 0, 1, o.n, usize::MAX]);
     let mut expected = ours.copy();
-    let mut answer = o.answered(o.refusal(ours.coeff.seen().len(), ours.inter.seen().len(), ours.residual.seen().len()), 0, columns);
+    let mut answer = o.answered((o.refusal(ours.coeff.seen().len(), ours.inter.seen().len(), ours.residual.seen().len()), 0, 0), columns);
     if answer.number == 0 {
-        let (number, place) = answer_to(&o, e);
-        answer = o.answered(number, place, columns);
-        if number == 0 {
+        let told = answer_to(&o, e);
+        answer = o.answered(told, columns);
+        if told.0 == 0 {
             expected.coeff.lend()[e.row * o.n + e.column] = e.value;
             answer.columns = column_count(expected.coeff.seen(), o.n);
             let column = reference::residual(matrices.of(&o), &o.limited(expected.coeff.seen()), o.n, o.bit_depth, o.range(), o.n).intermediate;
@@ -342,18 +348,20 @@ fn one_call(tally: &mut Tally, random: &mut Random, o: &Opening, given: Buffers,
     rows.resize(list.len() + random.below(3), 0);
     values.resize(list.len() + random.below(3), 1);
     let mut numbers = vec![200u8; list.len() + random.below(3)];
-    let mut places = vec![usize::MAX; list.len() + random.below(3)];
+    let mut named = vec![200u8; list.len() + random.below(3)];
+    let mut across = vec![200u8; list.len() + random.below(3)];
     let answers = list.iter().map(|e| answer_to(o, e));
     let mut expected_numbers = numbers.clone();
-    let mut expected_places = places.clone();
-    for (i, (number, place)) in answers.enumerate() {
+    let (mut expected_named, mut expected_across) = (named.clone(), across.clone());
+    for (i, (number, row, column)) in answers.enumerate() {
         expected_numbers[i] = number as u8;
-        expected_places[i] = place;
+        expected_named[i] = row;
+        expected_across[i] = column;
     }
     let answered = edits::open_and_edit(
-        o.dst, o.n, o.bit_depth, o.extended, ours.coeff.lend(), ours.inter.lend(), ours.residual.lend(), &rows, &columns, &values, &mut numbers, &mut places,
+        o.dst, o.n, o.bit_depth, o.extended, ours.coeff.lend(), ours.inter.lend(), ours.residual.lend(), &rows, &columns, &values, &mut numbers, &mut named, &mut across,
     );
-    let answer = ListAnswered { block: o.answered(0, 0, column_count(expected.coeff.seen(), o.n)), edits: list.len() };
-    let agrees = answered == answer && ours.same(expected) && numbers == expected_numbers && places == expected_places;
+    let answer = ListAnswered { block: o.answered((0, 0, 0), column_count(expected.coeff.seen(), o.n)), edits: list.len() };
+    let agrees = answered == answer && ours.same(expected) && numbers == expected_numbers && named == expected_named && across == expected_across;
     tally.compared(answered.block.number, agrees, || format!("{o:?}, {} edits: {answered:?}, expected {answer:?}", list.len()));
 }

@@ -271,13 +271,13 @@ pub fn compare(tally: &mut Tally, seed: u64, cases: usize) {
             BitsAnswered { number: 7, ..BitsAnswered::default() }
         } else {
             match read(&bytes, &defaults) {
-                Err((number, place)) => BitsAnswered { number, place, bits: 0 },
+                Err((number, place)) => BitsAnswered { number, row: 0, column: 0, place, bits: 0 },
                 Ok((all, bits)) => {
                     for (j, list) in all.iter().enumerate() {
                         expected[j * ENTRIES..][..ENTRIES].copy_from_slice(&list.entries);
                         expected_dcs[j] = list.dc;
                     }
-                    BitsAnswered { number: 0, place: 0, bits }
+                    BitsAnswered { number: 0, row: 0, column: 0, place: 0, bits }
                 }
             }
         };

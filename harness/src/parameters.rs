@@ -22,9 +22,9 @@ fn ranges(tally: &mut Tally) {
             let ours = archive::max_log2_transform_dynamic_range(bit_depth, extended_precision);
             let expected = if reference::is_depth(bit_depth) {
                 let value = oracle::max_log2_transform_dynamic_range(bit_depth, extended_precision) as u32;
-                archive::NumberAnswered { number: 0, place: 0, value }
+                archive::NumberAnswered { number: 0, row: 0, column: 0, place: 0, value }
             } else {
-                archive::NumberAnswered { number: 2, place: 0, value: 0 }
+                archive::NumberAnswered { number: 2, row: 0, column: 0, place: 0, value: 0 }
             };
             tally.compared(ours.number, ours == expected, || format!("depth {bit_depth}, extended {extended_precision}: {ours:?}, expected {expected:?}"));
         }
@@ -36,9 +36,9 @@ fn offsets(tally: &mut Tally) {
     for bit_depth in 0..=255 {
         let ours = archive::qp_bd_offset(bit_depth);
         let expected = if reference::is_depth(bit_depth) {
-            archive::NumberAnswered { number: 0, place: 0, value: reference::qp_bd_offset(bit_depth) as u32 }
+            archive::NumberAnswered { number: 0, row: 0, column: 0, place: 0, value: reference::qp_bd_offset(bit_depth) as u32 }
         } else {
-            archive::NumberAnswered { number: 2, place: 0, value: 0 }
+            archive::NumberAnswered { number: 2, row: 0, column: 0, place: 0, value: 0 }
         };
         tally.compared(ours.number, ours == expected, || format!("depth {bit_depth}: {ours:?}, expected {expected:?}"));
     }
@@ -49,9 +49,9 @@ fn qp_primes(tally: &mut Tally, seed: u64, cases: usize) {
     let mut one = |qp: i32, bit_depth: u8| {
         let ours = archive::qp_prime(qp, bit_depth);
         let expected = if reference::is_depth(bit_depth) {
-            archive::SignedAnswered { number: 0, place: 0, value: reference::qp_prime(qp, bit_depth) as i32 }
+            archive::SignedAnswered { number: 0, row: 0, column: 0, place: 0, value: reference::qp_prime(qp, bit_depth) as i32 }
         } else {
-            archive::SignedAnswered { number: 2, place: 0, value: 0 }
+            archive::SignedAnswered { number: 2, row: 0, column: 0, place: 0, value: 0 }
         };
         tally.compared(ours.number, ours == expected, || format!("QP {qp}, depth {bit_depth}: {ours:?}, expected {expected:?}"));
     };

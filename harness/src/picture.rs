@@ -64,7 +64,7 @@ impl Call {
     fn refusal(&self) -> Answered {
         let n = self.n;
         let outside = |first: usize, side: usize| first as u128 + n as u128 > side as u128;
-        let refused = |number| Answered { number, place: 0 };
+        let refused = |number| Answered { number, row: 0, column: 0, place: 0 };
         if !reference::SIZES.contains(&n) {
             return refused(1);
         }
@@ -78,7 +78,7 @@ impl Call {
             return refused(13);
         }
         match self.prediction[..n * n].iter().position(|&p| u32::from(p) >> self.bit_depth != 0) {
-            Some(place) => Answered { number: 12, place },
+            Some(place) => Answered { number: 12, row: 0, column: 0, place },
             None => Answered::default(),
         }
     }
@@ -184,11 +184,11 @@ fn checksums(tally: &mut Tally, seed: u64, cases: usize) {
     let mut one = |width: usize, height: usize, stride: usize, bit_depth: u8, plane: &[u16]| {
         let found = archive::picture::checksum(width, height, stride, bit_depth, plane);
         let expected = if !reference::is_depth(bit_depth) {
-            NumberAnswered { number: 2, place: 0, value: 0 }
+            NumberAnswered { number: 2, row: 0, column: 0, place: 0, value: 0 }
         } else if plane_refused(width, height, stride, plane.len()) {
-            NumberAnswered { number: 13, place: 0, value: 0 }
+            NumberAnswered { number: 13, row: 0, column: 0, place: 0, value: 0 }
         } else {
-            NumberAnswered { number: 0, place: 0, value: checksum(width, height, stride, bit_depth, plane) }
+            NumberAnswered { number: 0, row: 0, column: 0, place: 0, value: checksum(width, height, stride, bit_depth, plane) }
         };
         tally.compared(found.number, found == expected, || format!("{width} × {height} stride {stride}, depth {bit_depth}, {} places: {found:?}, expected {expected:?}", plane.len()));
     };

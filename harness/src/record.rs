@@ -48,7 +48,8 @@ struct Head {
 
 struct Answer {
     number: u32,
-    place: usize,
+    row: u8,
+    column: u8,
     values: Vec<i64>,
 }
 
@@ -75,7 +76,7 @@ impl Recorder {
             self.file.extend(&value.to_le_bytes()[..output_width]);
         }
         self.lines += &format!(
-            "{name} {} {} {} {} {} {} {} | {} {} | equal\n",
+            "{name} {} {} {} {} {} {} {} | {} {} {} | equal\n",
             head.n,
             head.bit_depth,
             u8::from(head.extended_precision),
@@ -84,7 +85,8 @@ impl Recorder {
             head.count,
             head.level,
             answer.number,
-            answer.place,
+            answer.row,
+            answer.column,
         );
         self.cases += 1;
     }
@@ -94,7 +96,7 @@ const DEPTHS_AND_ONE_PAST: std::ops::RangeInclusive<u8> = 7..=17;
 const BORDER_QPS: [i32; 12] = [0, 4, 5, 6, 51, 52, 57, 99, 100, -1, i32::MIN, i32::MAX];
 
 fn refused(number: u32, count: usize) -> Answer {
-    Answer { number, place: 0, values: vec![0; count] }
+    Answer { number, row: 0, column: 0, values: vec![0; count] }
 }
 
 fn small_refusal(n: usize, bit_depth: u8) -> u32 {
@@ -113,7 +115,7 @@ fn parameters(to: &mut Recorder) {
             let head = Head { bit_depth, extended_precision, ..Head::default() };
             let answer = if reference::is_depth(bit_depth) {
                 let value = oracle::max_log2_transform_dynamic_range(bit_depth, extended_precision);
-                Answer { number: 0, place: 0, values: vec![i64::from(value)] }
+                Answer { number: 0, row: 0, column: 0, values: vec![i64::from(value)] }
             } else {
                 refused(2, 1)
             };
@@ -137,7 +139,7 @@ fn parameters(to: &mut Recorder) {
                     let plain = vec![p.factor, p.add, i64::from(p.shift), p.clip_min, p.clip_max];
                     let mut skip = vec![s.factor, s.add, i64::from(s.shift), s.clip_min, s.clip_max];
                     skip.extend([i64::from(s.tr_add), i64::from(s.tr_shift)]);
-                    (Answer { number, place: 0, values: plain }, Answer { number, place: 0, values: skip })
+                    (Answer { number, row: 0, column: 0, values: plain }, Answer { number, row: 0, column: 0, values: skip })
                 } else {
                     (refused(number, 5), refused(number, 7))
                 };
@@ -169,7 +171,7 @@ fn factors(to: &mut Recorder) {
                 };
                 let answer = if number == 0 {
                     let value = oracle::scaling_coeff(list[..].try_into().expect("64"), 250, n, index);
-                    Answer { number, place: 0, values: vec![value] }
+                    Answer { number, row: 0, column: 0, values: vec![value] }
                 } else {
                     refused(number, 1)
                 };
@@ -194,7 +196,7 @@ fn levels(to: &mut Recorder) {
                 let answer = if number == 0 {
                     let mut out = vec![0; n * n];
                     oracle::dequantize_scaled_into_scalar_i32(&vec![level; n * n], n, qp, bit_depth, extended_precision, &[byte; 64], byte, &mut out);
-                    Answer { number, place: 0, values: vec![i64::from(out[0])] }
+                    Answer { number, row: 0, column: 0, values: vec![i64::from(out[0])] }
                 } else {
                     refused(number, 1)
                 };
@@ -222,7 +224,7 @@ fn scaled_block<E: blocks::Element>(to: &mut Recorder, scaler: &scaling::Scaler<
         ..Head::default()
     };
     let input: Vec<i64> = call.levels.iter().map(|&v| i64::from(v)).collect();
-    let answer = Answer { number, place: 0, values: out.iter().map(|v| v.long()).collect() };
+    let answer = Answer { number, row: 0, column: 0, values: out.iter().map(|v| v.long()).collect() };
     to.case(scaler.name, head, &call.list, &input, 4, answer, size_of::<E>());
 }
 
@@ -298,7 +300,7 @@ fn transformed_block<E: blocks::Element>(to: &mut Recorder, transform: &transfor
         }
     }
     let head = Head { bit_depth: call.bit_depth, n: call.n as u32, count: call.nx as u32, ..Head::default() };
-    let answer = Answer { number: answered.number, place: answered.place, values: out };
+    let answer = Answer { number: answered.number, row: answered.row, column: answered.column, values: out };
     to.case(transform.name, head, &[], &input, size_of::<E>(), answer, size_of::<E>());
 }
 

@@ -64,6 +64,11 @@ pub fn outside(coeff: &[i64], n: usize, columns: usize, r: u32) -> Option<usize>
     (0..n * n).find(|&i| i % n < columns && !(lo..=hi).contains(&coeff[i]))
 }
 
+/// The row of the table for a coefficient outside its range: 9 above it, 19 below.
+pub fn side(value: i64) -> u32 {
+    if value < 0 { 19 } else { 9 }
+}
+
 /// The matrix of a transform, `n` rows of `n`.
 pub fn matrix(n: usize, dst: bool) -> Vec<i128> {
     const F: [i128; 32] = [

@@ -35,7 +35,7 @@ fn bounds(tally: &mut Tally) {
                     0
                 };
                 let value = if number == 0 { bound(dst, n, bit_depth, extended_precision) as u32 } else { 0 };
-                let expected = archive::NumberAnswered { number, place: 0, value };
+                let expected = archive::NumberAnswered { number, row: 0, column: 0, place: 0, value };
                 tally.compared(ours.number, ours == expected, || format!("dst {dst}, n {n}, depth {bit_depth}, extended {extended_precision}: {ours:?}, expected {expected:?}"));
             }
         }

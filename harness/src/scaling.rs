@@ -64,7 +64,7 @@ fn factors(tally: &mut Tally, seed: u64, cases: usize) {
             0
         };
         let value = if number == 0 { oracle::scaling_coeff(list.try_into().expect("64"), dc, n, index) as u32 } else { 0 };
-        let expected = archive::NumberAnswered { number, place: 0, value };
+        let expected = archive::NumberAnswered { number, row: 0, column: 0, place: 0, value };
         tally.compared(ours.number, ours == expected, || format!("list {list:?}, DC {dc}, n {n}, index {index}: {ours:?}, expected {expected:?}"));
     };
     for n in reference::SIZES {
@@ -101,7 +101,7 @@ fn levels(tally: &mut Tally, seed: u64, cases: usize) {
             oracle::dequantize_scaled_into_scalar_i32(&block, n, qp_prime, bit_depth, extended_precision, &[m; 64], m, &mut out);
             for (&level, &value) in part.iter().zip(&out) {
                 let ours = archive::scaling::scale_level(level, m, n, qp_prime, bit_depth, extended_precision);
-                let expected = archive::SignedAnswered { number: 0, place: 0, value };
+                let expected = archive::SignedAnswered { number: 0, row: 0, column: 0, place: 0, value };
                 tally.compared(ours.number, ours == expected, || format!("level {level}, m {m}, n {n}, QP′ {qp_prime}, depth {bit_depth}, extended {extended_precision}: {ours:?}, expected {expected:?}"));
             }
         }
@@ -135,7 +135,7 @@ fn levels(tally: &mut Tally, seed: u64, cases: usize) {
         let n = if random.one_in(2) { blocks::odd_size(&mut random) } else { random.pick(&reference::SIZES) };
         let bit_depth = if !reference::is_size(n) && random.one_in(2) { 8 } else { blocks::odd_depth(&mut random) };
         let ours = archive::scaling::scale_level(random.next() as i32, random.below(256) as u8, n, 4, bit_depth, random.one_in(2));
-        let expected = archive::SignedAnswered { number: if reference::is_size(n) { 2 } else { 1 }, place: 0, value: 0 };
+        let expected = archive::SignedAnswered { number: if reference::is_size(n) { 2 } else { 1 }, row: 0, column: 0, place: 0, value: 0 };
         tally.compared(ours.number, ours == expected, || format!("n {n}, depth {bit_depth}: {ours:?}, expected {expected:?}"));
     }
 }
@@ -233,7 +233,7 @@ fn compare_call<E: Element>(tally: &mut Tally, scaler: &Scaler<E>, call: &Call, 
         (scaler.oracle)(&call.levels, call.n, call.qp_prime, call.bit_depth, call.extended_precision, list, call.dc, expected.lend());
     }
     let difference = ours.first_difference(&expected);
-    let agrees = answered == Answered { number, place: 0 } && difference.is_none() && levels == call.levels;
+    let agrees = answered == Answered { number, row: 0, column: 0, place: 0 } && difference.is_none() && levels == call.levels;
     tally.compared(answered.number, agrees, || {
         format!(
             "n {}, QP′ {}, depth {}, extended {}, {} levels, {} places, list of {}, DC {}: {answered:?}, expected number {number}; first element that differs: {difference:?}",

@@ -77,12 +77,12 @@ impl<E: Element> Call<E> {
         }
         .refusal();
         if number != 0 {
-            return Answered { number, place: 0 };
+            return Answered { number, ..Answered::default() };
         }
         let columns = if dst { 4 } else { self.nx };
         let long: Vec<i64> = self.coeff.iter().map(|&v| v.long()).collect();
         match reference::outside(&long, self.n, columns, reference::range(self.bit_depth, extended)) {
-            Some(place) => Answered { number: 9, place },
+            Some(at) => Answered { number: reference::side(long[at]), row: (at / self.n) as u8, column: (at % self.n) as u8, place: 0 },
             None => Answered::default(),
         }
     }

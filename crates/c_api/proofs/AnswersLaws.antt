@@ -12,7 +12,7 @@ use Rattle.c_api.specs.Answers.{ofAnswered}
 use Rattle.c_api.specs.Blocks.{Writes}
 
 abbrev pub withValue : {A B : Type 0} → B → Outcome A → Outcome B
-withValue v o = record { number = o .number; place = o .place; value = v }
+withValue v o = record { number = o .number; row = o .row; column = o .column; place = o .place; value = v }
 
 pub writes-by : {r : Answered} {a : Answer} {after : List ℤ} {w : Called.Written}
     → ofAnswered r ≡ answer a → Called.Writes a after w → Writes r after w

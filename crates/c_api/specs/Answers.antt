@@ -1,4 +1,4 @@
--- The records that C gets, as number, place and values: what the definitions of the wrapped functions speak of.
+-- The records that C gets, as number, row, column, place and values: what the definitions of the wrapped functions speak of.
 --   ofAnswered        of a call that hands back no value
 --   ofNumber          of a call that hands back one unsigned number
 --   ofSigned          one signed number
@@ -20,24 +20,26 @@ use Rattle.c_api.specs.declared.DequantAnswered.{DequantAnswered}
 use Rattle.c_api.specs.declared.TransformSkipAnswered.{TransformSkipAnswered}
 
 abbrev pub ofAnswered : Answered → Outcome (Unit {0})
-ofAnswered r = record { number = r .number; place = r .place; value = tt }
+ofAnswered r = record { number = r .number; row = r .row; column = r .column; place = r .place; value = tt }
 
 abbrev pub ofNumber : NumberAnswered → Outcome ℕ
-ofNumber r = record { number = r .number; place = r .place; value = r .value }
+ofNumber r = record { number = r .number; row = r .row; column = r .column; place = r .place; value = r .value }
 
 abbrev pub ofSigned : SignedAnswered → Outcome ℤ
-ofSigned r = record { number = r .number; place = r .place; value = r .value }
+ofSigned r = record { number = r .number; row = r .row; column = r .column; place = r .place; value = r .value }
 
 abbrev pub ofQpPrime : SignedAnswered → Outcome QpPrime
-ofQpPrime r = record { number = r .number; place = r .place; value = record { 0 = r .value } }
+ofQpPrime r = record { number = r .number; row = r .row; column = r .column; place = r .place; value = record { 0 = r .value } }
 
 abbrev pub ofBits : BitsAnswered → Outcome ℕ
-ofBits r = record { number = r .number; place = r .place; value = r .bits }
+ofBits r = record { number = r .number; row = r .row; column = r .column; place = r .place; value = r .bits }
 
 abbrev pub ofDequant : DequantAnswered → Outcome DequantParams
 ofDequant r =
     record {
       number = r .number;
+      row = r .row;
+      column = r .column;
       place = r .place;
       value = record { factor = r .factor; add = r .add; shift = r .shift; «clip_min» = r .«clip_min»; «clip_max» = r .«clip_max» };
     }
@@ -46,6 +48,8 @@ abbrev pub ofTransformSkip : TransformSkipAnswered → Outcome TransformSkipPara
 ofTransformSkip r =
     record {
       number = r .number;
+      row = r .row;
+      column = r .column;
       place = r .place;
       value = record {
         dequant = record { factor = r .factor; add = r .add; shift = r .shift; «clip_min» = r .«clip_min»; «clip_max» = r .«clip_max» };

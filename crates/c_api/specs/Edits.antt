@@ -17,7 +17,7 @@ use Rattle.edited_block.specs.declared.EditedBlock.{EditedBlock}
 use Rattle.edited_block.specs.Edit.{Buffers, Left}
 use Rattle.edited_block.specs.History.{Edit, Opening}
 use Rattle.edited_block.specs.Run.{openedAs}
-use Rattle.edited_list.specs.Listed.{listed, numbersOf, placesOf}
+use Rattle.edited_list.specs.Listed.{listed, numbersOf, rowsOf, columnsOf}
 use Rattle.c_api.specs.declared.BlockAnswered.{BlockAnswered}
 use Rattle.c_api.specs.declared.ListAnswered.{ListAnswered}
 
@@ -32,11 +32,11 @@ abbrev pub ofBlock : BlockAnswered → EditedBlock
 ofBlock r = blockGiven (r .dst) (r .size) (r .depth) (r .extended) (r .columns)
 
 abbrev pub ofAnswer : BlockAnswered → Outcome (Unit {0})
-ofAnswer r = record { number = r .number; place = r .place; value = tt }
+ofAnswer r = record { number = r .number; row = r .row; column = r .column; place = r .place; value = tt }
 
 -- the answer and the record of a list without its count of edits
 abbrev pub blockOfList : ListAnswered → BlockAnswered
-blockOfList r = record { number = r .number; place = r .place; dst = r .dst; size = r .size; depth = r .depth; extended = r .extended; columns = r .columns }
+blockOfList r = record { number = r .number; row = r .row; column = r .column; place = r .place; dst = r .dst; size = r .size; depth = r .depth; extended = r .extended; columns = r .columns }
 
 pub record BlockIs (r : BlockAnswered) (answer : Outcome (Unit {0})) (block : EditedBlock) : Type 0 where
   pub answered : ofAnswer r ≡ answer
@@ -53,9 +53,10 @@ pub record Edits (h : Left) (r : BlockAnswered) (d g e : List ℤ) : Type 0 wher
   pub inter : g ≡ h .buffers .inter
   pub res : e ≡ h .buffers .res
 
-pub record Lists (o : Opening) (lent : Buffers) (es : List Edit) (numbers places : List ℕ) (r : ListAnswered) (after : Buffers) (ns ps : List ℕ) : Type 0 where
+pub record Lists (o : Opening) (lent : Buffers) (es : List Edit) (numbers named across : List ℕ) (r : ListAnswered) (after : Buffers) (ns rs cs : List ℕ) : Type 0 where
   pub answered : BlockIs (blockOfList r) (openedAs o lent .answer) (listed o lent es .block)
   pub edits : r .edits ≡ length (listed o lent es .answers)
   pub buffers : after ≡ listed o lent es .buffers
   pub numbers-are : ns ≡ sets numbers 0 (numbersOf (listed o lent es .answers))
-  pub places-are : ps ≡ sets places 0 (placesOf (listed o lent es .answers))
+  pub rows-are : rs ≡ sets named 0 (rowsOf (listed o lent es .answers))
+  pub columns-are : cs ≡ sets across 0 (columnsOf (listed o lent es .answers))

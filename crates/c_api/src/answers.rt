@@ -1,4 +1,4 @@
-// Each answer of the library as a record of numbers: a refusal's number and place, and the values, zeros on refusal.
+// Each answer of the library as a record of numbers: a refusal's number, row, column and place, and the values, zeros on refusal.
 ghost use mathlib.Core.Path.{_≡_};
 ghost use Rattle.refusal.specs.Outcome.{answer as answerOutcome, refused as refusedWith};
 ghost use Rattle.parameters.specs.Answers.{numberOutcome, qpPrimeOutcome, dequantOutcome, transformSkipOutcome};
@@ -30,6 +30,8 @@ pub(crate) fn refused(why: Refusal) -> Answered
 {
     Answered {
         number: refusal::number(why) as u32,
+        row: refusal::row(why),
+        column: refusal::column(why),
         place: refusal::place(why),
     }
 }
@@ -40,6 +42,8 @@ pub(crate) fn answered(answer: Answer) -> Answered
     match answer {
         Answer::Done => Answered {
             number: 0,
+            row: 0,
+            column: 0,
             place: 0,
         },
         Answer::Refused(why) => refused(why),
@@ -52,6 +56,8 @@ pub(crate) fn number_answered(answer: NumberAnswer) -> NumberAnswered
     match answer {
         NumberAnswer::Value(value) => NumberAnswered {
             number: 0,
+            row: 0,
+            column: 0,
             place: 0,
             value,
         },
@@ -59,6 +65,8 @@ pub(crate) fn number_answered(answer: NumberAnswer) -> NumberAnswered
             let no = refused(why);
             NumberAnswered {
                 number: no.number,
+                row: no.row,
+                column: no.column,
                 place: no.place,
                 value: 0,
             }
@@ -72,6 +80,8 @@ pub(crate) fn qp_prime_answered(answer: QpPrimeAnswer) -> SignedAnswered
     match answer {
         QpPrimeAnswer::Value(qp_prime) => SignedAnswered {
             number: 0,
+            row: 0,
+            column: 0,
             place: 0,
             value: qp_prime.0,
         },
@@ -79,6 +89,8 @@ pub(crate) fn qp_prime_answered(answer: QpPrimeAnswer) -> SignedAnswered
             let no = refused(why);
             SignedAnswered {
                 number: no.number,
+                row: no.row,
+                column: no.column,
                 place: no.place,
                 value: 0,
             }
@@ -92,6 +104,8 @@ pub(crate) fn dequant_answered(answer: DequantAnswer) -> DequantAnswered
     match answer {
         DequantAnswer::Params(params) => DequantAnswered {
             number: 0,
+            row: 0,
+            column: 0,
             place: 0,
             factor: params.factor,
             add: params.add,
@@ -103,6 +117,8 @@ pub(crate) fn dequant_answered(answer: DequantAnswer) -> DequantAnswered
             let no = refused(why);
             DequantAnswered {
                 number: no.number,
+                row: no.row,
+                column: no.column,
                 place: no.place,
                 factor: 0,
                 add: 0,
@@ -122,6 +138,8 @@ pub(crate) fn transform_skip_answered(answer: TransformSkipAnswer) -> TransformS
             let dequant = params.dequant;
             TransformSkipAnswered {
                 number: 0,
+                row: 0,
+                column: 0,
                 place: 0,
                 factor: dequant.factor,
                 add: dequant.add,
@@ -136,6 +154,8 @@ pub(crate) fn transform_skip_answered(answer: TransformSkipAnswer) -> TransformS
             let no = refused(why);
             TransformSkipAnswered {
                 number: no.number,
+                row: no.row,
+                column: no.column,
                 place: no.place,
                 factor: 0,
                 add: 0,
@@ -155,6 +175,8 @@ pub(crate) fn factor_answered(answer: FactorAnswer) -> NumberAnswered
     match answer {
         FactorAnswer::Factor(m) => NumberAnswered {
             number: 0,
+            row: 0,
+            column: 0,
             place: 0,
             value: m as u32,
         },
@@ -162,6 +184,8 @@ pub(crate) fn factor_answered(answer: FactorAnswer) -> NumberAnswered
             let no = refused(why);
             NumberAnswered {
                 number: no.number,
+                row: no.row,
+                column: no.column,
                 place: no.place,
                 value: 0,
             }
@@ -175,6 +199,8 @@ pub(crate) fn level_answered(answer: LevelAnswer) -> SignedAnswered
     match answer {
         LevelAnswer::Level(scaled) => SignedAnswered {
             number: 0,
+            row: 0,
+            column: 0,
             place: 0,
             value: scaled.value,
         },
@@ -182,6 +208,8 @@ pub(crate) fn level_answered(answer: LevelAnswer) -> SignedAnswered
             let no = refused(why);
             SignedAnswered {
                 number: no.number,
+                row: no.row,
+                column: no.column,
                 place: no.place,
                 value: 0,
             }
@@ -195,6 +223,8 @@ pub(crate) fn checksum_answered(answer: ChecksumAnswer) -> NumberAnswered
     match answer {
         ChecksumAnswer::Sum(sum) => NumberAnswered {
             number: 0,
+            row: 0,
+            column: 0,
             place: 0,
             value: sum,
         },
@@ -202,6 +232,8 @@ pub(crate) fn checksum_answered(answer: ChecksumAnswer) -> NumberAnswered
             let no = refused(why);
             NumberAnswered {
                 number: no.number,
+                row: no.row,
+                column: no.column,
                 place: no.place,
                 value: 0,
             }
@@ -215,6 +247,8 @@ pub(crate) fn bound_answered(answer: BoundAnswer) -> NumberAnswered
     match answer {
         BoundAnswer::Bound(value) => NumberAnswered {
             number: 0,
+            row: 0,
+            column: 0,
             place: 0,
             value,
         },
@@ -222,6 +256,8 @@ pub(crate) fn bound_answered(answer: BoundAnswer) -> NumberAnswered
             let no = refused(why);
             NumberAnswered {
                 number: no.number,
+                row: no.row,
+                column: no.column,
                 place: no.place,
                 value: 0,
             }
@@ -235,6 +271,8 @@ pub(crate) fn read_answered(answer: ReadAnswer) -> BitsAnswered
     match answer {
         ReadAnswer::Read(bits) => BitsAnswered {
             number: 0,
+            row: 0,
+            column: 0,
             place: 0,
             bits,
         },
@@ -242,6 +280,8 @@ pub(crate) fn read_answered(answer: ReadAnswer) -> BitsAnswered
             let no = refused(why);
             BitsAnswered {
                 number: no.number,
+                row: no.row,
+                column: no.column,
                 place: no.place,
                 bits: 0,
             }

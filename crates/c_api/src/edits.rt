@@ -37,6 +37,8 @@ fn block_answered(given: Answer, block: EditedBlock) -> BlockAnswered
     let kind = block.kind;
     BlockAnswered {
         number: told.number,
+        row: told.row,
+        column: told.column,
         place: told.place,
         dst: is_dst(kind),
         size: block.size,
@@ -103,7 +105,8 @@ pub extern "C" fn residual_edit(
     block_answered(given, after)
 }
 
-// Opens a block and makes a list of edits; each edit's answer goes to numbers and places. The list is as long as the shortest of the five slices.
+// Opens a block and makes a list of edits; each edit's answer goes to numbers, and the row and column that it names to named and
+// across. The list is as long as the shortest of the six slices.
 #[no_mangle]
 pub extern "C" fn residual_open_and_edit(
     dst: bool,
@@ -117,9 +120,10 @@ pub extern "C" fn residual_open_and_edit(
     columns: &[usize],
     values: &[i32],
     numbers: &mut [u8],
-    places: &mut [usize],
+    named: &mut [u8],
+    across: &mut [u8],
 ) -> ListAnswered
-    ensures { λ r. ⌜ Lists (openingOf (kindOf dst) n «bit_depth» «extended_precision») (buffers (now (coeff .entry)) (now (inter .entry)) (now (residual .entry))) (editsOf (editCount (length (now (rows .entry))) (length (now (columns .entry))) (length (now (values .entry))) (length (now (numbers .entry))) (length (now (places .entry)))) (now (rows .entry)) (now (columns .entry)) (now (values .entry))) (now (numbers .entry)) (now (places .entry)) r (buffers (now (coeff .exit)) (now (inter .exit)) (now (residual .exit))) (now (numbers .exit)) (now (places .exit)) ⌝ }
+    ensures { λ r. ⌜ Lists (openingOf (kindOf dst) n «bit_depth» «extended_precision») (buffers (now (coeff .entry)) (now (inter .entry)) (now (residual .entry))) (editsOf (editCount (length (now (rows .entry))) (length (now (columns .entry))) (length (now (values .entry))) (length (now (numbers .entry))) (length (now (named .entry))) (length (now (across .entry)))) (now (rows .entry)) (now (columns .entry)) (now (values .entry))) (now (numbers .entry)) (now (named .entry)) (now (across .entry)) r (buffers (now (coeff .exit)) (now (inter .exit)) (now (residual .exit))) (now (numbers .exit)) (now (named .exit)) (now (across .exit)) ⌝ }
 {
     let l = edited_list::open_and_edit(
         kind_of(dst),
@@ -133,13 +137,16 @@ pub extern "C" fn residual_open_and_edit(
         columns,
         values,
         numbers,
-        places,
+        named,
+        across,
     );
     let given = l.answer;
     let block = l.block;
     let b = block_answered(given, block);
     ListAnswered {
         number: b.number,
+        row: b.row,
+        column: b.column,
         place: b.place,
         dst: b.dst,
         size: b.size,

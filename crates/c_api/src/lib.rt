@@ -37,16 +37,21 @@ pub use transforms::residual_inv_transform_into_scalar;
 pub use transforms::residual_inv_transform_into_scalar_extended;
 pub use transforms::residual_inv_transform_into_scalar16;
 
-// What a call answers: 0, or a refusal's number with its place. The other records add the values, zeros on refusal.
+// What a call answers: 0, or a refusal's number with its place: a row and a column for a coefficient, else one number. The other records
+// add the values, zeros on refusal.
 #[repr(C)]
 pub struct Answered {
     pub number: u32,
+    pub row: u8,
+    pub column: u8,
     pub place: usize,
 }
 
 #[repr(C)]
 pub struct NumberAnswered {
     pub number: u32,
+    pub row: u8,
+    pub column: u8,
     pub place: usize,
     pub value: u32,
 }
@@ -54,6 +59,8 @@ pub struct NumberAnswered {
 #[repr(C)]
 pub struct SignedAnswered {
     pub number: u32,
+    pub row: u8,
+    pub column: u8,
     pub place: usize,
     pub value: i32,
 }
@@ -62,6 +69,8 @@ pub struct SignedAnswered {
 #[repr(C)]
 pub struct BitsAnswered {
     pub number: u32,
+    pub row: u8,
+    pub column: u8,
     pub place: usize,
     pub bits: usize,
 }
@@ -69,6 +78,8 @@ pub struct BitsAnswered {
 #[repr(C)]
 pub struct DequantAnswered {
     pub number: u32,
+    pub row: u8,
+    pub column: u8,
     pub place: usize,
     pub factor: i64,
     pub add: i64,
@@ -80,6 +91,8 @@ pub struct DequantAnswered {
 #[repr(C)]
 pub struct TransformSkipAnswered {
     pub number: u32,
+    pub row: u8,
+    pub column: u8,
     pub place: usize,
     pub factor: i64,
     pub add: i64,
@@ -94,6 +107,8 @@ pub struct TransformSkipAnswered {
 #[repr(C)]
 pub struct BlockAnswered {
     pub number: u32,
+    pub row: u8,
+    pub column: u8,
     pub place: usize,
     pub dst: bool,
     pub size: usize,
@@ -106,6 +121,8 @@ pub struct BlockAnswered {
 #[repr(C)]
 pub struct ListAnswered {
     pub number: u32,
+    pub row: u8,
+    pub column: u8,
     pub place: usize,
     pub dst: bool,
     pub size: usize,

@@ -1,4 +1,5 @@
 -- The search for a coefficient outside the range: all at once, and row by row.
+--   range-fits            a number within the widest range fits 32 bits
 --   reaches-mag           a number reaches its size
 --   AllReach, allReach-…  bits gathered from the first coefficients: the invariant of a loop that gathers them
 --   none-flat             a block that has none in any column
@@ -20,13 +21,20 @@ use lib.Dec.{ltb}
 use lib.Bits.{bitAnd, bitOr, and-le-l, and-le-r, or-add-and}
 use lib.IntN.{ℤ, pos, negsuc, negℤ, _-ℤ_}
 use lib.ListN.{getD}
-use lib.Pow.{pow-pos}
+use lib.Pow.{pow-pos, pow-mono}
 use lib.Signed.{ltZ, mag}
+use mir.Syntax.{w32}
+use mir.Val.{SFits}
+use Rattle.integers.specs.Within.{Within}
+use Rattle.integers.proofs.BoundLaws.{within-fits, within-le}
 use Rattle.integers.proofs.LinearLaws.{parts-add, parts-neg, le-out}
 use Rattle.integers.proofs.MachineLaws.{ltZ-of-le}
 use Rattle.integers.proofs.SearchLaws.{None, First, firstWhere-first}
 use Rattle.h265.specs.Range.{coeffMin, coeffMax, outsideRange}
 use Rattle.coefficients.specs.Outside.{outsideAt, firstOutside, Reaches}
+
+pub range-fits : (r : ℕ) {z : ℤ} → r ≤ 22 → Within (2 ^ r) z → SFits w32 z
+range-fits r h w = within-fits {b = 4194304} tt (within-le (pow-mono h) w)
 
 -- ---- all at once
 between : (r : ℕ) (z : ℤ) → ltZ z (coeffMin r) ≡ false → ltZ (coeffMax r) z ≡ false → outsideRange r z ≡ false

@@ -1,4 +1,4 @@
-// The range of coefficients, where a block has one outside it, and which rows are in use. Internal: the crates above call these and meet what they require.
+// The range of coefficients, where a block has one outside it and on which side, and which rows are in use. Internal: the crates above call these and meet what they require.
 ghost use mathlib.Core.Path.{_≡_};
 ghost use mathlib.Core.Bool.{true, false};
 ghost use Prim.Native.Nat.{ℕ, _+_, _*_, _<_, _≤_};
@@ -6,8 +6,10 @@ ghost use lib.Dec.{T};
 ghost use lib.IntN.{pos};
 ghost use lib.ListN.{getD, length};
 ghost use Rattle.integers.specs.Search.{firstWhere};
-ghost use Rattle.h265.specs.Range.{isSize, transformRange, outsideRange};
-ghost use Rattle.coefficients.specs.Outside.{Reaches, firstOutside};
+ghost use lib.Signed.{ltZ};
+ghost use Rattle.h265.specs.Range.{isSize, transformRange, coeffMin, outsideRange};
+ghost use Rattle.coefficients.specs.Outside.{Reaches, firstOutside, outsideRefusal, refusalAt};
+use refusal::Refusal;
 
 mod rows; // which rows are in use
 
@@ -26,16 +28,36 @@ pub fn transform_range(bit_depth: u8, extended_precision: bool) -> u32
     15
 }
 
+// Whether x lies below the range.
+fn is_below(x: i32, range: u32) -> bool
+    requires { ⌜ range ≤ 22 ⌝ }
+    ensures { λ r. ⌜ r ≡ ltZ x (coeffMin range) ⌝ }
+{
+    let end = 1i32 << range;
+    x < 0 - end
+}
+
 // Whether x lies outside the range.
 pub fn is_outside(x: i32, range: u32) -> bool
     requires { ⌜ range ≤ 22 ⌝ }
     ensures { λ r. ⌜ r ≡ outsideRange range x ⌝ }
 {
-    let end = 1i32 << range;
-    if x < 0 - end {
+    if is_below(x, range) {
         return true;
     }
+    let end = 1i32 << range;
     end - 1 < x
+}
+
+// Why a coefficient outside the range is refused: it names the side, the row and the column.
+pub fn outside_refusal(x: i32, range: u32, row: usize, column: usize) -> Refusal
+    requires { ⌜ (range ≤ 22) × (row < 32) × (column < 32) ⌝ }
+    ensures { λ r. ⌜ r ≡ outsideRefusal range x row column ⌝ }
+{
+    if is_below(x, range) {
+        return Refusal::CoefficientBelow(row as u8, column as u8);
+    }
+    Refusal::CoefficientAbove(row as u8, column as u8)
 }
 
 // Of nx coefficients from base on, the first outside the range, and nx where there is none.
@@ -103,4 +125,12 @@ pub fn first_outside(coeff: &[i32], n: usize, nx: usize, range: u32) -> usize
         return n * n;
     }
     rows_outside(coeff, n, nx, range)
+}
+
+// Why a block whose first coefficient outside the range stands at an index is refused.
+pub fn refusal_at(coeff: &[i32], n: usize, index: usize, range: u32) -> Refusal
+    requires { ⌜ T (isSize n) × (index < n * n) × (n * n ≤ length (now coeff)) × (range ≤ 22) ⌝ }
+    ensures { λ r. ⌜ r ≡ refusalAt range n (now (coeff .entry)) index ⌝ }
+{
+    outside_refusal(coeff[index], range, index / n, index % n)
 }

@@ -18,9 +18,10 @@ use Rattle.integers.proofs.ListsLaws.{overwrite-length, overwrite-twice, overwr
 use Rattle.h265.specs.Range.{outsideRange}
 use Rattle.h265.specs.Transform.{blockAt, columnsRead, rowOrder, intermediate, residual, stageTwoShift}
 use Rattle.h265.proofs.TransformLaws.{intermediate-cong, stageTwo-cong, rowOrder-cong, columnsRead-in}
-use Rattle.refusal.specs.declared.Refusal.the-variants.{PlaceOutside, CoefficientOutside}
+use Rattle.refusal.specs.declared.Refusal.the-variants.{PlaceOutside}
 use Rattle.refusal.specs.Outcome.{accepted}
 use Rattle.transform_1d.specs.MatrixOf.{matrixOf}
+use Rattle.coefficients.specs.Outside.{outsideRefusal}
 use Rattle.edited_block.specs.declared.EditedBlock.{EditedBlock}
 use Rattle.stages_wide.specs.Wide.{columnReplaced}
 use Rattle.edited_block.specs.Columns.{columnCount}
@@ -141,12 +142,12 @@ module _ (o : Opening) (lent : Buffers) (f : Fits o lent) (d : List ℤ) (block 
       record { size = f .size; depth = f .depth; dst = f .dst; coeff = rw coeff-length (f .coeff); work = rw (inter-length, res-length) (f .work) }
 
   edited-of : (c : ℕ) (e : Edit) → edited (blockOf o c) now (e .row) (e .column) (e .value)
-      ≡ byEdit o e (stopped (blockOf o c) now PlaceOutside) (stopped (blockOf o c) now (CoefficientOutside (e .row * o .size + e .column))) (accepted-edit o now (blockOf o c) e)
+      ≡ byEdit o e (stopped (blockOf o c) now PlaceOutside) (stopped (blockOf o c) now (outsideRefusal (rangeOf o) (e .value) (e .row) (e .column))) (accepted-edit o now (blockOf o c) e)
   unfolding edited blockLadder byEdit accepted-edit
   edited-of c e = let g = fits-now in rw (g .size, g .depth, g .dst, g .coeff, g .work)
 
   edited-is : (e : Edit) → edited block now (e .row) (e .column) (e .value)
-      ≡ byEdit o e (stopped block now PlaceOutside) (stopped block now (CoefficientOutside (e .row * o .size + e .column))) (accepted-edit o now block e)
+      ≡ byEdit o e (stopped block now PlaceOutside) (stopped block now (outsideRefusal (rangeOf o) (e .value) (e .row) (e .column))) (accepted-edit o now block e)
   edited-is e = rw (a .block-is) (edited-of (columnCount (o .size) d) e)
 
 -- what one edit answers, and what it leaves
@@ -160,10 +161,10 @@ unfolding answerTo coefficientsAfter accepted-edit after at
 edit-agrees o lent f d block now a e = by-tests (leb (o .size) (e .row) || leb (o .size) (e .column)) (outsideRange (rangeOf o) (e .value)) refl refl
   where
     is : (s t : Bool) → leb (o .size) (e .row) || leb (o .size) (e .column) ≡ s → outsideRange (rangeOf o) (e .value) ≡ t
-        → edited block now (e .row) (e .column) (e .value) ≡ cond s (stopped block now PlaceOutside) (cond t (stopped block now (CoefficientOutside (e .row * o .size + e .column))) (accepted-edit o now block e))
+        → edited block now (e .row) (e .column) (e .value) ≡ cond s (stopped block now PlaceOutside) (cond t (stopped block now (outsideRefusal (rangeOf o) (e .value) (e .row) (e .column))) (accepted-edit o now block e))
     is s t p q =
         edited-is o lent f d block now a e
-        ∙ byEdit-is o e s t (stopped block now PlaceOutside) (stopped block now (CoefficientOutside (e .row * o .size + e .column))) (accepted-edit o now block e) p q
+        ∙ byEdit-is o e s t (stopped block now PlaceOutside) (stopped block now (outsideRefusal (rangeOf o) (e .value) (e .row) (e .column))) (accepted-edit o now block e) p q
 
     written : leb (o .size) (e .row) || leb (o .size) (e .column) ≡ false → outsideRange (rangeOf o) (e .value) ≡ false
         → Agrees o lent (set d (e .row * o .size + e .column) (e .value)) (accepted-edit o now block e .block) (accepted-edit o now block e .buffers)

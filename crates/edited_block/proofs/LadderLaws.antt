@@ -21,14 +21,14 @@ use Rattle.h265.specs.Transform.{rowOrder}
 use Rattle.h265.proofs.RangeLaws.{transformRange-least, transformRange-most, transformRange-depth}
 use Rattle.refusal.specs.declared.Answer.the-variants.{Done, Refused}
 use Rattle.refusal.specs.declared.Refusal.{Refusal}
-use Rattle.refusal.specs.declared.Refusal.the-variants.{SizeInvalid, DepthInvalid, DstSizeInvalid, InputTooShort, OutputTooShort, PlaceOutside, CoefficientOutside}
+use Rattle.refusal.specs.declared.Refusal.the-variants.{SizeInvalid, DepthInvalid, DstSizeInvalid, InputTooShort, OutputTooShort, PlaceOutside}
 use Rattle.refusal.specs.Refusal.{number}
 use Rattle.refusal.specs.Condition.{sizeRefused, depthRefused, blockRefused}
 use Rattle.refusal.specs.Outcome.{Outcome, accepted, refused, answer}
 use Rattle.refusal.specs.Written.{left, wrote}
 use Rattle.refusal.proofs.RefusalLaws.{number-least}
 use Rattle.refusal.proofs.ConditionLaws.{size-accepted, depth-accepted}
-use Rattle.coefficients.specs.Outside.{firstOutside}
+use Rattle.coefficients.specs.Outside.{firstOutside, outsideRefusal, refusalAt}
 use Rattle.transform_1d.specs.declared.Kind.{Kind}
 use Rattle.transform_1d.specs.declared.Kind.the-variants.{Dct, Dst}
 use Rattle.edited_block.specs.declared.EditedBlock.{EditedBlock}
@@ -111,7 +111,7 @@ module _ (o : Opening) (lent : Buffers) where
   open-refused r p = ladder-refused (λ a. record { answer = a; block = zeroBlock; buffers = lent }) r _ p
 
   pub open-outside : Fits o lent → (first : ℕ) → first ≡ firstOutside (rangeOf o) (o .size) (o .size) (lent .coeff) → first < o .size * o .size
-      → openedAs o lent ≡ stopped zeroBlock lent (CoefficientOutside first)
+      → openedAs o lent ≡ stopped zeroBlock lent (refusalAt (rangeOf o) (o .size) (lent .coeff) first)
   unfolding openedAs opened
   open-outside f first e h = ladder-go _ _ f ∙ rw (sym e, lt-ltb first (o .size * o .size) h)
 
@@ -136,7 +136,7 @@ module _ (block : EditedBlock) (lent : Buffers) (row column : ℕ) (value : ℤ)
   edit-place f p = ladder-go (openingOf block) lent _ _ f ∙ rw p
 
   pub edit-outside : Fits (openingOf block) lent → row < block .size → column < block .size → outsideRange (rangeOf (openingOf block)) value ≡ true
-      → edited block lent row column value ≡ stopped block lent (CoefficientOutside (row * block .size + column))
+      → edited block lent row column value ≡ stopped block lent (outsideRefusal (rangeOf (openingOf block)) value row column)
   unfolding edited
   edit-outside f hr hc o = ladder-go (openingOf block) lent _ _ f ∙ rw (lt-leb (block .size) row hr, lt-leb (block .size) column hc, o)
 

@@ -26,7 +26,8 @@ use Rattle.refusal.specs.Condition.{sizeRefused, depthRefused, blockRefused}
 use Rattle.refusal.specs.Outcome.{accepted}
 use Rattle.stages_wide.specs.Wide.{limitedBlock}
 use Rattle.transform_1d.specs.MatrixOf.{matrixOf}
-use Rattle.coefficients.specs.Outside.{outsideAt, firstOutside}
+use Rattle.refusal.proofs.RefusalLaws.{number-least}
+use Rattle.coefficients.specs.Outside.{outsideAt, firstOutside, refusalAt}
 use Rattle.edited_block.specs.declared.EditedBlock.{EditedBlock}
 use Rattle.edited_block.specs.Columns.{columnCount}
 use Rattle.transform_1d.specs.Kinds.{dstRefused}
@@ -60,7 +61,8 @@ opened-accepted o lent e =
     let p₃ = passed (dstRefused (o .kind) (o .size)) _ _ (p₂ .1) (λ z. omega arith) in
     let p₄ = passed (blockRefused (o .size) (length (lent .coeff))) _ _ (p₃ .1) (λ z. omega arith) in
     let p₅ = passed (blockRefused (o .size) (length (lent .inter)) || blockRefused (o .size) (length (lent .res))) _ _ (p₄ .1) (λ z. omega arith) in
-    let p₆ = passed (ltb (firstOutside (rangeOf o) (o .size) (o .size) (lent .coeff)) (o .size * o .size)) _ _ (p₅ .1) (λ z. omega arith) in
+    let first = firstOutside (rangeOf o) (o .size) (o .size) (lent .coeff) in
+    let p₆ = passed (ltb first (o .size * o .size)) _ _ (p₅ .1) (λ z. omega (arith, number-least (refusalAt (rangeOf o) (o .size) (lent .coeff) first), z)) in
     record { fits = record { size = p₁ .0; depth = p₂ .0; dst = p₃ .0; coeff = p₄ .0; work = p₅ .0 }; first = p₆ .0 }
 
 pub opened-is : (o : Opening) (lent : Buffers) → Accepted o lent

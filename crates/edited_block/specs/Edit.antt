@@ -1,4 +1,4 @@
--- The opening and one edit, on any buffers, refused calls included. Document 01, "The held block", and rows 1, 2, 4, 6, 7, 8, 9 of its table.
+-- The opening and one edit, on any buffers, refused calls included. Document 01, "The held block", and rows 1, 2, 4, 6, 7, 8, 9, 19 of its table.
 -- Letters: n size, b depth, x extended precision, r range, d coefficients, g intermediate, e residual.
 --   Buffers                   the three lent buffers
 --   Left                      what a call hands back: outcome, record and buffers
@@ -21,7 +21,7 @@ use Rattle.h265.specs.Range.{isSize, transformRange, outsideRange}
 use Rattle.h265.specs.Transform.{rowOrder, intermediate, stageTwo, stageTwoShift}
 use Rattle.refusal.specs.declared.Answer.{Answer}
 use Rattle.refusal.specs.declared.Refusal.{Refusal}
-use Rattle.refusal.specs.declared.Refusal.the-variants.{SizeInvalid, DepthInvalid, DstSizeInvalid, InputTooShort, OutputTooShort, PlaceOutside, CoefficientOutside}
+use Rattle.refusal.specs.declared.Refusal.the-variants.{SizeInvalid, DepthInvalid, DstSizeInvalid, InputTooShort, OutputTooShort, PlaceOutside}
 use Rattle.refusal.specs.Condition.{sizeRefused, depthRefused, blockRefused}
 use Rattle.refusal.specs.Outcome.{Outcome, accepted, refused, answer}
 use Rattle.refusal.specs.Written.{Written, left, wrote}
@@ -29,7 +29,7 @@ use Rattle.transform_1d.specs.declared.Kind.{Kind}
 use Rattle.transform_1d.specs.declared.Kind.the-variants.{Dct, Dst}
 use Rattle.transform_1d.specs.Kinds.{dstRefused}
 use Rattle.transform_1d.specs.MatrixOf.{matrixOf}
-use Rattle.coefficients.specs.Outside.{firstOutside}
+use Rattle.coefficients.specs.Outside.{firstOutside, outsideRefusal, refusalAt}
 use Rattle.edited_block.specs.declared.EditedBlock.{EditedBlock}
 use Rattle.stages_wide.specs.Wide.{columnReplaced, limitedBlock}
 use Rattle.edited_block.specs.Columns.{columnCount}
@@ -75,7 +75,7 @@ opened kind n b x lent =
     let r : ℕ = transformRange b x in
     let first : ℕ = firstOutside r n n (lent .coeff) in
     blockLadder (stopped zeroBlock lent)
-    (cond (ltb first (n * n)) (stopped zeroBlock lent (CoefficientOutside first))
+    (cond (ltb first (n * n)) (stopped zeroBlock lent (refusalAt r n (lent .coeff) first))
     (record {
       answer = accepted tt;
       block = record { kind = kind; size = n; depth = b; extended = x; columns = columnCount n (lent .coeff) };
@@ -100,7 +100,7 @@ edited block lent row column value =
     let after : Buffers = editedBuffers (block .kind) n b r lent row column value in
     blockLadder (stopped block lent)
     (cond (leb n row || leb n column) (stopped block lent PlaceOutside)
-    (cond (outsideRange r value) (stopped block lent (CoefficientOutside (row * n + column)))
+    (cond (outsideRange r value) (stopped block lent (outsideRefusal r value row column))
     (record { answer = accepted tt; block = withColumns block (columnCount n (after .coeff)); buffers = after })))
     (block .kind) n b (length (lent .coeff)) (length (lent .inter)) (length (lent .res))
 

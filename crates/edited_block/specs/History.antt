@@ -2,7 +2,7 @@
 -- no answers, nothing from the record.
 --   Edit                 row, column and value of one edit
 --   Opening              what the opening got, but for the buffers: kind, size, depth, flag
---   answerTo             the answer to one edit: row 8, row 9, or 0
+--   answerTo             the answer to one edit: row 8, row 9 or 19, or 0
 --   coefficientsAfter    the n² coefficients after one edit
 --   answersTo            the answers to a list of edits, in order
 --   historyOf            the n² coefficients after a list of edits
@@ -16,10 +16,11 @@ use lib.ListN.{set}
 use Rattle.integers.specs.Lists.{tabulate}
 use Rattle.h265.specs.Range.{transformRange, outsideRange}
 use Rattle.h265.specs.Transform.{blockAt, columnsRead, rowOrder, intermediate, residual}
-use Rattle.refusal.specs.declared.Refusal.the-variants.{PlaceOutside, CoefficientOutside}
+use Rattle.refusal.specs.declared.Refusal.the-variants.{PlaceOutside}
 use Rattle.refusal.specs.Outcome.{Outcome, accepted, refused}
 use Rattle.transform_1d.specs.declared.Kind.{Kind}
 use Rattle.transform_1d.specs.MatrixOf.{matrixOf}
+use Rattle.coefficients.specs.Outside.{outsideRefusal}
 
 pub record Edit : Type 0 where
   pub row : ℕ
@@ -41,7 +42,7 @@ byEdit o e place range go =
     cond (leb (o .size) (e .row) || leb (o .size) (e .column)) place (cond (outsideRange (rangeOf o) (e .value)) range go)
 
 unfoldable pub answerTo : Opening → Edit → Outcome (Unit {0})
-answerTo o e = byEdit o e (refused tt PlaceOutside) (refused tt (CoefficientOutside (e .row * o .size + e .column))) (accepted tt)
+answerTo o e = byEdit o e (refused tt PlaceOutside) (refused tt (outsideRefusal (rangeOf o) (e .value) (e .row) (e .column))) (accepted tt)
 
 unfoldable pub coefficientsAfter : Opening → Edit → List ℤ → List ℤ
 coefficientsAfter o e d = byEdit o e d d (set d (e .row * o .size + e .column) (e .value))

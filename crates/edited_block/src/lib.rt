@@ -86,8 +86,9 @@ pub fn open_block(
     let range = coefficients::transform_range(bit_depth, extended_precision);
     let first = coefficients::first_outside(coeff, n, n, range);
     if first < n * n {
+        let why = coefficients::refusal_at(coeff, n, first, range);
         return Opened {
-            answer: Answer::Refused(Refusal::CoefficientOutside(first)),
+            answer: Answer::Refused(why),
             block: zero_block(),
         };
     }
@@ -162,8 +163,9 @@ pub fn edit_core(
     }
     let range = coefficients::transform_range(bit_depth, extended_precision);
     if coefficients::is_outside(value, range) {
+        let why = coefficients::outside_refusal(value, range, row, column);
         return Edited {
-            answer: Answer::Refused(Refusal::CoefficientOutside(row * n + column)),
+            answer: Answer::Refused(why),
             columns,
         };
     }

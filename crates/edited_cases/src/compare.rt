@@ -1,4 +1,4 @@
-// What an edit is to answer and to leave: this program's own reading of rows 8 and 9, and comparisons with fresh computations.
+// What an edit is to answer and to leave: this program's own reading of rows 8, 9 and 19, and comparisons with fresh computations.
 use crate::drawn;
 use crate::drawn::Edit;
 use crate::lines;
@@ -8,13 +8,14 @@ use edited_block::EditedBlock;
 use refusal::Answer;
 use transform_1d::Kind;
 
-// A number and a place of document 01's table.
+// A number of document 01's table, with the row and the column that it names.
 pub struct Told {
     pub number: u8,
-    pub place: usize,
+    pub row: u8,
+    pub column: u8,
 }
 
-// Row 9's condition, for 2^R.
+// The condition of rows 9 and 19, for 2^R.
 fn is_outside(value: i32, limit: u32) -> bool {
     let size = integers::magnitude(value);
     if value < 0 {
@@ -33,19 +34,26 @@ fn index(n: usize, row: usize, column: usize) -> usize {
     }
 }
 
+// Row 9 above the range, row 19 below it.
+fn side(value: i32) -> u8 {
+    if value < 0 { 19 } else { 9 }
+}
+
 // What an edit is to answer.
 pub fn expected(setting: Setting, edit: Edit) -> Told {
     let n = setting.n;
     if n <= edit.row {
         return Told {
             number: 8,
-            place: 0,
+            row: 0,
+            column: 0,
         };
     }
     if n <= edit.column {
         return Told {
             number: 8,
-            place: 0,
+            row: 0,
+            column: 0,
         };
     }
     if is_outside(
@@ -53,13 +61,15 @@ pub fn expected(setting: Setting, edit: Edit) -> Told {
         drawn::limit(setting.bit_depth, setting.extended),
     ) {
         return Told {
-            number: 9,
-            place: index(n, edit.row, edit.column),
+            number: side(edit.value),
+            row: (edit.row % 32) as u8,
+            column: (edit.column % 32) as u8,
         };
     }
     Told {
         number: 0,
-        place: 0,
+        row: 0,
+        column: 0,
     }
 }
 
@@ -180,16 +190,21 @@ pub fn is_opened(setting: Setting, block: EditedBlock, coeff: &[i32], inter: &[i
 // Whether two lists of edits were answered alike.
 pub fn same_answers(
     numbers: &[u8; 100],
-    places: &[usize; 100],
+    named: &[u8; 100],
+    across: &[u8; 100],
     other_numbers: &[u8; 100],
-    other_places: &[usize; 100],
+    other_named: &[u8; 100],
+    other_across: &[u8; 100],
 ) -> bool {
     let mut i: usize = 0;
     while i < 100 {
         if numbers[i] != other_numbers[i] {
             return false;
         }
-        if places[i] != other_places[i] {
+        if named[i] != other_named[i] {
+            return false;
+        }
+        if across[i] != other_across[i] {
             return false;
         }
         i += 1;

@@ -1,4 +1,4 @@
-// Edits at the border of every row. A line holds the record given and the edit, then number and place, the record handed back, coefficients,
+// Edits at the border of every row. A line holds the record given and the edit, then number, row and column, the record handed back, coefficients,
 // intermediate and residual.
 use crate::lines;
 use crate::settings;

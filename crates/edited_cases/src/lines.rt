@@ -34,17 +34,25 @@ pub fn answer_number(answer: Answer) -> u8 {
     }
 }
 
-pub fn answer_place(answer: Answer) -> usize {
+pub fn answer_row(answer: Answer) -> u8 {
     match answer {
         Answer::Done => 0,
-        Answer::Refused(why) => refusal::place(why),
+        Answer::Refused(why) => refusal::row(why),
+    }
+}
+
+pub fn answer_column(answer: Answer) -> u8 {
+    match answer {
+        Answer::Done => 0,
+        Answer::Refused(why) => refusal::column(why),
     }
 }
 
 pub fn put_answer(answer: Answer) {
     put_bar();
     put(answer_number(answer) as u64);
-    put(answer_place(answer) as u64);
+    put(answer_row(answer) as u64);
+    put(answer_column(answer) as u64);
 }
 
 fn put_kind(kind: Kind) {

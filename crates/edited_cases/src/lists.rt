@@ -1,5 +1,6 @@
-// Lists of edits at the border of every row. A line holds what was asked, then the opening's number and place, the record handed back, how many
-// edits were given, coefficients, intermediate, residual, and the numbers and places of the answers: 7 and 77 stand where no call may write.
+// Lists of edits at the border of every row. A line holds what was asked, then the opening's number, row and column, the record handed back, how
+// many edits were given, coefficients, intermediate, residual, and the numbers, rows and columns of the answers: 7 and 77 stand where no call may
+// write.
 use crate::lines;
 use crate::settings;
 use crate::settings::Setting;
@@ -18,19 +19,6 @@ fn put_numbers(xs: &[u8]) {
     }
 }
 
-fn long(x: usize) -> u64 {
-    x as u64
-}
-
-fn put_places(xs: &[usize]) {
-    lines::put_bar();
-    let mut i = 0;
-    while i < xs.len() {
-        lines::put(long(xs[i]));
-        i += 1;
-    }
-}
-
 // One call with its line.
 fn list(
     setting: Setting,
@@ -41,7 +29,8 @@ fn list(
     columns: &[usize],
     values: &[i32],
     numbers: &mut [u8],
-    places: &mut [usize],
+    named: &mut [u8],
+    across: &mut [u8],
 ) {
     lines::put_setting(setting);
     let kind = setting.kind;
@@ -57,7 +46,8 @@ fn list(
         columns,
         values,
         numbers,
-        places,
+        named,
+        across,
     );
     let answer = listed.answer;
     lines::put_answer(answer);
@@ -67,7 +57,8 @@ fn list(
     lines::put(listed.edits as u64);
     lines::put_buffers(coeff, inter, residual);
     put_numbers(numbers);
-    put_places(places);
+    put_numbers(named);
+    put_numbers(across);
     lines::put_end();
 }
 
@@ -78,7 +69,8 @@ fn four(name: &[u8], setting: Setting, coeff: &mut [i32], inter: &mut [i32], res
     let columns = [3usize, 0, 2, 3];
     let values = [64i32, 5, 4194304, 0];
     let mut numbers = [77u8; 5];
-    let mut places = [77usize; 5];
+    let mut named = [77u8; 5];
+    let mut across = [77u8; 5];
     list(
         setting,
         coeff,
@@ -88,7 +80,8 @@ fn four(name: &[u8], setting: Setting, coeff: &mut [i32], inter: &mut [i32], res
         &columns,
         &values,
         &mut numbers,
-        &mut places,
+        &mut named,
+        &mut across,
     );
 }
 
@@ -145,7 +138,8 @@ fn three(
     columns: &[usize],
     values: &[i32],
     numbers: &mut [u8],
-    places: &mut [usize],
+    named: &mut [u8],
+    across: &mut [u8],
 ) {
     io::write_all(STDOUT_FILENO, name);
     let mut coeff = lines::only(0, 0);
@@ -160,7 +154,8 @@ fn three(
         columns,
         values,
         numbers,
-        places,
+        named,
+        across,
     );
 }
 
@@ -172,14 +167,16 @@ fn few_edits() {
     let no_rows = [0usize; 0];
     let one_value = [62i32; 1];
     let mut numbers = [77u8; 3];
-    let mut places = [77usize; 3];
+    let mut named = [77u8; 3];
+    let mut across = [77u8; 3];
     three(
         b"list empty",
         &no_rows,
         &columns,
         &values,
         &mut numbers,
-        &mut places,
+        &mut named,
+        &mut across,
     );
     three(
         b"list of one value",
@@ -187,7 +184,8 @@ fn few_edits() {
         &columns,
         &one_value,
         &mut numbers,
-        &mut places,
+        &mut named,
+        &mut across,
     );
     three(
         b"list of three",
@@ -195,7 +193,8 @@ fn few_edits() {
         &columns,
         &values,
         &mut numbers,
-        &mut places,
+        &mut named,
+        &mut across,
     );
 }
 
@@ -204,24 +203,37 @@ fn few_answers() {
     let columns = [0usize; 3];
     let values = [62i32, 63, -64];
     let mut two_numbers = [77u8; 2];
-    let mut places = [77usize; 3];
+    let mut named = [77u8; 3];
+    let mut across = [77u8; 3];
     three(
         b"list of two numbers",
         &rows,
         &columns,
         &values,
         &mut two_numbers,
-        &mut places,
+        &mut named,
+        &mut across,
     );
     let mut numbers = [77u8; 3];
-    let mut one_place = [77usize; 1];
+    let mut one_row = [77u8; 1];
     three(
-        b"list of one place",
+        b"list of one row",
         &rows,
         &columns,
         &values,
         &mut numbers,
-        &mut one_place,
+        &mut one_row,
+        &mut across,
+    );
+    let mut two_columns = [77u8; 2];
+    three(
+        b"list of two columns",
+        &rows,
+        &columns,
+        &values,
+        &mut numbers,
+        &mut named,
+        &mut two_columns,
     );
 }
 

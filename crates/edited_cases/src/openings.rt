@@ -1,4 +1,4 @@
-// Openings at the border of every row. A line holds what was asked, then number and place, the record handed back, coefficients, intermediate and
+// Openings at the border of every row. A line holds what was asked, then number, row and column, the record handed back, coefficients, intermediate and
 // residual: the last two are filled with 7 before each call, so that what a call leaves alone is seen.
 use crate::lines;
 use crate::settings;

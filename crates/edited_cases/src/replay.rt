@@ -21,7 +21,8 @@ struct Played {
     tally: Tally,
     block: EditedBlock,
     numbers: [u8; 100],
-    places: [usize; 100],
+    named: [u8; 100],
+    across: [u8; 100],
 }
 
 // One edit and what is compared after it.
@@ -43,14 +44,19 @@ fn turn(
     let after = edited.block;
     let answer = edited.answer;
     let number = lines::answer_number(answer);
-    let place = lines::answer_place(answer);
-    let answered = number == due.number && place == due.place;
+    let named = lines::answer_row(answer);
+    let across = lines::answer_column(answer);
+    let answered = number == due.number && named == due.row && across == due.column;
     let held = compare::same(coeff, kept) && compare::is_opened(setting, after, kept, inter);
     let decoded = compare::is_decoded(setting, kept, residual);
     let counted = after.columns == compare::columns_in_use(setting.n, kept);
     Turned {
         block: after,
-        told: Told { number, place },
+        told: Told {
+            number,
+            row: named,
+            column: across,
+        },
         right: answered && held && decoded && counted,
     }
 }
@@ -66,7 +72,8 @@ fn play(
     kept: &mut [i32],
 ) -> Played {
     let mut numbers = [77u8; 100];
-    let mut places = [77usize; 100];
+    let mut named = [77u8; 100];
+    let mut across = [77u8; 100];
     let mut block = opened;
     let mut tally = tally::no_tally();
     let mut i: usize = 0;
@@ -75,7 +82,8 @@ fn play(
         let turned = turn(setting, block, edit, coeff, inter, residual, kept);
         let told = turned.told;
         numbers[i] = told.number;
-        places[i] = told.place;
+        named[i] = told.row;
+        across[i] = told.column;
         let more = tally::tallied(tally, block.columns, turned);
         tally = more;
         let after = turned.block;
@@ -86,7 +94,8 @@ fn play(
         tally,
         block,
         numbers,
-        places,
+        named,
+        across,
     }
 }
 
@@ -103,11 +112,18 @@ fn put_list(setting: Setting, edits: usize, right: bool) {
 }
 
 // Whether a list was answered, and left the record, as the same edits one by one.
-fn told_alike(listed: Listed, played: Played, numbers: &[u8; 100], places: &[usize; 100]) -> bool {
+fn told_alike(
+    listed: Listed,
+    played: Played,
+    numbers: &[u8; 100],
+    named: &[u8; 100],
+    across: &[u8; 100],
+) -> bool {
     let answer = listed.answer;
     let told = played.numbers;
-    let told_places = played.places;
-    let alike = compare::same_answers(numbers, places, &told, &told_places);
+    let told_named = played.named;
+    let told_across = played.across;
+    let alike = compare::same_answers(numbers, named, across, &told, &told_named, &told_across);
     let record = compare::same_record(listed.block, played.block);
     lines::answer_number(answer) == 0 && alike && record
 }
@@ -125,7 +141,8 @@ fn play_list(
     let columns = edits.columns;
     let values = edits.values;
     let mut numbers = [77u8; 100];
-    let mut places = [77usize; 100];
+    let mut named = [77u8; 100];
+    let mut across = [77u8; 100];
     let mut held = [7i32; 1040];
     let mut held_inter = [7i32; 1040];
     let mut held_residual = [7i32; 1040];
@@ -143,9 +160,10 @@ fn play_list(
         &columns,
         &values,
         &mut numbers,
-        &mut places,
+        &mut named,
+        &mut across,
     );
-    let told = told_alike(listed, played, &numbers, &places);
+    let told = told_alike(listed, played, &numbers, &named, &across);
     let first = compare::same(&held, coeff) && compare::same(&held_inter, inter);
     let right = told && first && compare::same(&held_residual, residual);
     put_list(setting, listed.edits, right);

@@ -14,13 +14,13 @@ use lib.Seq.{sets}
 use Rattle.refusal.specs.declared.Answer.{Answer}
 use Rattle.refusal.specs.declared.Answer.the-variants.{Done, Refused}
 use Rattle.refusal.specs.declared.Refusal.{Refusal}
-use Rattle.refusal.specs.declared.Refusal.the-variants.{SizeInvalid, DepthInvalid, DstSizeInvalid, InputTooShort, OutputTooShort, CoefficientOutside}
+use Rattle.refusal.specs.declared.Refusal.the-variants.{SizeInvalid, DepthInvalid, DstSizeInvalid, InputTooShort, OutputTooShort}
 use Rattle.refusal.specs.Refusal.{number}
 use Rattle.refusal.specs.Outcome.{Outcome, accepted, answer}
 use Rattle.refusal.specs.Condition.{sizeRefused, depthRefused, blockRefused}
 use Rattle.refusal.proofs.RefusalLaws.{number-least}
 use Rattle.transform_1d.specs.declared.Kind.{Kind}
-use Rattle.coefficients.specs.Outside.{firstOutside}
+use Rattle.coefficients.specs.Outside.{firstOutside, refusalAt}
 use Rattle.edited_block.specs.declared.EditedBlock.{EditedBlock}
 use Rattle.edited_block.specs.Columns.{columnCount}
 use Rattle.transform_1d.specs.Kinds.{dstRefused}
@@ -29,7 +29,7 @@ use Rattle.edited_block.specs.History.{Edit, Opening, rangeOf, answersTo}
 use Rattle.edited_block.specs.Run.{Ran, ranFrom, ran, openedAs, blockOf}
 use Rattle.edited_block.proofs.HistoryLaws.{edits-follow-history}
 use Rattle.edited_list.specs.declared.Listed.{Listed}
-use Rattle.edited_list.specs.Listed.{historyRan, listed, numbersOf, placesOf, editCount, Lists, ListAsk, RunsFrom}
+use Rattle.edited_list.specs.Listed.{historyRan, listed, numbersOf, rowsOf, columnsOf, editCount, Lists, ListAsk, RunsFrom}
 
 -- a list by its first k elements and the others
 halves : {A : Type 0} (k : ℕ) (xs ys zs : List A) → take k xs ≡ ys → drop k xs ≡ zs → xs ≡ ys ++ zs
@@ -51,10 +51,10 @@ answers-length o [] = refl
 answers-length o (e ∷ es) = ap suc (answers-length o es)
 
 -- ---- how many edits
-pub count-ask : (rows columns values numbers places : ℕ) → ListAsk (editCount rows columns values numbers places) rows columns values numbers places
+pub count-ask : (rows columns values numbers named across : ℕ) → ListAsk (editCount rows columns values numbers named across) rows columns values numbers named across
 unfolding editCount
-count-ask rows columns values numbers places =
-    record { rows-long = omega arith; columns-long = omega arith; values-long = omega arith; numbers-long = omega arith; places-long = omega arith }
+count-ask rows columns values numbers named across =
+    record { rows-long = omega arith; columns-long = omega arith; values-long = omega arith; numbers-long = omega arith; named-long = omega arith; across-long = omega arith }
 
 -- ---- a refused opening
 number-refused : (why : Refusal) → eqb (number why) 0 ≡ false
@@ -78,7 +78,7 @@ Stopped lent why h = h .answer ≡ answer (Refused why) → (h .block ≡ zeroBl
 opened-stopped : (o : Opening) (lent : Buffers) (why : Refusal) → Stopped lent why (openedAs o lent)
 unfolding openedAs opened
 opened-stopped o lent why =
-    ladder-all (Stopped lent why) (stopped zeroBlock lent) _ (λ e p. (refl, refl)) (outside (ltb (firstOutside (rangeOf o) (o .size) (o .size) (lent .coeff)) (o .size * o .size)) (CoefficientOutside (firstOutside (rangeOf o) (o .size) (o .size) (lent .coeff))) (blockOf o (columnCount (o .size) (lent .coeff))) (openedBuffers (o .kind) (o .size) (o .depth) (rangeOf o) lent))
+    ladder-all (Stopped lent why) (stopped zeroBlock lent) _ (λ e p. (refl, refl)) (outside (ltb (firstOutside (rangeOf o) (o .size) (o .size) (lent .coeff)) (o .size * o .size)) (refusalAt (rangeOf o) (o .size) (lent .coeff) (firstOutside (rangeOf o) (o .size) (o .size) (lent .coeff))) (blockOf o (columnCount (o .size) (lent .coeff))) (openedBuffers (o .kind) (o .size) (o .depth) (rangeOf o) lent))
     (o .kind) (o .size) (o .depth) (length (lent .coeff)) (length (lent .inter)) (length (lent .res))
   where
     outside : (t : Bool) (e : Refusal) (block : EditedBlock) (after : Buffers) → Stopped lent why (cond t (stopped zeroBlock lent e) (record { answer = accepted tt; block = block; buffers = after }))
@@ -89,7 +89,7 @@ opened-stopped o lent why =
 opened-coeff : (o : Opening) (lent : Buffers) → lent .coeff ≡ openedAs o lent .buffers .coeff
 unfolding openedAs opened openedBuffers
 opened-coeff o lent =
-    ladder-all (λ (h : Left). lent .coeff ≡ h .buffers .coeff) (stopped zeroBlock lent) _ (λ e. refl) (outside (ltb (firstOutside (rangeOf o) (o .size) (o .size) (lent .coeff)) (o .size * o .size)) (CoefficientOutside (firstOutside (rangeOf o) (o .size) (o .size) (lent .coeff))) (blockOf o (columnCount (o .size) (lent .coeff))) (openedBuffers (o .kind) (o .size) (o .depth) (rangeOf o) lent) refl)
+    ladder-all (λ (h : Left). lent .coeff ≡ h .buffers .coeff) (stopped zeroBlock lent) _ (λ e. refl) (outside (ltb (firstOutside (rangeOf o) (o .size) (o .size) (lent .coeff)) (o .size * o .size)) (refusalAt (rangeOf o) (o .size) (lent .coeff) (firstOutside (rangeOf o) (o .size) (o .size) (lent .coeff))) (blockOf o (columnCount (o .size) (lent .coeff))) (openedBuffers (o .kind) (o .size) (o .depth) (rangeOf o) lent) refl)
     (o .kind) (o .size) (o .depth) (length (lent .coeff)) (length (lent .inter)) (length (lent .res))
   where
     outside : (t : Bool) (e : Refusal) (block : EditedBlock) (after : Buffers) → lent .coeff ≡ after .coeff → lent .coeff ≡ cond t (stopped zeroBlock lent e) (record { answer = accepted tt; block = block; buffers = after }) .buffers .coeff
@@ -120,9 +120,9 @@ module _ (o : Opening) (lent : Buffers) (es : List Edit) where
   unfolding historyRan
   history-answers = refl
 
-  pub lists-done : (ns ps : List ℕ) (r : Listed) (d g e : List ℤ) (ns′ ps′ : List ℕ) → openedAs o lent .answer ≡ answer Done
-      → r .answer ≡ Done → r .edits ≡ length es → RunsFrom (ran o lent es) ns ps (r .block) d g e ns′ ps′ → Lists o lent es ns ps r (buffers d g e) ns′ ps′
-  lists-done ns ps r d g e ns′ ps′ op a made w =
+  pub lists-done : (ns rs cs : List ℕ) (r : Listed) (d g e : List ℤ) (ns′ rs′ cs′ : List ℕ) → openedAs o lent .answer ≡ answer Done
+      → r .answer ≡ Done → r .edits ≡ length es → RunsFrom (ran o lent es) ns rs cs (r .block) d g e ns′ rs′ cs′ → Lists o lent es ns rs cs r (buffers d g e) ns′ rs′ cs′
+  lists-done ns rs cs r d g e ns′ rs′ cs′ op a made w =
       let zero : openedAs o lent .answer .number ≡ 0 = ap (λ (x : Outcome (Unit {0})). x .number) op in
       let is : ran o lent es ≡ listed o lent es = ran-is-history o lent es zero ∙ sym (listed-done zero) in
       record {
@@ -131,13 +131,14 @@ module _ (o : Opening) (lent : Buffers) (es : List Edit) where
         block = w .block-is ∙ ap (λ (x : Ran). x .block) is;
         buffers = w .buffers-are ∙ ap (λ (x : Ran). x .buffers) is;
         numbers-are = w .numbers-are ∙ ap (λ (x : Ran). sets ns 0 (numbersOf (x .answers))) is;
-        places-are = w .places-are ∙ ap (λ (x : Ran). sets ps 0 (placesOf (x .answers))) is;
+        rows-are = w .rows-are ∙ ap (λ (x : Ran). sets rs 0 (rowsOf (x .answers))) is;
+        columns-are = w .columns-are ∙ ap (λ (x : Ran). sets cs 0 (columnsOf (x .answers))) is;
       }
 
-  pub lists-refused : (ns ps : List ℕ) (r : Listed) (g e : List ℤ) (why : Refusal) → openedAs o lent .answer ≡ answer (Refused why)
+  pub lists-refused : (ns rs cs : List ℕ) (r : Listed) (g e : List ℤ) (why : Refusal) → openedAs o lent .answer ≡ answer (Refused why)
       → r .answer ≡ Refused why → r .edits ≡ 0 → r .block ≡ openedAs o lent .block → g ≡ openedAs o lent .buffers .inter → e ≡ openedAs o lent .buffers .res
-      → Lists o lent es ns ps r (buffers (lent .coeff) g e) ns ps
-  lists-refused ns ps r g e why op a made b hg he =
+      → Lists o lent es ns rs cs r (buffers (lent .coeff) g e) ns rs cs
+  lists-refused ns rs cs r g e why op a made b hg he =
       let none : listed o lent es ≡ undone lent = listed-refused why op in
       let stop = opened-stopped o lent why op in
       record {
@@ -146,7 +147,8 @@ module _ (o : Opening) (lent : Buffers) (es : List Edit) where
         block = b ∙ stop .0 ∙ sym (ap (λ (x : Ran). x .block) none);
         buffers = same (hg ∙ ap (λ (x : Buffers). x .inter) (stop .1)) (he ∙ ap (λ (x : Buffers). x .res) (stop .1)) ∙ sym (ap (λ (x : Ran). x .buffers) none);
         numbers-are = sym (ap (λ (x : Ran). sets ns 0 (numbersOf (x .answers))) none);
-        places-are = sym (ap (λ (x : Ran). sets ps 0 (placesOf (x .answers))) none);
+        rows-are = sym (ap (λ (x : Ran). sets rs 0 (rowsOf (x .answers))) none);
+        columns-are = sym (ap (λ (x : Ran). sets cs 0 (columnsOf (x .answers))) none);
       }
     where
       same : g ≡ lent .inter → e ≡ lent .res → buffers (lent .coeff) g e ≡ lent

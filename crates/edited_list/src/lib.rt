@@ -26,12 +26,21 @@ fn answer_number(given: Answer) -> u8
     }
 }
 
-fn answer_place(given: Answer) -> usize
-    ensures { λ r. ⌜ r ≡ answer given .place ⌝ }
+fn answer_row(given: Answer) -> u8
+    ensures { λ r. ⌜ r ≡ answer given .row ⌝ }
 {
     match given {
         Answer::Done => 0,
-        Answer::Refused(why) => refusal::place(why),
+        Answer::Refused(why) => refusal::row(why),
+    }
+}
+
+fn answer_column(given: Answer) -> u8
+    ensures { λ r. ⌜ r ≡ answer given .column ⌝ }
+{
+    match given {
+        Answer::Done => 0,
+        Answer::Refused(why) => refusal::column(why),
     }
 }
 
@@ -42,10 +51,20 @@ fn least(a: usize, b: usize) -> usize
 }
 
 // As many edits as every slice has.
-fn edit_count(rows: usize, columns: usize, values: usize, numbers: usize, places: usize) -> usize
-    ensures { λ r. ⌜ r ≡ editCount rows columns values numbers places ⌝ }
+fn edit_count(
+    rows: usize,
+    columns: usize,
+    values: usize,
+    numbers: usize,
+    named: usize,
+    across: usize,
+) -> usize
+    ensures { λ r. ⌜ r ≡ editCount rows columns values numbers named across ⌝ }
 {
-    least(least(rows, columns), least(values, least(numbers, places)))
+    least(
+        least(rows, columns),
+        least(values, least(numbers, least(named, across))),
+    )
 }
 
 // Edits from the slices, one after the other; each gets the record and the buffers as the one before left them.
@@ -58,11 +77,12 @@ fn edit_each(
     columns: &[usize],
     values: &[i32],
     numbers: &mut [u8],
-    places: &mut [usize],
+    named: &mut [u8],
+    across: &mut [u8],
     count: usize,
 ) -> EditedBlock
-    requires { ⌜ ListAsk count (length (now rows)) (length (now columns)) (length (now values)) (length (now numbers)) (length (now places)) ⌝ }
-    ensures { λ r. ⌜ RunsFrom (ranFrom block (buffers (now (coeff .entry)) (now (inter .entry)) (now (residual .entry))) (editsOf count (now (rows .entry)) (now (columns .entry)) (now (values .entry)))) (now (numbers .entry)) (now (places .entry)) r (now (coeff .exit)) (now (inter .exit)) (now (residual .exit)) (now (numbers .exit)) (now (places .exit)) ⌝ }
+    requires { ⌜ ListAsk count (length (now rows)) (length (now columns)) (length (now values)) (length (now numbers)) (length (now named)) (length (now across)) ⌝ }
+    ensures { λ r. ⌜ RunsFrom (ranFrom block (buffers (now (coeff .entry)) (now (inter .entry)) (now (residual .entry))) (editsOf count (now (rows .entry)) (now (columns .entry)) (now (values .entry)))) (now (numbers .entry)) (now (named .entry)) (now (across .entry)) r (now (coeff .exit)) (now (inter .exit)) (now (residual .exit)) (now (numbers .exit)) (now (named .exit)) (now (across .exit)) ⌝ }
 {
     let mut b = block;
     let mut i: usize = 0;
@@ -78,7 +98,8 @@ fn edit_each(
         );
         let a = e.answer;
         numbers[i] = answer_number(a);
-        places[i] = answer_place(a);
+        named[i] = answer_row(a);
+        across[i] = answer_column(a);
         let next = e.block;
         b = next;
         i += 1;
@@ -86,8 +107,8 @@ fn edit_each(
     b
 }
 
-// Opens a block and makes a list of edits: edit i sets values[i] at row rows[i] and column columns[i], and its answer goes to numbers[i] and places[i].
-// The list is as long as the shortest of the five slices.
+// Opens a block and makes a list of edits: edit i sets values[i] at row rows[i] and column columns[i], and its answer goes to numbers[i]; where it names
+// a coefficient, the row goes to named[i] and the column to across[i], else zeros. The list is as long as the shortest of the six slices.
 pub fn open_and_edit(
     kind: Kind,
     n: usize,
@@ -100,9 +121,10 @@ pub fn open_and_edit(
     columns: &[usize],
     values: &[i32],
     numbers: &mut [u8],
-    places: &mut [usize],
+    named: &mut [u8],
+    across: &mut [u8],
 ) -> Listed
-    ensures { λ r. ⌜ Lists (openingOf kind n «bit_depth» «extended_precision») (buffers (now (coeff .entry)) (now (inter .entry)) (now (residual .entry))) (editsOf (editCount (length (now (rows .entry))) (length (now (columns .entry))) (length (now (values .entry))) (length (now (numbers .entry))) (length (now (places .entry)))) (now (rows .entry)) (now (columns .entry)) (now (values .entry))) (now (numbers .entry)) (now (places .entry)) r (buffers (now (coeff .exit)) (now (inter .exit)) (now (residual .exit))) (now (numbers .exit)) (now (places .exit)) ⌝ }
+    ensures { λ r. ⌜ Lists (openingOf kind n «bit_depth» «extended_precision») (buffers (now (coeff .entry)) (now (inter .entry)) (now (residual .entry))) (editsOf (editCount (length (now (rows .entry))) (length (now (columns .entry))) (length (now (values .entry))) (length (now (numbers .entry))) (length (now (named .entry))) (length (now (across .entry)))) (now (rows .entry)) (now (columns .entry)) (now (values .entry))) (now (numbers .entry)) (now (named .entry)) (now (across .entry)) r (buffers (now (coeff .exit)) (now (inter .exit)) (now (residual .exit))) (now (numbers .exit)) (now (named .exit)) (now (across .exit)) ⌝ }
 {
     let opening = edited_block::open_block(
         kind,
@@ -127,7 +149,8 @@ pub fn open_and_edit(
         columns.len(),
         values.len(),
         numbers.len(),
-        places.len(),
+        named.len(),
+        across.len(),
     );
     let last = edit_each(
         block,
@@ -138,7 +161,8 @@ pub fn open_and_edit(
         columns,
         values,
         numbers,
-        places,
+        named,
+        across,
         edits,
     );
     Listed {

@@ -26,7 +26,7 @@ abbrev pub recordRoom : ℕ → ℕ
 recordRoom len = 3 * len
 
 abbrev pub answerOf : {A : Type 0} → Outcome A → Outcome (Unit {0})
-answerOf o = record { number = o .number; place = o .place; value = tt }
+answerOf o = record { number = o .number; place = o .place; row = o .row; column = o .column; value = tt }
 
 pub record Takes (r : Taken) (l : List ℕ) (at : ℕ) (m : List ℕ) (o : Outcome Effect) (room : ℕ) : Type 0 where
   pub answered : answer (r .answer) ≡ answerOf o

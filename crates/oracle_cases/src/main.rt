@@ -1,5 +1,5 @@
 // Replays recorded answers of the ported Rust, through the functions that C gets. Each argument names a file of cases, which `harness record` wrote with the stdout that is expected.
-// A case is a head of 32 bytes, the list, the input and the output that the Rust left; numbers are little-endian. A line holds the function, what it was called with, number and place, and whether every value is the Rust's.
+// A case is a head of 32 bytes, the list, the input and the output that the Rust left; numbers are little-endian. A line holds the function, what it was called with, number, row and column, and whether every value is the Rust's.
 ghost use mathlib.Core.Path.{_≡_};
 ghost use Prim.Native.Nat.{_+_, _<_};
 ghost use lib.ListN.{length};
@@ -127,10 +127,11 @@ fn read_narrow(fd: i32, block: &mut [i16]) {
     }
 }
 
-fn put_answer(number: u32, place: usize) {
+fn put_answer(number: u32, row: u8, column: u8) {
     io::write_all(STDOUT_FILENO, b" |");
     put(number as u64);
-    put(place as u64);
+    put(row as u64);
+    put(column as u64);
 }
 
 fn put_equal(same: bool) {
@@ -182,7 +183,7 @@ fn run_range(fd: i32, case: Case) {
         case.bit_depth,
         case.extended_precision,
     );
-    put_answer(r.number, r.place);
+    put_answer(r.number, r.row, r.column);
     put_equal(is_next(fd, r.value as i64));
 }
 
@@ -193,7 +194,7 @@ fn run_dequant(fd: i32, case: Case) {
         case.bit_depth,
         case.extended_precision,
     );
-    put_answer(r.number, r.place);
+    put_answer(r.number, r.row, r.column);
     let factor = is_next(fd, r.factor);
     let add = is_next(fd, r.add);
     let shift = is_next(fd, r.shift as i64);
@@ -209,7 +210,7 @@ fn run_transform_skip(fd: i32, case: Case) {
         case.bit_depth,
         case.extended_precision,
     );
-    put_answer(r.number, r.place);
+    put_answer(r.number, r.row, r.column);
     let factor = is_next(fd, r.factor);
     let add = is_next(fd, r.add);
     let shift = is_next(fd, r.shift as i64);
@@ -222,7 +223,7 @@ fn run_transform_skip(fd: i32, case: Case) {
 
 fn run_factor(fd: i32, case: Case, list: &[u8]) {
     let r = c_api::residual_scaling_coeff(list, case.byte, case.n, case.count);
-    put_answer(r.number, r.place);
+    put_answer(r.number, r.row, r.column);
     put_equal(is_next(fd, r.value as i64));
 }
 
@@ -235,7 +236,7 @@ fn run_level(fd: i32, case: Case) {
         case.bit_depth,
         case.extended_precision,
     );
-    put_answer(r.number, r.place);
+    put_answer(r.number, r.row, r.column);
     put_equal(is_next(fd, long(r.value)));
 }
 
@@ -356,14 +357,14 @@ fn scale_narrow(case: Case, list: &[u8], levels: &[i32], out: &mut [i16]) -> Ans
 fn run_wide(fd: i32, case: Case, list: &[u8], levels: &[i32], out: &mut [i32], rust: &mut [i32]) {
     read_wide(fd, rust);
     let r = call_wide(case, list, levels, out);
-    put_answer(r.number, r.place);
+    put_answer(r.number, r.row, r.column);
     put_equal(same_wide(out, rust));
 }
 
 fn run_narrow(fd: i32, case: Case, list: &[u8], levels: &[i32], out: &mut [i16], rust: &mut [i16]) {
     read_narrow(fd, rust);
     let r = scale_narrow(case, list, levels, out);
-    put_answer(r.number, r.place);
+    put_answer(r.number, r.row, r.column);
     put_equal(same_narrow(out, rust));
 }
 
@@ -448,7 +449,7 @@ fn run_short_filled(fd: i32, case: Case, coeff: &mut [i16], out: &mut [i16], rus
     read_narrow(fd, coeff);
     read_narrow(fd, rust);
     let r = invert_narrow(case, coeff, out);
-    put_answer(r.number, r.place);
+    put_answer(r.number, r.row, r.column);
     put_equal(same_narrow(out, rust));
 }
 

@@ -47,4 +47,4 @@ first-passed stop done (rung t e ∷ rs) h = ap (λ (u : Bool). cond u (stop e) 
 
 -- the same refusal with another value
 pub with-value : {A B : Type 0} {z : A} (y : B) (e f : Refusal) → refused z e ≡ refused z f → refused y e ≡ refused y f
-with-value {A} {B} y e f h = ap (λ (o : Outcome A). let r : Outcome B = record { number = o .number; place = o .place; value = y } in r) h
+with-value {A} {B} y e f h = ap (λ (o : Outcome A). let r : Outcome B = record { number = o .number; place = o .place; row = o .row; column = o .column; value = y } in r) h

@@ -1,7 +1,7 @@
 // Why a call was refused: a variant for each row of document 01's table, with the place where the row names one.
 ghost use mathlib.Core.Path.{_≡_};
 ghost use Rattle.refusal.specs.Condition.{sizeRefused, depthRefused, widthRefused};
-ghost use Rattle.refusal.specs.Refusal.{number, place};
+ghost use Rattle.refusal.specs.Refusal.{number, place, row, column};
 
 pub enum Refusal {
     SizeInvalid,
@@ -12,12 +12,13 @@ pub enum Refusal {
     InputTooShort,
     OutputTooShort,
     PlaceOutside,
-    CoefficientOutside(usize),
+    CoefficientAbove(u8, u8),
     SampleOutside(usize),
     PictureInvalid,
     BitsEnded(usize),
     ReferenceMissing(usize),
     ListValueInvalid(usize),
+    CoefficientBelow(u8, u8),
     KindUnknown,
     BodyTooShort,
     LevelsBeforeParameters,
@@ -43,12 +44,13 @@ pub fn number(refusal: Refusal) -> u8
         Refusal::InputTooShort => 6,
         Refusal::OutputTooShort => 7,
         Refusal::PlaceOutside => 8,
-        Refusal::CoefficientOutside(_) => 9,
+        Refusal::CoefficientAbove(_, _) => 9,
         Refusal::SampleOutside(_) => 12,
         Refusal::PictureInvalid => 13,
         Refusal::BitsEnded(_) => 14,
         Refusal::ReferenceMissing(_) => 15,
         Refusal::ListValueInvalid(_) => 16,
+        Refusal::CoefficientBelow(_, _) => 19,
         Refusal::KindUnknown => 20,
         Refusal::BodyTooShort => 21,
         Refusal::LevelsBeforeParameters => 22,
@@ -56,7 +58,7 @@ pub fn number(refusal: Refusal) -> u8
     }
 }
 
-// The place that the refusal names, and 0 where it names none.
+// The place that the refusal names by one number, and 0 where it names none.
 pub fn place(refusal: Refusal) -> usize
     ensures { λ r. ⌜ r ≡ place refusal ⌝ }
 {
@@ -69,12 +71,67 @@ pub fn place(refusal: Refusal) -> usize
         Refusal::InputTooShort => 0,
         Refusal::OutputTooShort => 0,
         Refusal::PlaceOutside => 0,
-        Refusal::CoefficientOutside(at) => at,
+        Refusal::CoefficientAbove(_, _) => 0,
         Refusal::SampleOutside(at) => at,
         Refusal::PictureInvalid => 0,
         Refusal::BitsEnded(at) => at,
         Refusal::ReferenceMissing(at) => at,
         Refusal::ListValueInvalid(at) => at,
+        Refusal::CoefficientBelow(_, _) => 0,
+        Refusal::KindUnknown => 0,
+        Refusal::BodyTooShort => 0,
+        Refusal::LevelsBeforeParameters => 0,
+        Refusal::ParameterInvalid => 0,
+    }
+}
+
+// The row of the coefficient that the refusal names, and 0 where it names none.
+pub fn row(refusal: Refusal) -> u8
+    ensures { λ r. ⌜ r ≡ row refusal ⌝ }
+{
+    match refusal {
+        Refusal::SizeInvalid => 0,
+        Refusal::DepthInvalid => 0,
+        Refusal::WidthTooNarrow => 0,
+        Refusal::DstSizeInvalid => 0,
+        Refusal::ListLengthInvalid => 0,
+        Refusal::InputTooShort => 0,
+        Refusal::OutputTooShort => 0,
+        Refusal::PlaceOutside => 0,
+        Refusal::CoefficientAbove(at, _) => at,
+        Refusal::SampleOutside(_) => 0,
+        Refusal::PictureInvalid => 0,
+        Refusal::BitsEnded(_) => 0,
+        Refusal::ReferenceMissing(_) => 0,
+        Refusal::ListValueInvalid(_) => 0,
+        Refusal::CoefficientBelow(at, _) => at,
+        Refusal::KindUnknown => 0,
+        Refusal::BodyTooShort => 0,
+        Refusal::LevelsBeforeParameters => 0,
+        Refusal::ParameterInvalid => 0,
+    }
+}
+
+// Its column.
+pub fn column(refusal: Refusal) -> u8
+    ensures { λ r. ⌜ r ≡ column refusal ⌝ }
+{
+    match refusal {
+        Refusal::SizeInvalid => 0,
+        Refusal::DepthInvalid => 0,
+        Refusal::WidthTooNarrow => 0,
+        Refusal::DstSizeInvalid => 0,
+        Refusal::ListLengthInvalid => 0,
+        Refusal::InputTooShort => 0,
+        Refusal::OutputTooShort => 0,
+        Refusal::PlaceOutside => 0,
+        Refusal::CoefficientAbove(_, at) => at,
+        Refusal::SampleOutside(_) => 0,
+        Refusal::PictureInvalid => 0,
+        Refusal::BitsEnded(_) => 0,
+        Refusal::ReferenceMissing(_) => 0,
+        Refusal::ListValueInvalid(_) => 0,
+        Refusal::CoefficientBelow(_, at) => at,
         Refusal::KindUnknown => 0,
         Refusal::BodyTooShort => 0,
         Refusal::LevelsBeforeParameters => 0,

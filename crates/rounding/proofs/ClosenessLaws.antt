@@ -22,7 +22,8 @@ use Rattle.refusal.specs.Written.{Written}
 use Rattle.refusal.proofs.ConditionLaws.{size-accepted, depth-accepted}
 use Rattle.transform_1d.specs.declared.Kind.{Kind}
 use Rattle.transform_1d.specs.MatrixOf.{matrixOf}
-use Rattle.coefficients.specs.Outside.{firstOutside}
+use Rattle.refusal.proofs.RefusalLaws.{number-least}
+use Rattle.coefficients.specs.Outside.{firstOutside, refusalAt}
 use Rattle.transform_blocks.specs.Blocks.{inverted}
 use Rattle.transform_blocks.proofs.BlocksLaws.{Checked, inverted-done}
 use Rattle.edited_block.specs.History.{rangeOf, historyResidual}
@@ -69,7 +70,8 @@ checked narrow kind n b x nx coeff out e =
     let p₃ = passed (narrow && widthRefused b x) _ _ (p₂ .1) (λ z. omega arith) in
     let p₄ = passed (blockRefused n (length coeff)) _ _ (p₃ .1) (λ z. omega arith) in
     let p₅ = passed (blockRefused n (length out)) _ _ (p₄ .1) (λ z. omega arith) in
-    let p₆ = passed (ltb (firstOutside (transformRange b x) n nx coeff) (n * n)) _ _ (p₅ .1) (λ z. omega arith) in
+    let first = firstOutside (transformRange b x) n nx coeff in
+    let p₆ = passed (ltb first (n * n)) _ _ (p₅ .1) (λ z. omega (arith, number-least (refusalAt (transformRange b x) n coeff first), z)) in
     (record { size = p₁ .0; depth = p₂ .0; width = p₃ .0; input = p₄ .0; output = p₅ .0 }, p₆ .0)
 
 pub transform-is-close : TransformIsClose

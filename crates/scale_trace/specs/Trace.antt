@@ -53,6 +53,8 @@ traceEffect s k body =
     record {
       number = o .number;
       place = o .place;
+      row = o .row;
+      column = o .column;
       value = record { text = cond (eqb (o .number) 0) (recordLines (kindOf k) s) []; state = o .value .state };
     }
 

@@ -23,10 +23,10 @@ use Rattle.h265.proofs.TransformLaws.{intermediate-cong, stageTwo-cong, cell-co
 use Rattle.refusal.specs.declared.Answer.{Answer}
 use Rattle.refusal.specs.declared.Answer.the-variants.{Done, Refused}
 use Rattle.refusal.specs.declared.Refusal.{Refusal}
-use Rattle.refusal.specs.declared.Refusal.the-variants.{SizeInvalid, DepthInvalid, WidthTooNarrow, InputTooShort, OutputTooShort, CoefficientOutside}
+use Rattle.refusal.specs.declared.Refusal.the-variants.{SizeInvalid, DepthInvalid, WidthTooNarrow, InputTooShort, OutputTooShort}
 use Rattle.refusal.specs.Condition.{sizeRefused, depthRefused, widthRefused, blockRefused}
 use Rattle.refusal.specs.Written.{Written, left, wrote, Writes}
-use Rattle.coefficients.specs.Outside.{outsideAt, firstOutside}
+use Rattle.coefficients.specs.Outside.{outsideAt, firstOutside, refusalAt}
 use Rattle.transform_1d.specs.declared.Kind.{Kind}
 use Rattle.transform_1d.specs.declared.Kind.the-variants.{Dct}
 use Rattle.transform_1d.specs.MatrixOf.{matrixOf}
@@ -71,7 +71,7 @@ module _ (narrow : Bool) (kind : Kind) (n b : ℕ) (x : Bool) (nx : ℕ) (coeff 
   inverted-output s d w i o = rw (s, d, w, i, o)
 
   pub inverted-outside : (first : ℕ) → Checked narrow n b x (length coeff) (length out) → firstOutside (transformRange b x) n nx coeff ≡ first → first < n * n
-      → inverted narrow kind n b x nx coeff out ≡ left out (CoefficientOutside first)
+      → inverted narrow kind n b x nx coeff out ≡ left out (refusalAt (transformRange b x) n coeff first)
   unfolding inverted
   inverted-outside first c e h = rw (c .size, c .depth, c .width, c .input, c .output, e, lt-ltb first (n * n) h)
 

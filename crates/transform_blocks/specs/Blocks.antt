@@ -1,4 +1,4 @@
--- Whole blocks, refused calls included. Document 01, "Inverse transforms", and rows 1, 2, 3, 6, 7, 9 of its table.
+-- Whole blocks, refused calls included. Document 01, "Inverse transforms", and rows 1, 2, 3, 6, 7, 9, 19 of its table.
 -- Letters: n size, b depth, x extended precision, nx column count.
 --   inverted narrow kind n b x nx coeff out   what a transform answers and what its output holds afterwards; `narrow`: 16-bit output
 --   OfKind kind n                             what the functions below the refusals rely on: the DST has four points
@@ -16,13 +16,13 @@ use mir.Val.{SFits}
 use Rattle.integers.specs.Lists.{overwrite}
 use Rattle.h265.specs.Range.{isSize, transformRange, outsideRange}
 use Rattle.h265.specs.Transform.{rowOrder, residual}
-use Rattle.refusal.specs.declared.Refusal.the-variants.{SizeInvalid, DepthInvalid, WidthTooNarrow, InputTooShort, OutputTooShort, CoefficientOutside}
+use Rattle.refusal.specs.declared.Refusal.the-variants.{SizeInvalid, DepthInvalid, WidthTooNarrow, InputTooShort, OutputTooShort}
 use Rattle.refusal.specs.Condition.{sizeRefused, depthRefused, widthRefused, blockRefused}
 use Rattle.refusal.specs.Written.{Written, left, wrote}
 use Rattle.transform_1d.specs.declared.Kind.{Kind}
 use Rattle.transform_1d.specs.declared.Kind.the-variants.{Dst}
 use Rattle.transform_1d.specs.MatrixOf.{matrixOf}
-use Rattle.coefficients.specs.Outside.{firstOutside}
+use Rattle.coefficients.specs.Outside.{firstOutside, refusalAt}
 
 unfoldable pub inverted : Bool → Kind → ℕ → ℕ → Bool → ℕ → List ℤ → List ℤ → Written
 inverted narrow kind n b x nx coeff out =
@@ -33,7 +33,7 @@ inverted narrow kind n b x nx coeff out =
     (cond (narrow && widthRefused b x) (left out WidthTooNarrow)
     (cond (blockRefused n (length coeff)) (left out InputTooShort)
     (cond (blockRefused n (length out)) (left out OutputTooShort)
-    (cond (ltb first (n * n)) (left out (CoefficientOutside first))
+    (cond (ltb first (n * n)) (left out (refusalAt r n coeff first))
     (wrote (overwrite (n * n) (rowOrder n (residual (matrixOf kind n) n b r nx coeff)) out)))))))
 
 pub record OfKind (kind : Kind) (n : ℕ) : Type 0 where

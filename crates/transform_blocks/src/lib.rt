@@ -113,7 +113,7 @@ pub fn invert_32(
     let columns = least(nx, n);
     let first = coefficients::first_outside(coeff, n, columns, range);
     if first < n * n {
-        return Answer::Refused(Refusal::CoefficientOutside(first));
+        return Answer::Refused(coefficients::refusal_at(coeff, n, first, range));
     }
     invert_in(kind, n, bit_depth, range, columns, coeff, out);
     Answer::Done

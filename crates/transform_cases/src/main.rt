@@ -1,4 +1,4 @@
-// Runs document 01's examples of the transforms, and every refusal at its border. A line holds what was asked, then number, place and
+// Runs document 01's examples of the transforms, and every refusal at its border. A line holds what was asked, then number, row, column and
 // what the output holds: it is filled with 7 before each call, so that what a call leaves alone is seen.
 use libc::STDOUT_FILENO;
 use refusal::Answer;
@@ -22,10 +22,12 @@ fn put_answer(answer: Answer) {
         Answer::Done => {
             put(0);
             put(0);
+            put(0);
         }
         Answer::Refused(refusal) => {
             put(refusal::number(refusal) as u64);
-            put(refusal::place(refusal) as u64);
+            put(refusal::row(refusal) as u64);
+            put(refusal::column(refusal) as u64);
         }
     }
     io::write_all(STDOUT_FILENO, b" |");

@@ -12,11 +12,12 @@ use mir.Facts.{toZ-ofZ}
 use mir.Syntax.{w32}
 use mir.Val.{toZ, ofZ}
 use Rattle.h265.specs.Range.{outsideRange}
-use Rattle.h265.proofs.RangeLaws.{size-square}
-use Rattle.refusal.specs.declared.Refusal.the-variants.{PlaceOutside, CoefficientOutside}
+use Rattle.h265.proofs.RangeLaws.{size-bound}
+use Rattle.refusal.specs.declared.Refusal.the-variants.{PlaceOutside}
 use Rattle.refusal.specs.Outcome.{answer}
+use Rattle.coefficients.specs.Outside.{outsideRefusal}
 use Rattle.edited_block.specs.Columns.{columnCount}
-use Rattle.edited_block.specs.Edit.{Buffers, buffers, editedBuffers, withColumns, BlockAsk}
+use Rattle.edited_block.specs.Edit.{Buffers, buffers, stopped, editedBuffers, withColumns, BlockAsk}
 use Rattle.edited_block.specs.History.{rangeOf}
 use Rattle.edited_block.proofs.OpeningLaws.{Fits}
 use Rattle.edited_block.proofs.LadderLaws.{ladder-passed, fits-ask, openingOf, edit-refused, edit-place, edit-outside, edit-done, edits-stopped}
@@ -83,22 +84,29 @@ outside-is c =
     sym (c .is-outside .ensures ∙ ap (λ (v : ℤ). outsideRange (c .before .transform-range .result) v) (toZ-ofZ (s .fits .value))
     ∙ ap (λ (k : ℕ). outsideRange k (s .args .value)) (c .before .transform-range .ensures))
 
-mul-t26 : tie.Need-mul-t26
-mul-t26 c =
-    let d = c .before .before .before in
-    record { fits = omega (arith, in-block d, size-square (d .before .before .before .before .before .args .block .size) (ask (d .before .before) .size)) }
+outside-refusal-requires : tie.Need-outside-refusal-requires
+outside-refusal-requires c κs =
+    let r = c .before .before in
+    let d = r .before in
+    let a = ask (d .before .before) in
+    let b = size-bound (d .before .before .before .before .before .args .block .size) (a .size) in
+    (rw (r .transform-range .ensures) (a .range .1), omega (arith, d .before .if1 .left, b), omega (arith, d .if2 .left, b))
 
-add-t27 : tie.Need-add-t27
-add-t27 c =
-    let d = c .before .before .before in
-    record { fits = omega (arith, in-block d, size-square (d .before .before .before .before .before .args .block .size) (ask (d .before .before) .size)) }
+-- the refusal, of the value as given and for the range as defined
+refusal-is : (c : tie.After-outside-refusal) → outsideRefusal (rangeOf (openingOf (c .before .before .before .before .before .before .before .before .before .args .block))) (c .before .before .before .before .before .before .before .before .before .args .value) (c .before .before .before .before .before .before .before .before .before .args .row) (c .before .before .before .before .before .before .before .before .before .args .column) ≡ c .outside-refusal .result
+refusal-is c =
+    let r = c .before .before .before in
+    let s = r .before .before .before .before .before .before in
+    sym (c .outside-refusal .ensures ∙ ap₂ (λ (k : ℕ) (v : ℤ). outsideRefusal k v (s .args .row) (s .args .column)) (r .transform-range .ensures) (toZ-ofZ (s .fits .value)))
 
 returns-4 : tie.Need-returns-4
 returns-4 c =
-    let d = c .before .before .before in
+    let o = c .before .before in
+    let d = o .before .before in
     let s = d .before .before .before .before .before in
-    edits-stopped (s .args .block) (lent s) (s .args .row) (s .args .column) (s .args .value) (CoefficientOutside (s .args .row * s .args .block .size + s .args .column))
-    (edit-outside (s .args .block) (lent s) (s .args .row) (s .args .column) (s .args .value) (fits (d .before .before)) (d .before .if1 .left) (d .if2 .left) (outside-is (c .before) ∙ c .if3 .taken))
+    edits-stopped (s .args .block) (lent s) (s .args .row) (s .args .column) (s .args .value) (c .outside-refusal .result)
+    (edit-outside (s .args .block) (lent s) (s .args .row) (s .args .column) (s .args .value) (fits (d .before .before)) (d .before .if1 .left) (d .if2 .left) (outside-is o ∙ c .before .if3 .taken)
+    ∙ ap (stopped (s .args .block) (lent s)) (refusal-is c))
 
 edit-stages-requires : tie.Need-edit-stages-requires
 edit-stages-requires c κs =
@@ -156,8 +164,7 @@ edit-core-spec =
     returns-3
     transform-range-requires
     is-outside-requires
-    mul-t26
-    add-t27
+    outside-refusal-requires
     returns-4
     edit-stages-requires
     column-count-requires

@@ -6,8 +6,8 @@ use borrow.Author.Needs.{needs}
 use lib.ListN.{length}
 use Rattle.h265.proofs.RangeLaws.{size-square}
 use Rattle.refusal.specs.Outcome.{answer}
-use Rattle.coefficients.specs.Outside.{firstOutside}
-use Rattle.edited_block.specs.Edit.{Buffers, buffers, openedBuffers, BlockAsk}
+use Rattle.coefficients.specs.Outside.{firstOutside, refusalAt}
+use Rattle.edited_block.specs.Edit.{Buffers, buffers, zeroBlock, stopped, openedBuffers, BlockAsk}
 use Rattle.edited_block.specs.History.{Opening, rangeOf}
 use Rattle.edited_block.specs.Run.{openedAs, blockOf}
 use Rattle.edited_block.proofs.OpeningLaws.{Fits}
@@ -68,16 +68,30 @@ first-is c =
     let s = c .before .before .before .before .before in
     c .first-outside .ensures ∙ ap (λ (r : ℕ). firstOutside r (s .args .n) (s .args .n) (s .args .coeff .now)) (c .before .transform-range .ensures)
 
+refusal-at-requires : tie.Need-refusal-at-requires
+refusal-at-requires c κs =
+    let r = c .before .before in
+    let a = ask (r .before) in
+    (a .size, c .if1 .taken, a .coeff, rw (r .transform-range .ensures) (a .range .1))
+
+-- the refusal, for the range as defined
+refusal-is : (c : tie.After-refusal-at) → refusalAt (rangeOf (opening (c .before .before .before .before .before .before .before))) (c .before .before .before .before .before .before .before .args .n) (c .before .before .before .before .before .before .before .args .coeff .now) (c .before .before .first-outside .result) ≡ c .refusal-at .result
+refusal-is c =
+    let f = c .before .before in
+    let s = f .before .before .before .before .before in
+    sym (c .refusal-at .ensures ∙ ap (λ (r : ℕ). refusalAt r (s .args .n) (s .args .coeff .now) (f .first-outside .result)) (f .before .transform-range .ensures))
+
 zero-block-requires-2 : tie.Need-zero-block-requires-2
 zero-block-requires-2 c κs = search needs
 
 returns-2 : tie.Need-returns-2
 unfolding openedAs
 returns-2 c =
-    let f = c .before .before in
+    let w = c .before in
+    let f = w .before .before in
     let s = f .before .before .before .before .before in
-    opens-stopped (opening s) (lent s) _ (c .zero-block2 .result)
-    (open-outside (opening s) (lent s) (fits (f .before .before)) (f .first-outside .result) (first-is f) (c .before .if1 .taken)) (c .zero-block2 .ensures)
+    opens-stopped (opening s) (lent s) (w .refusal-at .result) (c .zero-block2 .result)
+    (open-outside (opening s) (lent s) (fits (f .before .before)) (f .first-outside .result) (first-is f) (w .before .if1 .taken) ∙ ap (stopped zeroBlock (lent s)) (refusal-is w)) (c .zero-block2 .ensures)
 
 open-stages-requires : tie.Need-open-stages-requires
 open-stages-requires c κs =
@@ -124,6 +138,7 @@ open-block-spec =
     transform-range-requires
     first-outside-requires
     mul-if1
+    refusal-at-requires
     zero-block-requires-2
     returns-2
     open-stages-requires

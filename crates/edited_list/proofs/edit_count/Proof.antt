@@ -1,4 +1,4 @@
--- `edited_list::edit_count` meets its contract: the least of five numbers, taken two at a time.
+-- `edited_list::edit_count` meets its contract: the least of six numbers, taken two at a time.
 use mathlib.Core.Path.{refl, ap₂, _∙_}
 use Prim.Native.Nat.{min}
 use borrow.Author.Needs.{needs}
@@ -18,10 +18,13 @@ least-requires-3 c κs = search needs
 least-requires-4 : tie.Need-least-requires-4
 least-requires-4 c κs = search needs
 
+least-requires-5 : tie.Need-least-requires-5
+least-requires-5 c κs = search needs
+
 returns : tie.Need-returns
 unfolding editCount
-returns c = c .least4 .ensures ∙ ap₂ min (c .before .before .before .least .ensures) (c .before .least3 .ensures ∙ ap₂ min refl (c .before .before .least2 .ensures))
+returns c = c .least5 .ensures ∙ ap₂ min (c .before .before .before .before .least .ensures) (c .before .least4 .ensures ∙ ap₂ min refl (c .before .before .least3 .ensures ∙ ap₂ min refl (c .before .before .before .least2 .ensures)))
 
 pub edit-count-spec : {M : Type 1} → statement M
 edit-count-spec =
-    tie.close (tie.spec least-requires least-requires-2 least-requires-3 least-requires-4 returns)
+    tie.close (tie.spec least-requires least-requires-2 least-requires-3 least-requires-4 least-requires-5 returns)

@@ -15,33 +15,33 @@ use Rattle.edited_list.proofs.edit_each.Statement.{statement}
 use Rattle.edited_list.proofs.edit_each.Tie as tie
 
 abbrev Inv-loop : tie.InvT-loop
-Inv-loop coeff₀ inter₀ residual₀ rows columns values numbers₀ places₀ count b₀ i₀ coeff inter residual numbers places b i =
-    Going b₀ (buffers coeff₀ inter₀ residual₀) (editsOf count rows columns values) numbers₀ places₀ coeff inter residual numbers places b i
+Inv-loop coeff₀ inter₀ residual₀ rows columns values numbers₀ named₀ across₀ count b₀ i₀ coeff inter residual numbers named across b i =
+    Going b₀ (buffers coeff₀ inter₀ residual₀) (editsOf count rows columns values) numbers₀ named₀ across₀ coeff inter residual numbers named across b i
 
 abbrev μ-loop : tie.MeasureT-loop
-μ-loop coeff₀ inter₀ residual₀ rows columns values numbers₀ places₀ count b₀ i₀ coeff inter residual numbers places b i =
+μ-loop coeff₀ inter₀ residual₀ rows columns values numbers₀ named₀ across₀ count b₀ i₀ coeff inter residual numbers named across b i =
     count - i
 
 loop-holds : tie.Need-loop-holds Inv-loop μ-loop
-loop-holds c = going-begins _ _ _ _ _
+loop-holds c = going-begins _ _ _ _ _ _
 
 mul-edit-by-value : tie.Need-mul-edit-by-value Inv-loop μ-loop
 mul-edit-by-value c = omega arith
 
 shared-slice-read-edit-by-value : tie.Need-shared-slice-read-edit-by-value Inv-loop μ-loop
-shared-slice-read-edit-by-value c = let ask = c .before .before .before .before .before .before .before .before .before .before .pre in omega (arith, ask .rows-long)
+shared-slice-read-edit-by-value c = let ask = c .before .before .before .before .before .before .before .before .before .before .before .pre in omega (arith, ask .rows-long)
 
 mul-edit-by-value-2 : tie.Need-mul-edit-by-value-2 Inv-loop μ-loop
 mul-edit-by-value-2 c = omega arith
 
 shared-slice-read-edit-by-value-2 : tie.Need-shared-slice-read-edit-by-value-2 Inv-loop μ-loop
-shared-slice-read-edit-by-value-2 c = let ask = c .before .before .before .before .before .before .before .before .before .before .before .pre in omega (arith, ask .columns-long)
+shared-slice-read-edit-by-value-2 c = let ask = c .before .before .before .before .before .before .before .before .before .before .before .before .pre in omega (arith, ask .columns-long)
 
 mul-edit-by-value-3 : tie.Need-mul-edit-by-value-3 Inv-loop μ-loop
 mul-edit-by-value-3 c = omega arith
 
 shared-slice-copy-out-edit-by-value : tie.Need-shared-slice-copy-out-edit-by-value Inv-loop μ-loop
-shared-slice-copy-out-edit-by-value c = let ask = c .before .before .before .before .before .before .before .before .before .before .before .pre in omega (arith, ask .values-long)
+shared-slice-copy-out-edit-by-value c = let ask = c .before .before .before .before .before .before .before .before .before .before .before .before .pre in omega (arith, ask .values-long)
 
 edit-by-value-requires : tie.Need-edit-by-value-requires Inv-loop μ-loop
 edit-by-value-requires c κs = search needs
@@ -52,22 +52,29 @@ answer-number-requires c κs = search needs
 slice-write-numbers : tie.Need-slice-write-numbers Inv-loop μ-loop
 slice-write-numbers c =
     let at = c .before .before .before .before .before .before .before .before .before .before .before .before in
-    let s = at .before .before .before .before .before in
+    let s = at .before .before .before .before .before .before in
     let same : length (at .loop .numbers) ≡ length (s .args .numbers .now) = at .loop .inv .numbers-long in
     omega (arith, c .before .before .before .before .before .before .before .before .before .before .before .loop-test .taken, s .pre .numbers-long, same)
 
-answer-place-requires : tie.Need-answer-place-requires Inv-loop μ-loop
-answer-place-requires c κs = search needs
+answer-row-requires : tie.Need-answer-row-requires Inv-loop μ-loop
+answer-row-requires c κs = search needs
 
-mul-places : tie.Need-mul-places Inv-loop μ-loop
-mul-places c = mul-edit-by-value (c .before .before .before .before .before .before .before .before .before)
-
-slice-write-places : tie.Need-slice-write-places Inv-loop μ-loop
-slice-write-places c =
+slice-write-named : tie.Need-slice-write-named Inv-loop μ-loop
+slice-write-named c =
     let at = c .before .before .before .before .before .before .before .before .before .before .before .before .before in
-    let s = at .before .before .before .before .before in
-    let same : length (at .loop .places) ≡ length (s .args .places .now) = at .loop .inv .places-long in
-    omega (arith, c .before .before .before .before .before .before .before .before .before .before .before .before .loop-test .taken, s .pre .places-long, same)
+    let s = at .before .before .before .before .before .before in
+    let same : length (at .loop .named) ≡ length (s .args .named .now) = at .loop .inv .rows-long in
+    omega (arith, c .before .before .before .before .before .before .before .before .before .before .before .before .loop-test .taken, s .pre .named-long, same)
+
+answer-column-requires : tie.Need-answer-column-requires Inv-loop μ-loop
+answer-column-requires c κs = search needs
+
+slice-write-across : tie.Need-slice-write-across Inv-loop μ-loop
+slice-write-across c =
+    let at = c .before .before .before .before .before .before .before .before .before .before .before .before .before .before in
+    let s = at .before .before .before .before .before .before in
+    let same : length (at .loop .across) ≡ length (s .args .across .now) = at .loop .inv .columns-long in
+    omega (arith, c .before .before .before .before .before .before .before .before .before .before .before .before .before .loop-test .taken, s .pre .across-long, same)
 
 add-i : tie.Need-add-i Inv-loop μ-loop
 add-i c = omega arith
@@ -77,10 +84,10 @@ loop-less c = omega arith
 
 loop-again : tie.Need-loop-again Inv-loop μ-loop
 loop-again c =
-    let called = c .before .before .before .before .before .before in
+    let called = c .before .before .before .before .before .before .before in
     let r = called .edit-by-value in
     let at = called .before .before .before .before .before .before .before .before in
-    let s = at .before .before .before .before .before in
+    let s = at .before .before .before .before .before .before in
     let a = s .args in
     let h = called .before .before .before .before .before .before .before .loop-test .taken in
     let z = getD (a .values .now) (at .loop .i) (pos 0) in
@@ -89,7 +96,7 @@ loop-again c =
     (rw editsOf-length h) (editsOf-getD (a .count) (a .rows .now) (a .columns .now) (a .values .now) (at .loop .i) h)
     (r .result .answer) (r .result .block) (r .last .1 .0) (r .last .1 .1 .0) (r .last .1 .1 .1 .0) (rw v at (r .ensures))
     (r .kept .1 .0) (r .kept .1 .1 .0) (r .kept .1 .1 .1 .0)
-    (c .before .before .answer-number .result) (c .before .answer-place .result) (c .before .before .answer-number .ensures) (c .before .answer-place .ensures)
+    (c .before .before .before .answer-number .result) (c .before .before .answer-row .result) (c .before .answer-column .result) (c .before .before .before .answer-number .ensures) (c .before .before .answer-row .ensures) (c .before .answer-column .ensures)
 
 same-length : tie.Need-same-length Inv-loop μ-loop
 same-length c = c .before .loop .inv .coeff-long
@@ -104,11 +111,13 @@ same-length-4 : tie.Need-same-length-4 Inv-loop μ-loop
 same-length-4 c = c .before .loop .inv .numbers-long
 
 same-length-5 : tie.Need-same-length-5 Inv-loop μ-loop
-same-length-5 c = c .before .loop .inv .places-long
+same-length-5 c = c .before .loop .inv .rows-long
+
+same-length-6 : tie.Need-same-length-6 Inv-loop μ-loop
+same-length-6 c = c .before .loop .inv .columns-long
 
 returns : tie.Need-returns Inv-loop μ-loop
 returns c =
-    let s = c .before .before .before .before .before .before in
     going-ends (c .before .loop .inv) (rw editsOf-length (c .loop-test .left))
 
 pub edit-each-spec : {M : Type 1} → statement M
@@ -127,9 +136,10 @@ edit-each-spec =
     edit-by-value-requires
     answer-number-requires
     slice-write-numbers
-    answer-place-requires
-    mul-places
-    slice-write-places
+    answer-row-requires
+    slice-write-named
+    answer-column-requires
+    slice-write-across
     add-i
     loop-less
     loop-again
@@ -138,4 +148,5 @@ edit-each-spec =
     same-length-3
     same-length-4
     same-length-5
+    same-length-6
     returns)

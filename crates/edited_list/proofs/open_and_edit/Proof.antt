@@ -21,7 +21,7 @@ abbrev lent : tie.Start → Buffers
 lent s = buffers (s .args .coeff .now) (s .args .inter .now) (s .args .residual .now)
 
 abbrev count : tie.Start → ℕ
-count s = editCount (length (s .args .rows .now)) (length (s .args .columns .now)) (length (s .args .values .now)) (length (s .args .numbers .now)) (length (s .args .places .now))
+count s = editCount (length (s .args .rows .now)) (length (s .args .columns .now)) (length (s .args .values .now)) (length (s .args .numbers .now)) (length (s .args .named .now)) (length (s .args .across .now))
 
 abbrev edits : tie.Start → List Edit
 edits s = editsOf (count s) (s .args .rows .now) (s .args .columns .now) (s .args .values .now)
@@ -45,8 +45,8 @@ returns : tie.Need-returns
 unfolding openedAs
 returns c =
     let called = c .before .before .before .before .before .before .open-block in
-    let s = c .before .before .before .before .before .before .before .before .before .before .before .before .before .before in
-    lists-refused (opening s) (lent s) (edits s) (s .args .numbers .now) (s .args .places .now) _ (called .last .1 .1 .1 .1 .1 .0) (called .last .1 .1 .1 .1 .1 .1 .0) (c .before .given .given .0 .0)
+    let s = c .before .before .before .before .before .before .before .before .before .before .before .before .before .before .before in
+    lists-refused (opening s) (lent s) (edits s) (s .args .numbers .now) (s .args .named .now) (s .args .across .now) _ (called .last .1 .1 .1 .1 .1 .0) (called .last .1 .1 .1 .1 .1 .1 .0) (c .before .given .given .0 .0)
     (sym (called .ensures .answered) ∙ ap answer (c .before .given .given .1)) refl refl (called .ensures .block) (called .ensures .inter) (called .ensures .res)
 
 enum-told : tie.Need-enum-told
@@ -57,9 +57,9 @@ edit-count-requires c κs = search needs
 
 edit-each-requires : tie.Need-edit-each-requires
 edit-each-requires c κs =
-    let counted = c .before .before .before .before .before .edit-count in
-    let s = c .before .before .before .before .before .before .before .before .before .before .before .before .before .before .before .before .before .before .before in
-    rw (counted .ensures) (count-ask (length (s .args .rows .now)) (length (s .args .columns .now)) (length (s .args .values .now)) (length (s .args .numbers .now)) (length (s .args .places .now)))
+    let counted = c .before .before .before .before .before .before .edit-count in
+    let s = c .before .before .before .before .before .before .before .before .before .before .before .before .before .before .before .before .before .before .before .before .before in
+    rw (counted .ensures) (count-ask (length (s .args .rows .now)) (length (s .args .columns .now)) (length (s .args .values .now)) (length (s .args .numbers .now)) (length (s .args .named .now)) (length (s .args .across .now)))
 
 same-length-4 : tie.Need-same-length-4
 same-length-4 c = search needs
@@ -76,16 +76,19 @@ same-length-7 c = search needs
 same-length-8 : tie.Need-same-length-8
 same-length-8 c = search needs
 
+same-length-9 : tie.Need-same-length-9
+same-length-9 c = search needs
+
 returns-2 : tie.Need-returns-2
 unfolding openedAs
 returns-2 c =
-    let each = c .before .before .before .before .before .before .before .edit-each in
-    let counted = c .before .before .before .before .before .before .before .before .before .before .before .before .before .edit-count in
-    let called = c .before .before .before .before .before .before .before .before .before .before .before .before .before .before .before .before .before .before .before .open-block in
-    let s = c .before .before .before .before .before .before .before .before .before .before .before .before .before .before .before .before .before .before .before .before .before .before .before .before .before .before .before in
-    let told = c .before .before .before .before .before .before .before .before .before .before .before .before .before .before .enum-told .given .1 in
+    let each = c .before .before .before .before .before .before .before .before .before .edit-each in
+    let counted = c .before .before .before .before .before .before .before .before .before .before .before .before .before .before .before .before .edit-count in
+    let called = c .before .before .before .before .before .before .before .before .before .before .before .before .before .before .before .before .before .before .before .before .before .before .open-block in
+    let s = c .before .before .before .before .before .before .before .before .before .before .before .before .before .before .before .before .before .before .before .before .before .before .before .before .before .before .before .before .before .before .before in
+    let told = c .before .before .before .before .before .before .before .before .before .before .before .before .before .before .before .before .before .enum-told .given .1 in
     let is = ran-from-opening (opening s) (lent s) (edits s) (called .result .block) (called .last .1 .1 .1 .1 .1 .0) (called .last .1 .1 .1 .1 .1 .1 .0) (called .ensures .block) (called .ensures .inter) (called .ensures .res) in
-    lists-done (opening s) (lent s) (edits s) (s .args .numbers .now) (s .args .places .now) _ _ _ _ _ _
+    lists-done (opening s) (lent s) (edits s) (s .args .numbers .now) (s .args .named .now) (s .args .across .now) _ _ _ _ _ _ _
     (sym (called .ensures .answered) ∙ ap answer told) refl (counted .ensures ∙ sym (editsOf-length (count s) (s .args .rows .now) (s .args .columns .now) (s .args .values .now)))
     (rw is at (rw (counted .ensures) at (each .ensures)))
 
@@ -107,4 +110,5 @@ open-and-edit-spec =
     same-length-6
     same-length-7
     same-length-8
+    same-length-9
     returns-2)

@@ -29,26 +29,23 @@ enum-told-7 c = search needs
 enum-told-8 : tie.Need-enum-told-8
 enum-told-8 c = search needs
 
+enum-told-9 : tie.Need-enum-told-9
+enum-told-9 c = search needs
+
 enum-known-refusal : tie.Need-enum-known-refusal
 enum-known-refusal c = search needs
 
+enum-told-10 : tie.Need-enum-told-10
+enum-told-10 c = search needs
+
 enum-known-refusal-2 : tie.Need-enum-known-refusal-2
 enum-known-refusal-2 c = search needs
-
-enum-told-9 : tie.Need-enum-told-9
-enum-told-9 c = search needs
 
 enum-known-refusal-3 : tie.Need-enum-known-refusal-3
 enum-known-refusal-3 c = search needs
 
 enum-known-refusal-4 : tie.Need-enum-known-refusal-4
 enum-known-refusal-4 c = search needs
-
-enum-known-refusal-5 : tie.Need-enum-known-refusal-5
-enum-known-refusal-5 c = search needs
-
-enum-told-10 : tie.Need-enum-told-10
-enum-told-10 c = search needs
 
 enum-told-11 : tie.Need-enum-told-11
 enum-told-11 c = search needs
@@ -58,6 +55,12 @@ enum-told-12 c = search needs
 
 enum-told-13 : tie.Need-enum-told-13
 enum-told-13 c = search needs
+
+enum-told-14 : tie.Need-enum-told-14
+enum-told-14 c = search needs
+
+enum-told-15 : tie.Need-enum-told-15
+enum-told-15 c = search needs
 
 returns : tie.Need-returns
 returns c = sym (ap place (c .enum-told .given .1))
@@ -84,34 +87,37 @@ returns-8 : tie.Need-returns-8
 returns-8 c = sym (ap place (c .enum-told8 .given .1))
 
 returns-9 : tie.Need-returns-9
-returns-9 c = sym (ap place (c .before .refusal .given .1))
+returns-9 c = sym (ap place (c .enum-told9 .given .1))
 
 returns-10 : tie.Need-returns-10
-returns-10 c = sym (ap place (c .before .refusal2 .given .1))
+returns-10 c = sym (ap place (c .before .refusal .given .1))
 
 returns-11 : tie.Need-returns-11
-returns-11 c = sym (ap place (c .enum-told9 .given .1))
+returns-11 c = sym (ap place (c .enum-told10 .given .1))
 
 returns-12 : tie.Need-returns-12
-returns-12 c = sym (ap place (c .before .refusal3 .given .1))
+returns-12 c = sym (ap place (c .before .refusal2 .given .1))
 
 returns-13 : tie.Need-returns-13
-returns-13 c = sym (ap place (c .before .refusal4 .given .1))
+returns-13 c = sym (ap place (c .before .refusal3 .given .1))
 
 returns-14 : tie.Need-returns-14
-returns-14 c = sym (ap place (c .before .refusal5 .given .1))
+returns-14 c = sym (ap place (c .before .refusal4 .given .1))
 
 returns-15 : tie.Need-returns-15
-returns-15 c = sym (ap place (c .enum-told10 .given .1))
+returns-15 c = sym (ap place (c .enum-told11 .given .1))
 
 returns-16 : tie.Need-returns-16
-returns-16 c = sym (ap place (c .enum-told11 .given .1))
+returns-16 c = sym (ap place (c .enum-told12 .given .1))
 
 returns-17 : tie.Need-returns-17
-returns-17 c = sym (ap place (c .enum-told12 .given .1))
+returns-17 c = sym (ap place (c .enum-told13 .given .1))
 
 returns-18 : tie.Need-returns-18
-returns-18 c = sym (ap place (c .enum-told13 .given .1))
+returns-18 c = sym (ap place (c .enum-told14 .given .1))
+
+returns-19 : tie.Need-returns-19
+returns-19 c = sym (ap place (c .enum-told15 .given .1))
 
 pub place-spec : {M : Type 1} → statement M
 place-spec =
@@ -125,16 +131,17 @@ place-spec =
     enum-told-6
     enum-told-7
     enum-told-8
-    enum-known-refusal
-    enum-known-refusal-2
     enum-told-9
+    enum-known-refusal
+    enum-told-10
+    enum-known-refusal-2
     enum-known-refusal-3
     enum-known-refusal-4
-    enum-known-refusal-5
-    enum-told-10
     enum-told-11
     enum-told-12
     enum-told-13
+    enum-told-14
+    enum-told-15
     returns
     returns-2
     returns-3
@@ -152,4 +159,5 @@ place-spec =
     returns-15
     returns-16
     returns-17
-    returns-18)
+    returns-18
+    returns-19)

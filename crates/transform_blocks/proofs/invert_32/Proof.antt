@@ -10,11 +10,11 @@ use Rattle.integers.specs.Lists.{overwrite}
 use Rattle.h265.specs.Range.{transformRange}
 use Rattle.h265.specs.Transform.{rowOrder, residual}
 use Rattle.h265.proofs.RangeLaws.{size-square, transformRange-least, transformRange-most, transformRange-depth}
-use Rattle.refusal.specs.declared.Refusal.the-variants.{SizeInvalid, DepthInvalid, InputTooShort, OutputTooShort, CoefficientOutside}
+use Rattle.refusal.specs.declared.Refusal.the-variants.{SizeInvalid, DepthInvalid, InputTooShort, OutputTooShort}
 use Rattle.refusal.specs.Condition.{sizeRefused, depthRefused, blockRefused}
-use Rattle.refusal.specs.Written.{wrote}
+use Rattle.refusal.specs.Written.{left, wrote}
 use Rattle.refusal.proofs.ConditionLaws.{size-accepted, depth-accepted}
-use Rattle.coefficients.specs.Outside.{firstOutside}
+use Rattle.coefficients.specs.Outside.{firstOutside, refusalAt}
 use Rattle.coefficients.proofs.OutsideLaws.{firstOutside-inside}
 use Rattle.transform_1d.specs.MatrixOf.{matrixOf}
 use Rattle.transform_blocks.proofs.BlocksLaws.{writes-refused, writes-done, Checked, inverted-size, inverted-depth, inverted-input, inverted-output, inverted-outside, inverted-done, block-least, firstOutside-least}
@@ -94,11 +94,20 @@ first-is c =
     ∙ ap₂ (λ (r k : ℕ). firstOutside r (s .args .n) k (s .args .coeff .now)) (c .before .before .transform-range .ensures) (c .before .least .ensures)
     ∙ firstOutside-least _ (s .args .n) (s .args .nx) (s .args .coeff .now))
 
+refusal-at-requires : tie.Need-refusal-at-requires
+refusal-at-requires c κs =
+    let e = c .before .before .before .before in
+    let s = e .before .before .before .before .before .before in
+    (size-accepted (s .args .n) (checked e .size), c .if5 .taken, e .before .if3 .left, range-most (c .before .before .before))
+
 returns-5 : tie.Need-returns-5
 returns-5 c =
-    let f = c .before in
-    writes-refused (CoefficientOutside (f .first-outside .result))
-    (inverted-outside false _ _ _ _ _ _ _ (f .first-outside .result) (checked (f .before .before .before)) (first-is f) (c .if5 .taken))
+    let f = c .before .before in
+    let r = f .before .before in
+    let s = r .before .before .before .before .before .before .before in
+    writes-refused (c .refusal-at .result)
+    (inverted-outside false _ _ _ _ _ _ _ (f .first-outside .result) (checked (r .before)) (first-is f) (c .before .if5 .taken)
+    ∙ ap (left (s .args .out .now)) (sym (c .refusal-at .ensures ∙ ap (λ (q : ℕ). refusalAt q (s .args .n) (s .args .coeff .now) (f .first-outside .result)) (r .transform-range .ensures))))
 
 invert-in-requires : tie.Need-invert-in-requires
 invert-in-requires c κs =
@@ -146,4 +155,4 @@ invert-32-spec =
     tie.close
     (tie.spec
     size-refused-requires returns depth-refused-requires returns-2 mul-if3 returns-3 mul-if4 returns-4 transform-range-requires
-    least-requires first-outside-requires mul-if5 returns-5 invert-in-requires same-length returns-6)
+    least-requires first-outside-requires mul-if5 refusal-at-requires returns-5 invert-in-requires same-length returns-6)

@@ -28,16 +28,20 @@ same-length-4 c = search needs
 same-length-5 : tie.Need-same-length-5
 same-length-5 c = search needs
 
+same-length-6 : tie.Need-same-length-6
+same-length-6 c = search needs
+
 returns : tie.Need-returns
 returns c =
     let told = c .block-answered .ensures in
-    let l = rw (c .before .before .before .before .before .before .before .before .before .before .before .before .before .before .before .kind-of .ensures) at (c .before .before .before .before .before .before .before .before .before .open-and-edit .ensures) in
+    let l = rw (c .before .before .before .before .before .before .before .before .before .before .before .before .before .before .before .before .before .before .kind-of .ensures) at (c .before .before .before .before .before .before .before .before .before .before .before .open-and-edit .ensures) in
     record {
       answered = record { answered = told .answered ∙ l .answered; block-is = told .block-is ∙ l .block };
       edits = l .edits;
       buffers = l .buffers;
       numbers-are = l .numbers-are;
-      places-are = l .places-are;
+      rows-are = l .rows-are;
+      columns-are = l .columns-are;
     }
 
 pub residual-open-and-edit-spec : {M : Type 1} → statement M
@@ -52,4 +56,5 @@ residual-open-and-edit-spec =
     same-length-3
     same-length-4
     same-length-5
+    same-length-6
     returns)

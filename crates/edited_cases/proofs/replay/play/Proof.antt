@@ -8,10 +8,10 @@ use Rattle.edited_cases.proofs.replay.play.Statement.{statement}
 use Rattle.edited_cases.proofs.replay.play.Tie as tie
 
 abbrev Inv-loop : tie.InvT-loop
-Inv-loop setting edits coeff₀ inter₀ residual₀ kept₀ numbers₀ places₀ block₀ tally₀ i₀ coeff inter residual kept numbers places block tally i = (length coeff ≡ length coeff₀) × (length inter ≡ length inter₀) × (length residual ≡ length residual₀) × (length kept ≡ length kept₀) × (i ≤ 100)
+Inv-loop setting edits coeff₀ inter₀ residual₀ kept₀ numbers₀ named₀ across₀ block₀ tally₀ i₀ coeff inter residual kept numbers named across block tally i = (length coeff ≡ length coeff₀) × (length inter ≡ length inter₀) × (length residual ≡ length residual₀) × (length kept ≡ length kept₀) × (i ≤ 100)
 
 abbrev μ-loop : tie.MeasureT-loop
-μ-loop setting edits coeff₀ inter₀ residual₀ kept₀ numbers₀ places₀ block₀ tally₀ i₀ coeff inter residual kept numbers places block tally i = 100 - i
+μ-loop setting edits coeff₀ inter₀ residual₀ kept₀ numbers₀ named₀ across₀ block₀ tally₀ i₀ coeff inter residual kept numbers named across block tally i = 100 - i
 
 no-tally-requires : tie.Need-no-tally-requires Inv-loop μ-loop
 no-tally-requires c κs = search needs
@@ -28,11 +28,11 @@ turn-requires c κs = search needs
 array-write-numbers : tie.Need-array-write-numbers Inv-loop μ-loop
 array-write-numbers c = omega arith
 
-mul-places : tie.Need-mul-places Inv-loop μ-loop
-mul-places c = omega arith
+array-write-named : tie.Need-array-write-named Inv-loop μ-loop
+array-write-named c = omega arith
 
-array-write-places : tie.Need-array-write-places Inv-loop μ-loop
-array-write-places c = omega arith
+array-write-across : tie.Need-array-write-across Inv-loop μ-loop
+array-write-across c = omega arith
 
 tallied-requires : tie.Need-tallied-requires Inv-loop μ-loop
 tallied-requires c κs = search needs
@@ -76,8 +76,8 @@ play-spec =
     edit-at-requires
     turn-requires
     array-write-numbers
-    mul-places
-    array-write-places
+    array-write-named
+    array-write-across
     tallied-requires
     add-i
     loop-less
