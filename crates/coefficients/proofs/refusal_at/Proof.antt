@@ -36,7 +36,9 @@ rem-outside-refusal c = omega (arith, size-bound (c .before .args .n) (c .before
 outside-refusal-requires : tie.Need-outside-refusal-requires
 outside-refusal-requires c κs =
     let s = c .before in
-    (s .pre .3, row-below (s .args .n) (s .args .index) (s .pre .0) (s .pre .1), column-below (s .args .n) (s .args .index) (s .pre .0))
+    let r = row-below (s .args .n) (s .args .index) (s .pre .0) (s .pre .1) in
+    let k = column-below (s .args .n) (s .args .index) (s .pre .0) in
+    (s .pre .3, omega (arith, r, k), omega (arith, r, k))
 
 returns : tie.Need-returns
 unfolding refusalAt
