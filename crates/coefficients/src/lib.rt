@@ -86,7 +86,7 @@ fn reach(x: i32) -> u32
 }
 
 // Whether the first len coefficients all lie in the range. One pass with no way out, so that the compiler takes several at a time.
-fn all_inside(coeff: &[i32], len: usize, range: u32) -> bool
+pub fn all_inside(coeff: &[i32], len: usize, range: u32) -> bool
     requires { ⌜ (len ≤ length (now coeff)) × (range ≤ 22) ⌝ }
     ensures { λ r. ⌜ (r ≡ true → (i : ℕ) → i < len → outsideRange range (getD (now (coeff .entry)) i (pos 0)) ≡ false) ⌝ }
 {

@@ -5,6 +5,7 @@
 --   transformLine-parts                   a line of values is made of the lines of their parts
 --   roundShift-parts                      so is its rounding, since 2^15 is a multiple of 2^s
 --   limited-within                        a limited value is at most 2^22 in size
+--   limited-inside, inside-within         a value in the range is its own limit, and so at most 2^22 in size
 --   tests-narrow                          what two tests say of a value that fits 16 bits
 --   narrow-zero, -suc                     no value; one value more
 use mathlib.Core.Path.{_≡_, refl, sym, ap, _∙_, subst}
@@ -26,11 +27,11 @@ use Rattle.integers.specs.Within.{Within}
 use Rattle.integers.proofs.LinearLaws.{split, ring, diff-ext, parts-add, parts-mul, parts-neg, le-in}
 use Rattle.integers.proofs.MachineLaws.{ltZ-false}
 use Rattle.integers.proofs.OrderLaws.{*ℤ-assoc, shr-floor, shr-shift}
-use Rattle.integers.proofs.BoundLaws.{within-out, within-in, within-le}
+use Rattle.integers.proofs.BoundLaws.{within-out, within-in, within-le, within-eq}
 use Rattle.integers.proofs.SumLaws.{sum-cong}
-use Rattle.h265.specs.Range.{clipCoeff}
+use Rattle.h265.specs.Range.{clipCoeff, outsideRange}
 use Rattle.h265.specs.Transform.{transformLine}
-use Rattle.h265.proofs.RangeLaws.{clipCoeff-within}
+use Rattle.h265.proofs.RangeLaws.{clipCoeff-within, clipCoeff-id, outsideRange-false}
 use Rattle.stages_wide.specs.Parts.{highPart, lowPart, joinParts, Narrow}
 
 pub parts-join : (x : ℤ) → joinParts (highPart x) (lowPart x) ≡ x
@@ -92,6 +93,12 @@ roundShift-parts h l s i =
 
 pub limited-within : {r : ℕ} (z : ℤ) → r ≤ 22 → Within (2 ^ 22) (clipCoeff r z)
 limited-within {r} z h = within-le (pow-mono h) (clipCoeff-within r z)
+
+pub limited-inside : (r : ℕ) (z : ℤ) → outsideRange r z ≡ false → clipCoeff r z ≡ z
+limited-inside r z e = let b = outsideRange-false r z e in clipCoeff-id r z (b .0) (b .1)
+
+pub inside-within : (r : ℕ) (z : ℤ) → r ≤ 22 → outsideRange r z ≡ false → Within (2 ^ 22) z
+inside-within r z h e = within-eq (sym (limited-inside r z e)) (limited-within z h)
 
 -- ---- values that fit 16 bits
 pub tests-narrow : (z : ℤ) → ltZ z (negsuc 32767) ≡ false → ltZ (pos 32767) z ≡ false → SFits w16 z

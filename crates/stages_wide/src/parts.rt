@@ -10,6 +10,7 @@ ghost use Rattle.integers.specs.Within.{Within};
 ghost use Rattle.h265.specs.Range.{coeffMin, coeffMax, clipCoeff};
 ghost use Rattle.transform_1d.specs.Rows.{Placed};
 ghost use Rattle.stages_wide.specs.Parts.{highPart, lowPart, limitedAt, Narrow};
+use coefficients::all_inside;
 
 // The least value of the range.
 fn least(range: u32) -> i32
@@ -117,7 +118,7 @@ pub fn narrow(s: &[i32], w: usize, l: &mut [i16])
 }
 
 // The parts of the first w values, limited as they are read.
-pub fn split(s: &[i32], w: usize, range: u32, h: &mut [i16], l: &mut [i16])
+fn split_limited(s: &[i32], w: usize, range: u32, h: &mut [i16], l: &mut [i16])
     requires { ⌜ (range ≤ 22) × (w ≤ length (now s)) × (w ≤ length (now h)) × (w ≤ length (now l)) ⌝ }
     ensures { λ _. ⌜ Placed 0 w (λ j. highPart (limitedAt range (now (s .entry)) j)) (now (h .entry)) (now (h .exit)) × Placed 0 w (λ j. lowPart (limitedAt range (now (s .entry)) j)) (now (l .entry)) (now (l .exit)) ⌝ }
 {
@@ -127,6 +128,37 @@ pub fn split(s: &[i32], w: usize, range: u32, h: &mut [i16], l: &mut [i16])
         h[j] = high(x);
         l[j] = low(x);
         j += 1;
+    }
+}
+
+// The parts of the first w values as they stand.
+fn split_inside(s: &[i32], w: usize, h: &mut [i16], l: &mut [i16])
+    requires { ⌜ (w ≤ length (now s)) × (w ≤ length (now h)) × (w ≤ length (now l)) × ((j : ℕ) → j < w → Within (2 ^ 22) (getD (now s) j (pos 0))) ⌝ }
+    ensures { λ _. ⌜ Placed 0 w (λ j. highPart (getD (now (s .entry)) j (pos 0))) (now (h .entry)) (now (h .exit)) × Placed 0 w (λ j. lowPart (getD (now (s .entry)) j (pos 0))) (now (l .entry)) (now (l .exit)) ⌝ }
+{
+    let mut j: usize = 0;
+    while j < w {
+        let x = s[j];
+        h[j] = high(x);
+        l[j] = low(x);
+        j += 1;
+    }
+}
+
+// The parts of the first w values, limited as they are read. Values in the range are their own limits, and to look for one outside costs
+// less than to limit all: an eighth first, where mostly one is found if there are any. One call after the ifs would be slower than two.
+pub fn split(s: &[i32], w: usize, range: u32, h: &mut [i16], l: &mut [i16])
+    requires { ⌜ (range ≤ 22) × (w ≤ length (now s)) × (w ≤ length (now h)) × (w ≤ length (now l)) ⌝ }
+    ensures { λ _. ⌜ Placed 0 w (λ j. highPart (limitedAt range (now (s .entry)) j)) (now (h .entry)) (now (h .exit)) × Placed 0 w (λ j. lowPart (limitedAt range (now (s .entry)) j)) (now (l .entry)) (now (l .exit)) ⌝ }
+{
+    if all_inside(s, w / 8, range) {
+        if all_inside(s, w, range) {
+            split_inside(s, w, h, l);
+        } else {
+            split_limited(s, w, range, h, l);
+        }
+    } else {
+        split_limited(s, w, range, h, l);
     }
 }
 

@@ -1,125 +1,88 @@
--- `stages_wide::parts::split` meets its contract: the loop has placed the parts of the values passed. The measure is what is left.
-use mathlib.Core.Path.{_≡_, ap, _∙_}
-use Prim.Native.Nat.{_≤_, _-_}
-use native.Mathlib.Omega.{arith}
-use borrow.Author.Needs.{sfits-of}
-use lib.IntN.{ℤ, pos}
-use lib.ListN.{getD, length}
-use mir.Syntax.{w16, w32}
-use mir.Val.{SFits}
-use mir.Facts.{toZ-ofZ}
-use Rattle.integers.proofs.BoundLaws.{within-eq}
-use Rattle.transform_1d.specs.Rows.{Placed}
-use Rattle.transform_1d.proofs.RowsLaws.{placed-zero, placed-suc, placed-all}
+-- `stages_wide::parts::split` meets its contract: where the second look finds every value in the range, each is its own limit.
+use mathlib.Core.Path.{_≡_, sym, ap}
+use mathlib.Core.Bool.{false}
+use Prim.Native.Nat.{ℕ, _<_}
+use borrow.Author.Needs.{needs}
+use lib.IntN.{pos}
+use lib.ListN.{getD}
+use Rattle.h265.specs.Range.{outsideRange}
+use Rattle.transform_1d.proofs.RowsLaws.{placed-cong}
 use Rattle.stages_wide.specs.Parts.{highPart, lowPart, limitedAt}
-use Rattle.stages_wide.proofs.PartsLaws.{limited-within}
+use Rattle.stages_wide.proofs.PartsLaws.{limited-inside, inside-within}
 use Rattle.stages_wide.proofs.parts.split.Statement.{statement}
 use Rattle.stages_wide.proofs.parts.split.Tie as tie
 
-abbrev Inv-loop : tie.InvT-loop
-Inv-loop s w range h₀ l₀ j₀ h l j = (j ≤ w) × Placed 0 j (λ i. highPart (limitedAt range s i)) h₀ h × Placed 0 j (λ i. lowPart (limitedAt range s i)) l₀ l
+all-inside-requires : tie.Need-all-inside-requires
+all-inside-requires c κs = search needs
 
-abbrev μ-loop : tie.MeasureT-loop
-μ-loop s w range h₀ l₀ j₀ h l j = w - j
+all-inside-requires-2 : tie.Need-all-inside-requires-2
+all-inside-requires-2 c κs = search needs
 
-loop-holds : tie.Need-loop-holds Inv-loop μ-loop
-loop-holds c = (omega arith, placed-zero, placed-zero)
+module _ (c : tie.Then2) where
+  inside : (j : ℕ) → j < c .before .before .before .before .args .w
+      → outsideRange (c .before .before .before .before .args .range) (getD (c .before .before .before .before .args .s .now) j (pos 0)) ≡ false
+  inside = c .before .all-inside2 .ensures (c .if2 .taken)
 
-mul-limited : tie.Need-mul-limited Inv-loop μ-loop
-mul-limited c = omega arith
+  own-limit : (j : ℕ) → j < c .before .before .before .before .args .w
+      → getD (c .before .before .before .before .args .s .now) j (pos 0) ≡ limitedAt (c .before .before .before .before .args .range) (c .before .before .before .before .args .s .now) j
+  own-limit j i = sym (limited-inside _ _ (inside j i))
 
-shared-slice-copy-out-limited : tie.Need-shared-slice-copy-out-limited Inv-loop μ-loop
-shared-slice-copy-out-limited c = omega arith
+split-inside-requires : tie.Need-split-inside-requires
+split-inside-requires c κs =
+    let a = c .before .before .before .before .before .before .pre in
+    (a .1, a .2, a .3, λ j i. inside-within _ _ (a .0) (inside (c .before .before) j i))
 
-limited-requires : tie.Need-limited-requires Inv-loop μ-loop
-limited-requires c κs = omega (arith, c .before .before .before .pre .0)
+split-limited-requires : tie.Need-split-limited-requires
+split-limited-requires c κs = search needs
 
-limited-fits : (c : tie.After-limited Inv-loop μ-loop) → SFits w32 (c .limited .result)
-limited-fits c = sfits-of (c .limited .ok)
+split-limited-requires-2 : tie.Need-split-limited-requires-2
+split-limited-requires-2 c κs = search needs
 
-high-requires : tie.Need-high-requires Inv-loop μ-loop
-high-requires c κs = simp (toZ-ofZ, limited-fits c) (within-eq (c .limited .ensures) (limited-within _ (omega (arith, c .before .before .before .before .pre .0))))
+same-length : tie.Need-same-length
+same-length c = search needs
 
-mul-l : tie.Need-mul-l Inv-loop μ-loop
-mul-l c = omega arith
+same-length-2 : tie.Need-same-length-2
+same-length-2 c = search needs
 
-slice-set-from-l : tie.Need-slice-set-from-l Inv-loop μ-loop
-slice-set-from-l c = omega (arith, c .before .before .before .before .loop .inv .1 .long)
+returns : tie.Need-returns
+returns c =
+    let e = own-limit (c .before .before .before .before .before) in
+    let placed = c .before .before .split-inside .ensures in
+    (placed-cong (λ j i. ap highPart (e j i)) (placed .0), placed-cong (λ j i. ap lowPart (e j i)) (placed .1))
 
-low-requires : tie.Need-low-requires Inv-loop μ-loop
-low-requires c κs = simp (toZ-ofZ, limited-fits (c .before)) (within-eq (c .before .limited .ensures) (limited-within _ (omega (arith, c .before .before .before .before .before .pre .0))))
+same-length-3 : tie.Need-same-length-3
+same-length-3 c = search needs
 
-mul-t9 : tie.Need-mul-t9 Inv-loop μ-loop
-mul-t9 c = omega arith
+same-length-4 : tie.Need-same-length-4
+same-length-4 c = search needs
 
-slice-set-from-l-2 : tie.Need-slice-set-from-l-2 Inv-loop μ-loop
-slice-set-from-l-2 c = omega (arith, c .before .before .before .before .before .loop .inv .2 .long)
+returns-2 : tie.Need-returns-2
+returns-2 c = search needs
 
-add-j : tie.Need-add-j Inv-loop μ-loop
-add-j c = omega arith
+same-length-5 : tie.Need-same-length-5
+same-length-5 c = search needs
 
-loop-less : tie.Need-loop-less Inv-loop μ-loop
-loop-less c = omega arith
+same-length-6 : tie.Need-same-length-6
+same-length-6 c = search needs
 
-module _ (c : tie.After-low Inv-loop μ-loop) where
-  abbrev value : ℤ
-  value = limitedAt (c .before .before .before .before .before .before .args .range) (c .before .before .before .before .before .before .args .s .now) (c .before .before .before .before .before .loop .j)
-
-  source-fits : SFits w32 (getD (c .before .before .before .before .before .before .args .s .now) (c .before .before .before .before .before .loop .j) (pos 0))
-  source-fits = record { sfits = c .before .before .before .limited-arg .given }
-
-  high-fits : SFits w16 (c .before .high .result)
-  high-fits = sfits-of (c .before .high .ok)
-
-  low-fits : SFits w16 (c .low .result)
-  low-fits = sfits-of (c .low .ok)
-
-module _ (c : tie.After-low Inv-loop μ-loop) where
-  value-is : c .before .before .limited .result ≡ value c
-  value-is = simp (toZ-ofZ, source-fits c) at (c .before .before .limited .ensures)
-
-  high-is : c .before .high .result ≡ highPart (value c)
-  high-is = (simp (toZ-ofZ, limited-fits (c .before .before)) at (c .before .high .ensures)) ∙ ap highPart value-is
-
-  low-is : c .low .result ≡ lowPart (value c)
-  low-is = (simp (toZ-ofZ, limited-fits (c .before .before)) at (c .low .ensures)) ∙ ap lowPart value-is
-
-loop-again : tie.Need-loop-again Inv-loop μ-loop
-loop-again c =
-    let i = c .before .before .before .before .before .loop .inv in (
-      omega arith,
-      placed-suc (i .1) (omega arith) (omega arith) (simp (toZ-ofZ, high-fits c) (high-is c)),
-      placed-suc (i .2) (omega arith) (omega arith) (simp (toZ-ofZ, low-fits c) (low-is c)),
-    )
-
-same-length : tie.Need-same-length Inv-loop μ-loop
-same-length c = c .before .loop .inv .1 .long
-
-same-length-2 : tie.Need-same-length-2 Inv-loop μ-loop
-same-length-2 c = c .before .loop .inv .2 .long
-
-returns : tie.Need-returns Inv-loop μ-loop
-returns c = (placed-all _ (omega arith) (c .before .loop .inv .1), placed-all _ (omega arith) (c .before .loop .inv .2))
+returns-3 : tie.Need-returns-3
+returns-3 c = search needs
 
 pub split-spec : {M : Type 1} → statement M
 split-spec =
     tie.close
     (tie.spec
-    Inv-loop
-    μ-loop
-    loop-holds
-    mul-limited
-    shared-slice-copy-out-limited
-    limited-requires
-    high-requires
-    mul-l
-    slice-set-from-l
-    low-requires
-    mul-t9
-    slice-set-from-l-2
-    add-j
-    loop-less
-    loop-again
+    all-inside-requires
+    all-inside-requires-2
+    split-inside-requires
+    split-limited-requires
+    split-limited-requires-2
     same-length
     same-length-2
-    returns)
+    returns
+    same-length-3
+    same-length-4
+    returns-2
+    same-length-5
+    same-length-6
+    returns-3)
