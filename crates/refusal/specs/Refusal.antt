@@ -3,7 +3,7 @@
 --   place e    the place that it names, else 0
 use Prim.Native.Nat.{ℕ}
 use Rattle.refusal.specs.declared.Refusal.{Refusal}
-use Rattle.refusal.specs.declared.Refusal.the-variants.{SizeInvalid, DepthInvalid, WidthTooNarrow, DstSizeInvalid, ListLengthInvalid, InputTooShort, OutputTooShort, PlaceOutside, CoefficientOutside, SampleOutside, PictureInvalid, BitsEnded, ReferenceMissing, ListValueInvalid, KindUnknown, BodyTooShort, LevelsBeforeParameters, ParameterInvalid}
+use Rattle.refusal.specs.declared.Refusal.the-variants.{SizeInvalid, DepthInvalid, WidthTooNarrow, DstSizeInvalid, ListLengthInvalid, InputTooShort, OutputTooShort, PlaceOutside, CoefficientOutside, SampleOutside, PictureInvalid, BitsEnded, ReferenceMissing, ListValueInvalid, StreamFull, ListMissing, KindUnknown, BodyTooShort, LevelsBeforeParameters, ParameterInvalid}
 
 abbrev pub number : Refusal → ℕ
 number SizeInvalid = 1
@@ -20,6 +20,8 @@ number PictureInvalid = 13
 number (BitsEnded at) = 14
 number (ReferenceMissing at) = 15
 number (ListValueInvalid at) = 16
+number StreamFull = 17
+number ListMissing = 18
 number KindUnknown = 20
 number BodyTooShort = 21
 number LevelsBeforeParameters = 22
@@ -40,6 +42,8 @@ place PictureInvalid = 0
 place (BitsEnded at) = at
 place (ReferenceMissing at) = at
 place (ListValueInvalid at) = at
+place StreamFull = 0
+place ListMissing = 0
 place KindUnknown = 0
 place BodyTooShort = 0
 place LevelsBeforeParameters = 0
