@@ -1,0 +1,4 @@
+-- Laws of places, of the streams in a table, and of lists of calls.
+pub mod PlaceLaws
+pub mod TableLaws
+pub mod AnswerLaws
