@@ -2,3 +2,4 @@
 pub mod PlaceLaws
 pub mod TableLaws
 pub mod AnswerLaws
+pub mod RunLaws
