@@ -3,3 +3,4 @@ pub mod PlaceLaws
 pub mod TableLaws
 pub mod AnswerLaws
 pub mod RunLaws
+pub mod ScaleLaws

@@ -12,7 +12,7 @@ use Rattle.list_table.specs.declared.StoreAnswer.{StoreAnswer}
 use Rattle.list_table.specs.declared.StoreAnswer.the-variants.{Stored, Refused as NotStored}
 use Rattle.list_table.specs.declared.ListAnswer.{ListAnswer}
 use Rattle.list_table.specs.declared.ListAnswer.the-variants.{Dc, Refused}
-use Rattle.list_table.specs.Stream.{Found, storeAnswer, dropAnswer, findAnswer}
+use Rattle.list_table.specs.Stream.{Found, storeAnswer, numberAnswer, findAnswer}
 use Rattle.list_table.specs.Table.{streamOf, short, storedTable, droppedTable}
 
 abbrev pub storeOutcome : StoreAnswer → Outcome ℕ
@@ -28,7 +28,7 @@ pub record Stores (r : StoreAnswer) (after : List ℕ) (table : List ℕ) (d : �
   pub table-is : after ≡ storedTable table d list dc
 
 pub record Drops (r : Answer) (after : List ℕ) (table : List ℕ) (d i : ℕ) : Type 0 where
-  pub answered : answer r ≡ dropAnswer (short table) d (streamOf table d) i
+  pub answered : answer r ≡ numberAnswer (short table) d (streamOf table d) i
   pub table-is : after ≡ droppedTable table d i
 
 pub record Finds (r : ListAnswer) (after : List ℕ) (w : Found) : Type 0 where

@@ -19,7 +19,7 @@ use lib.IntN.{ℤ}
 use lib.ListN.{length, set}
 use Rattle.refusal.specs.Outcome.{Outcome}
 use Rattle.refusal.specs.Written.{Written}
-use Rattle.list_table.specs.Stream.{Place, Stream, Block, Found, emptyStream, lowestFree, storeLadder, numberLadder, storeAnswer, dropAnswer, findAnswer, scaleAnswer}
+use Rattle.list_table.specs.Stream.{Place, Stream, Block, Found, emptyStream, lowestFree, storeLadder, numberLadder, storeAnswer, numberAnswer, findAnswer, scaleAnswer}
 use Rattle.list_table.specs.Stream.Place.{free, held}
 use Rattle.list_table.specs.Table.{streamOf, short, storedTable, droppedTable}
 
@@ -37,7 +37,7 @@ pub data Reply : Type 0 where
 
 abbrev pub replyTo : Bool → ℕ → Stream → Call → Reply
 replyTo short d s (store list dc) = stored (storeAnswer short d s list)
-replyTo short d s (drop i) = dropped (dropAnswer short d s i)
+replyTo short d s (drop i) = dropped (numberAnswer short d s i)
 replyTo short d s (find i out) = found (findAnswer short d s i out)
 replyTo short d s (scale i k out) = scaled (scaleAnswer short d s i k out)
 

@@ -8,7 +8,7 @@
 --   missing d s i     18: nor does it hold such a number
 --   full s            17: it holds 12 already
 --   storeAnswer       refuses 5, 7, 18, 17; else the lowest free number
---   dropAnswer        refuses 7, 18
+--   numberAnswer      of a call that hands back no value, as a drop: refuses 7, 18
 --   findAnswer        refuses 7, 18; else DC and the entries, at the start of a lent list
 --   scaleAnswer       refuses 1, 2, 3, 6, 7, 18; else the library's block with the list and DC of the number
 -- `short` says that the lent table has no room for 24 places, which is row 7 of these calls.
@@ -83,8 +83,8 @@ numberLadder stop done short d s i = cond short (stop OutputTooShort) (cond (mis
 unfoldable pub storeAnswer : Bool → ℕ → Stream → List ℕ → Outcome ℕ
 storeAnswer short d s list = storeLadder (refused 0) (accepted (lowestFree s)) short d s (length list)
 
-unfoldable pub dropAnswer : Bool → ℕ → Stream → ℕ → Outcome (Unit {0})
-dropAnswer short d s i = numberLadder (refused tt) (accepted tt) short d s i
+unfoldable pub numberAnswer : Bool → ℕ → Stream → ℕ → Outcome (Unit {0})
+numberAnswer short d s i = numberLadder (refused tt) (accepted tt) short d s i
 
 -- what a look at a number hands back: its outcome, and the lent list afterwards
 pub record Found : Type 0 where
