@@ -4,3 +4,4 @@ pub mod TableLaws
 pub mod AnswerLaws
 pub mod RunLaws
 pub mod ScaleLaws
+pub mod Examples

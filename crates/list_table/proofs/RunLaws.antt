@@ -2,12 +2,13 @@
 --   Changed, call-changes         what a call does to the places of its own stream, of every other, and to the table's length
 --   streams-do-not-meet           every stream gets what its own calls give it, made alone from the start
 --   other-calls-change-nothing    the same of two lists of calls that differ in other streams' calls alone
+--   unknown-stream-changes-nothing   a call with a stream that is not one of the two leaves the table as it is
 use mathlib.Core.Path.{_≡_, refl, sym, ap, ap₂, _∙_}
 use mathlib.Core.Bool.{Bool, true, false, cond}
 use mathlib.Core.List.{List, [], _∷_}
 use Prim.Native.Nat.{ℕ, _+_, _*_, _≤_, _<_}
 use native.Mathlib.Omega.{arith}
-use borrow.Author.Tests.{eqb-true, eqb-false, leb-false, not-false}
+use borrow.Author.Tests.{lt-ltb, eqb-true, eqb-false, leb-false, not-false}
 use lib.Dec.{eqb}
 use lib.ListN.{length, set, length-set, replicate}
 use lib.Seq.{length-paste}
@@ -20,10 +21,10 @@ use Rattle.refusal.proofs.LadderLaws.Rung.{rung}
 use Rattle.list_table.specs.Stream.{Place, Stream, emptyStream, lowestFree, streamRefused, missing, full, storeLadder, numberLadder}
 use Rattle.list_table.specs.Stream.Place.{free, held}
 use Rattle.list_table.specs.Table.{placeAt, streamOf, short, EmptyTable, put, storedTable, droppedTable}
-use Rattle.list_table.specs.Run.{Call, Reply, StreamCall, replyTo, replyOn, streamAfter, historyReplies, historyAfter, tableAfter, repliesFor, tableAfterAll, callsOf, FollowsOwnCalls}
+use Rattle.list_table.specs.Run.{Call, Reply, StreamCall, replyTo, replyOn, streamAfter, historyReplies, historyAfter, tableAfter, repliesFor, tableAfterAll, callsOf, FollowsOwnCalls, StreamsDoNotMeet, OtherCallsChangeNothing, UnknownStreamChangesNothing}
 use Rattle.list_table.specs.Run.Call.{store, drop, find, scale}
 use Rattle.list_table.proofs.PlaceLaws.{put-same, put-other, freed-same, freed-other}
-use Rattle.list_table.proofs.TableLaws.{stream-inside, number-inside, streamOf-kept, streamOf-set}
+use Rattle.list_table.proofs.TableLaws.{stream-inside, missing-stream, number-inside, streamOf-kept, streamOf-set}
 use Rattle.list_table.proofs.AnswerLaws.{table-long}
 
 -- after a call of stream d: its places, those of every other stream, and the length
@@ -149,11 +150,22 @@ empty-stream table d t = by-test (streamRefused d) refl
     by-test true e = refl
     by-test false e = tabulate-cong 12 (λ i. placeAt table (12 * d + i)) (λ i. free) (λ i h. free-place table (12 * d + i) t (omega (arith, stream-inside d e)))
 
-pub streams-do-not-meet : (d : ℕ) (table : List ℕ) (cs : List StreamCall) → EmptyTable table → FollowsOwnCalls d table cs
+pub streams-do-not-meet : StreamsDoNotMeet
 streams-do-not-meet d table cs t =
     let f = follows d cs table emptyStream (t .room) (empty-stream table d t) in record { replies = f .replies; places = f .places }
 
-pub other-calls-change-nothing : (d : ℕ) (table other : List ℕ) (cs es : List StreamCall) → EmptyTable table → EmptyTable other → callsOf d cs ≡ callsOf d es
-    → repliesFor d table cs ≡ repliesFor d other es
+pub other-calls-change-nothing : OtherCallsChangeNothing
 other-calls-change-nothing d table other cs es t u e =
     streams-do-not-meet d table cs t .replies ∙ ap (historyReplies d emptyStream) e ∙ sym (streams-do-not-meet d other es u .replies)
+
+-- ---- a stream that is not one of the two
+either-same : {A : Type 0} (t : Bool) (x : A) → cond t x x ≡ x
+either-same true x = refl
+either-same false x = refl
+
+pub unknown-stream-changes-nothing : UnknownStreamChangesNothing
+unfolding tableAfter storedTable droppedTable storeLadder numberLadder streamRefused
+unknown-stream-changes-nothing d table (store list dc) h = rw (lt-ltb 1 d h) (simp either-same)
+unknown-stream-changes-nothing d table (drop i) h = rw (missing-stream d (streamOf table d) i h) (either-same (short table) table)
+unknown-stream-changes-nothing d table (find i out) h = refl
+unknown-stream-changes-nothing d table (scale i k out) h = refl

@@ -10,10 +10,14 @@
 --   tableAfterAll table cs    the table after a list of calls
 --   callsOf d cs              the calls of a list that name stream d, in their order
 --   FollowsOwnCalls d table cs    stream d gets what its own calls give it, made alone from the start
+-- The statements; `proofs/RunLaws.antt` proves each under the name beside it.
+--   StreamsDoNotMeet              streams-do-not-meet: of every stream, every empty table and every list of calls
+--   OtherCallsChangeNothing       other-calls-change-nothing: two lists of calls with the same calls of a stream, in their order, get it the same replies
+--   UnknownStreamChangesNothing   unknown-stream-changes-nothing: a call with a stream that is not one of the two leaves every table as it is
 use mathlib.Core.Path.{_≡_}
 use mathlib.Core.Bool.{Bool, false, cond}
 use mathlib.Core.List.{List, [], _∷_}
-use Prim.Native.Nat.{ℕ}
+use Prim.Native.Nat.{ℕ, _<_}
 use lib.Dec.{eqb}
 use lib.IntN.{ℤ}
 use lib.ListN.{length, set}
@@ -21,7 +25,7 @@ use Rattle.refusal.specs.Outcome.{Outcome}
 use Rattle.refusal.specs.Written.{Written}
 use Rattle.list_table.specs.Stream.{Place, Stream, Block, Found, emptyStream, lowestFree, storeLadder, numberLadder, storeAnswer, numberAnswer, findAnswer, scaleAnswer}
 use Rattle.list_table.specs.Stream.Place.{free, held}
-use Rattle.list_table.specs.Table.{streamOf, short, storedTable, droppedTable}
+use Rattle.list_table.specs.Table.{streamOf, short, EmptyTable, storedTable, droppedTable}
 
 pub data Call : Type 0 where
   store : List ℕ → ℕ → Call
@@ -85,3 +89,15 @@ callsOf d (c ∷ cs) = cond (eqb (c .stream) d) (c .call ∷ callsOf d cs) (call
 pub record FollowsOwnCalls (d : ℕ) (table : List ℕ) (cs : List StreamCall) : Type 0 where
   pub replies : repliesFor d table cs ≡ historyReplies d emptyStream (callsOf d cs)
   pub places : streamOf (tableAfterAll table cs) d ≡ historyAfter d emptyStream (callsOf d cs)
+
+abbrev pub StreamsDoNotMeet : Type 0
+StreamsDoNotMeet = (d : ℕ) (table : List ℕ) (cs : List StreamCall) → EmptyTable table → FollowsOwnCalls d table cs
+
+abbrev pub OtherCallsChangeNothing : Type 0
+OtherCallsChangeNothing =
+    (d : ℕ) (table other : List ℕ) (cs es : List StreamCall) → EmptyTable table → EmptyTable other
+    → callsOf d cs ≡ callsOf d es
+    → repliesFor d table cs ≡ repliesFor d other es
+
+abbrev pub UnknownStreamChangesNothing : Type 0
+UnknownStreamChangesNothing = (d : ℕ) (table : List ℕ) (c : Call) → 1 < d → tableAfter table d c ≡ table
