@@ -7,7 +7,7 @@ use Rattle.list_table.proofs.places.is_missing.Statement.{statement}
 use Rattle.list_table.proofs.places.is_missing.Tie as tie
 
 returns : tie.Need-returns
-returns c = sym (missing-stream _ _ _ (c .if1 .taken))
+returns c = sym (missing-stream _ _ _ (omega arith))
 
 returns-2 : tie.Need-returns-2
 returns-2 c = sym (missing-past _ _ _ (omega arith))
