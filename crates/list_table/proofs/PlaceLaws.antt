@@ -53,7 +53,7 @@ pub placeAt-cong : (xs ys : List ℕ) (p : ℕ) → ((k : ℕ) → 66 * p ≤ k 
 unfolding placeAt entriesAt
 placeAt-cong xs ys p h =
     let entries : tabulate 64 (λ j. getD xs (66 * p + 2 + j) 0) ≡ tabulate 64 (λ j. getD ys (66 * p + 2 + j) 0) =
-        tabulate-cong 64 (λ j. getD xs (66 * p + 2 + j) 0) (λ j. getD ys (66 * p + 2 + j) 0) (λ j l. h (66 * p + 2 + j) (omega arith) (omega arith)) in
+    tabulate-cong 64 (λ j. getD xs (66 * p + 2 + j) 0) (λ j. getD ys (66 * p + 2 + j) 0) (λ j l. h (66 * p + 2 + j) (omega arith) (omega arith)) in
     ap₂ (λ (flag : ℕ) (q : Place). cond (eqb flag 0) free q) (h (66 * p) (omega arith) (omega arith))
     (ap₂ held entries (h (66 * p + 1) (omega arith) (omega arith)))
 
@@ -72,9 +72,9 @@ module _ (table : List ℕ) (p : ℕ) (list : List ℕ) (dc : ℕ) (room : 66 * 
   put-same =
       let first : getD (put table p list dc) (66 * p) 0 ≡ 1 = ap (λ (k : ℕ). getD (put table p list dc) k 0) (sym (add-zero (66 * p))) ∙ inside 0 (omega arith) in
       let entries : tabulate 64 (λ j. getD (put table p list dc) (66 * p + 2 + j) 0) ≡ list =
-          tabulate-cong 64 (λ j. getD (put table p list dc) (66 * p + 2 + j) 0) (λ j. getD list j 0)
-          (λ j l. ap (λ (k : ℕ). getD (put table p list dc) k 0) (omega arith) ∙ inside (suc (suc j)) (omega arith))
-          ∙ tabulate-entries list long in
+      tabulate-cong 64 (λ j. getD (put table p list dc) (66 * p + 2 + j) 0) (λ j. getD list j 0)
+      (λ j l. ap (λ (k : ℕ). getD (put table p list dc) k 0) (omega arith) ∙ inside (suc (suc j)) (omega arith))
+      ∙ tabulate-entries list long in
       ap₂ (λ (flag : ℕ) (q : Place). cond (eqb flag 0) free q) first (ap₂ held entries (inside 1 (omega arith)))
 
   pub put-other : (q : ℕ) → (q ≡ p → ⊥) → placeAt (put table p list dc) q ≡ placeAt table q
@@ -104,6 +104,7 @@ paste-again xs at vs j n l room long = ap₂ (λ (a b : List ℕ). a ++ take n v
         sym (take-take at (at + j) (paste xs at vs j) (omega arith))
         ∙ ap (take at) (take-paste xs at vs j (omega arith) (omega arith))
         ∙ take-at (take at xs) (take j vs) at (length-take-le at xs (omega arith))
+
     back : drop (at + n) (paste xs at vs j) ≡ drop (at + n) xs
     back =
         let e : at + j + (n - j) ≡ at + n = omega arith in
@@ -146,5 +147,5 @@ module _ {xs : List ℕ} {at : ℕ} {list : List ℕ} {dc : ℕ} {ys : List ℕ}
   pub put-more : i < 64 → PutUpTo xs at list dc (set ys (at + 2 + i) (getD list i 0)) (i + 1)
   put-more h =
       let e : set ys (at + 2 + i) (getD list i 0) ≡ paste xs at (1 ∷ dc ∷ list) (suc (suc (suc i))) =
-          more xs at list dc (s .room) (s .long) (suc (suc i)) ys (getD list i 0) (at + 2 + i) (omega arith) (s .is) refl (omega arith) in
+      more xs at list dc (s .room) (s .long) (suc (suc i)) ys (getD list i 0) (at + 2 + i) (omega arith) (s .is) refl (omega arith) in
       record { is = e ∙ ap (λ (k : ℕ). paste xs at (1 ∷ dc ∷ list) (suc (suc k))) (sym (add-one i)); within = omega arith; room = s .room; long = s .long }

@@ -31,8 +31,8 @@ returns-2 c =
     let a = e .before .before .before .before .args in
     c .number-refused .ensures
     ∙ sym
-        (params-passed (a .narrow) (a .n) (a .qp-prime .0) (a .bit-depth) (a .extended-precision) (a .levels) (a .places) _ (e .enum-told .given .0 .0)
-        (sym (ap transformSkipOutcome (e .enum-told .given .1)) ∙ e .before .before .block-params .ensures))
+    (params-passed (a .narrow) (a .n) (a .qp-prime .0) (a .bit-depth) (a .extended-precision) (a .levels) (a .places) _ (e .enum-told .given .0 .0)
+    (sym (ap transformSkipOutcome (e .enum-told .given .1)) ∙ e .before .before .block-params .ensures))
 
 pub block-refused-spec : {M : Type 1} → statement M
 block-refused-spec =

@@ -44,10 +44,11 @@ loop-less c = omega arith
 loop-again : tie.Need-loop-again Inv-loop μ-loop
 loop-again c =
     let l = c .before .before .before .before in
-    let s = l .before .before in
-    (omega arith,
-    none-suc (l .loop .inv .1)
-    (free-byte (s .args .table .now) (s .args .stream) (l .loop .i) (omega arith) (omega arith) ∙ ne-eqb _ _ (rw (c .before .before .start-of .ensures) at (c .if1 .left))))
+    let s = l .before .before in (
+      omega arith,
+      none-suc (l .loop .inv .1)
+          (free-byte (s .args .table .now) (s .args .stream) (l .loop .i) (omega arith) (omega arith) ∙ ne-eqb _ _ (rw (c .before .before .start-of .ensures) at (c .if1 .left))),
+    )
 
 returns-2 : tie.Need-returns-2 Inv-loop μ-loop
 unfolding lowestFree
