@@ -2,6 +2,7 @@
 --   first-accepted   where a ladder accepts, no rung applies, and the value is the ladder's
 --   first-passed     where no rung applies, a ladder ends in its value
 --   first-refused    where a ladder refuses, every ladder of the same rungs stops with the same number and place
+--   first-both       two ladders of the same rungs stop with the same refusal, or both end in their values
 use mathlib.Core.Path.{_≡_, refl, ap, _∙_}
 use mathlib.Core.Bool.{Bool, true, false, cond}
 use mathlib.Core.List.{List, [], _∷_}
@@ -44,6 +45,12 @@ module _ {A : Type 0} (z p : A) where
 pub first-passed : {B : Type 0} (stop : Refusal → B) (done : B) (rs : List Rung) → Passed rs → first stop done rs ≡ done
 first-passed stop done [] h = refl
 first-passed stop done (rung t e ∷ rs) h = ap (λ (u : Bool). cond u (stop e) (first stop done rs)) (h .0) ∙ first-passed stop done rs (h .1)
+
+pub first-both : {A B : Type 0} (R : A → B → Type 0) (stop : Refusal → A) (done : A) (halt : Refusal → B) (end : B) (rs : List Rung)
+    → ((e : Refusal) → R (stop e) (halt e)) → (Passed rs → R done end) → R (first stop done rs) (first halt end rs)
+first-both R stop done halt end [] k h = h tt
+first-both R stop done halt end (rung true e ∷ rs) k h = k e
+first-both R stop done halt end (rung false e ∷ rs) k h = first-both R stop done halt end rs k (λ p. h (refl, p))
 
 -- the same refusal with another value
 pub with-value : {A B : Type 0} {z : A} (y : B) (e f : Refusal) → refused z e ≡ refused z f → refused y e ≡ refused y f

@@ -3,7 +3,7 @@
 use Prim.Native.Nat.{_≤_}
 use lib.Dec.{lit≤}
 use Rattle.refusal.specs.declared.Refusal.{Refusal}
-use Rattle.refusal.specs.declared.Refusal.the-variants.{SizeInvalid, DepthInvalid, WidthTooNarrow, DstSizeInvalid, ListLengthInvalid, InputTooShort, OutputTooShort, PlaceOutside, CoefficientAbove, SampleOutside, PictureInvalid, BitsEnded, ReferenceMissing, ListValueInvalid, CoefficientBelow, KindUnknown, BodyTooShort, LevelsBeforeParameters, ParameterInvalid}
+use Rattle.refusal.specs.declared.Refusal.the-variants.{SizeInvalid, DepthInvalid, WidthTooNarrow, DstSizeInvalid, ListLengthInvalid, InputTooShort, OutputTooShort, PlaceOutside, CoefficientAbove, SampleOutside, PictureInvalid, BitsEnded, ReferenceMissing, ListValueInvalid, StreamFull, ListMissing, CoefficientBelow, KindUnknown, BodyTooShort, LevelsBeforeParameters, ParameterInvalid}
 use Rattle.refusal.specs.Refusal.{number}
 
 pub number-least : (e : Refusal) → 1 ≤ number e
@@ -21,6 +21,8 @@ number-least PictureInvalid = lit≤ tt
 number-least (BitsEnded at) = lit≤ tt
 number-least (ReferenceMissing at) = lit≤ tt
 number-least (ListValueInvalid at) = lit≤ tt
+number-least StreamFull = lit≤ tt
+number-least ListMissing = lit≤ tt
 number-least (CoefficientBelow k c) = lit≤ tt
 number-least KindUnknown = lit≤ tt
 number-least BodyTooShort = lit≤ tt

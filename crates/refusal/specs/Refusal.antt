@@ -4,7 +4,7 @@
 --   row e, column e the place of a coefficient outside its range, else 0
 use Prim.Native.Nat.{ℕ}
 use Rattle.refusal.specs.declared.Refusal.{Refusal}
-use Rattle.refusal.specs.declared.Refusal.the-variants.{SizeInvalid, DepthInvalid, WidthTooNarrow, DstSizeInvalid, ListLengthInvalid, InputTooShort, OutputTooShort, PlaceOutside, CoefficientAbove, SampleOutside, PictureInvalid, BitsEnded, ReferenceMissing, ListValueInvalid, CoefficientBelow, KindUnknown, BodyTooShort, LevelsBeforeParameters, ParameterInvalid}
+use Rattle.refusal.specs.declared.Refusal.the-variants.{SizeInvalid, DepthInvalid, WidthTooNarrow, DstSizeInvalid, ListLengthInvalid, InputTooShort, OutputTooShort, PlaceOutside, CoefficientAbove, SampleOutside, PictureInvalid, BitsEnded, ReferenceMissing, ListValueInvalid, StreamFull, ListMissing, CoefficientBelow, KindUnknown, BodyTooShort, LevelsBeforeParameters, ParameterInvalid}
 
 abbrev pub number : Refusal → ℕ
 number SizeInvalid = 1
@@ -21,6 +21,8 @@ number PictureInvalid = 13
 number (BitsEnded at) = 14
 number (ReferenceMissing at) = 15
 number (ListValueInvalid at) = 16
+number StreamFull = 17
+number ListMissing = 18
 number (CoefficientBelow k c) = 19
 number KindUnknown = 20
 number BodyTooShort = 21
@@ -42,6 +44,8 @@ place PictureInvalid = 0
 place (BitsEnded at) = at
 place (ReferenceMissing at) = at
 place (ListValueInvalid at) = at
+place StreamFull = 0
+place ListMissing = 0
 place (CoefficientBelow k c) = 0
 place KindUnknown = 0
 place BodyTooShort = 0
@@ -63,6 +67,8 @@ row PictureInvalid = 0
 row (BitsEnded at) = 0
 row (ReferenceMissing at) = 0
 row (ListValueInvalid at) = 0
+row StreamFull = 0
+row ListMissing = 0
 row (CoefficientBelow k c) = k
 row KindUnknown = 0
 row BodyTooShort = 0
@@ -84,6 +90,8 @@ column PictureInvalid = 0
 column (BitsEnded at) = 0
 column (ReferenceMissing at) = 0
 column (ListValueInvalid at) = 0
+column StreamFull = 0
+column ListMissing = 0
 column (CoefficientBelow k c) = c
 column KindUnknown = 0
 column BodyTooShort = 0

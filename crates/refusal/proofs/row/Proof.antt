@@ -47,20 +47,26 @@ enum-told-12 c = search needs
 enum-told-13 : tie.Need-enum-told-13
 enum-told-13 c = search needs
 
-enum-known-refusal-2 : tie.Need-enum-known-refusal-2
-enum-known-refusal-2 c = search needs
-
 enum-told-14 : tie.Need-enum-told-14
 enum-told-14 c = search needs
 
 enum-told-15 : tie.Need-enum-told-15
 enum-told-15 c = search needs
 
+enum-known-refusal-2 : tie.Need-enum-known-refusal-2
+enum-known-refusal-2 c = search needs
+
 enum-told-16 : tie.Need-enum-told-16
 enum-told-16 c = search needs
 
 enum-told-17 : tie.Need-enum-told-17
 enum-told-17 c = search needs
+
+enum-told-18 : tie.Need-enum-told-18
+enum-told-18 c = search needs
+
+enum-told-19 : tie.Need-enum-told-19
+enum-told-19 c = search needs
 
 returns : tie.Need-returns
 returns c = sym (ap row (c .enum-told .given .1))
@@ -105,19 +111,25 @@ returns-14 : tie.Need-returns-14
 returns-14 c = sym (ap row (c .enum-told13 .given .1))
 
 returns-15 : tie.Need-returns-15
-returns-15 c = sym (ap row (c .before .refusal2 .given .1))
+returns-15 c = sym (ap row (c .enum-told14 .given .1))
 
 returns-16 : tie.Need-returns-16
-returns-16 c = sym (ap row (c .enum-told14 .given .1))
+returns-16 c = sym (ap row (c .enum-told15 .given .1))
 
 returns-17 : tie.Need-returns-17
-returns-17 c = sym (ap row (c .enum-told15 .given .1))
+returns-17 c = sym (ap row (c .before .refusal2 .given .1))
 
 returns-18 : tie.Need-returns-18
 returns-18 c = sym (ap row (c .enum-told16 .given .1))
 
 returns-19 : tie.Need-returns-19
 returns-19 c = sym (ap row (c .enum-told17 .given .1))
+
+returns-20 : tie.Need-returns-20
+returns-20 c = sym (ap row (c .enum-told18 .given .1))
+
+returns-21 : tie.Need-returns-21
+returns-21 c = sym (ap row (c .enum-told19 .given .1))
 
 pub row-spec : {M : Type 1} → statement M
 row-spec =
@@ -137,11 +149,13 @@ row-spec =
     enum-told-11
     enum-told-12
     enum-told-13
-    enum-known-refusal-2
     enum-told-14
     enum-told-15
+    enum-known-refusal-2
     enum-told-16
     enum-told-17
+    enum-told-18
+    enum-told-19
     returns
     returns-2
     returns-3
@@ -160,4 +174,6 @@ row-spec =
     returns-16
     returns-17
     returns-18
-    returns-19)
+    returns-19
+    returns-20
+    returns-21)

@@ -1,0 +1,4 @@
+pub mod Stream
+pub mod Table
+pub mod Answers
+pub mod Run
