@@ -50,6 +50,15 @@ typedef struct {
     size_t bits;
 } residual_bits_answered;
 
+/* The number under which a list was stored. */
+typedef struct {
+    uint32_t number;
+    uint8_t row;
+    uint8_t column;
+    size_t place;
+    size_t stored;
+} residual_store_answered;
+
 typedef struct {
     uint32_t number;
     uint8_t row;
@@ -140,6 +149,20 @@ residual_answered residual_inv_transform_into_scalar16(const int16_t *coeff, siz
 residual_answered residual_inv_transform_dst_into_scalar(const int32_t *coeff, size_t coeff_len, uint8_t bit_depth, int32_t *out, size_t out_len);
 residual_answered residual_inv_transform_dst_into_scalar_extended(const int32_t *coeff, size_t coeff_len, uint8_t bit_depth, int32_t *out, size_t out_len);
 residual_answered residual_inv_transform_dst_into_scalar16(const int16_t *coeff, size_t coeff_len, uint8_t bit_depth, int16_t *out, size_t out_len);
+
+/* Scaling lists of two streams, 0 and 1, in one table of 1,584 bytes or more, which begins as zeros and which nothing else writes. Each stream holds up to 12
+ * lists under its own numbers 0 to 11; the calls of one stream change nothing for the other. A block by number is scaled with that list and its DC. */
+residual_store_answered residual_store_list(uint8_t *table, size_t table_len, size_t stream, const uint8_t *list, size_t list_len, uint8_t dc);
+residual_answered residual_drop_list(uint8_t *table, size_t table_len, size_t stream, size_t number);
+residual_number_answered residual_list_at(const uint8_t *table, size_t table_len, size_t stream, size_t number, uint8_t *list, size_t list_len);
+residual_answered residual_dequantize_by_number_i32(const uint8_t *table, size_t table_len, size_t stream, size_t number, const int32_t *levels,
+    size_t levels_len, size_t n, int32_t qp_prime, uint8_t bit_depth, bool extended_precision, int32_t *out, size_t out_len);
+residual_answered residual_dequantize_by_number_i16(const uint8_t *table, size_t table_len, size_t stream, size_t number, const int32_t *levels,
+    size_t levels_len, size_t n, int32_t qp_prime, uint8_t bit_depth, bool extended_precision, int16_t *out, size_t out_len);
+residual_answered residual_dequantize_transform_skip_by_number_i32(const uint8_t *table, size_t table_len, size_t stream, size_t number, const int32_t *levels,
+    size_t levels_len, size_t n, int32_t qp_prime, uint8_t bit_depth, bool extended_precision, int32_t *out, size_t out_len);
+residual_answered residual_dequantize_transform_skip_by_number_i16(const uint8_t *table, size_t table_len, size_t stream, size_t number, const int32_t *levels,
+    size_t levels_len, size_t n, int32_t qp_prime, uint8_t bit_depth, bool extended_precision, int16_t *out, size_t out_len);
 
 /* By how much 2^(7 + s2) times a residual may differ from the exact product of its coefficients, where no stage-one value was limited. */
 residual_number_answered residual_rounding_bound(bool dst, size_t n, uint8_t bit_depth, bool extended_precision);

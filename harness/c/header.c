@@ -177,6 +177,30 @@ static void lists(void) {
 }
 #endif
 
+#ifdef has_tables
+/* A list of 20s with DC 30 under number 0 of stream 1: with QP' 4 level 2 gives 2 * 40 by an entry and 2 * 60 by DC. Stream 0 holds nothing. */
+static void tables(void) {
+    uint8_t table[1584] = {0}, list[64], back[64];
+    memset(list, 20, 64);
+    residual_store_answered s = residual_store_list(table, 1584, 1, list, 64, 30);
+    expect(s.number == 0 && s.stored == 0 && table[792] == 1 && table[793] == 30 && table[857] == 20, "store_list");
+    residual_number_answered dc = residual_list_at(table, 1584, 1, 0, back, 64);
+    expect(dc.number == 0 && dc.value == 30 && back[63] == 20, "list_at");
+    int32_t levels[16] = {2}, out[16];
+    int16_t out16[16];
+    residual_answered a = residual_dequantize_by_number_i32(table, 1584, 1, 0, levels, 16, 4, 4, 8, false, out, 16);
+    expect(a.number == 0 && out[0] == 80 && out[5] == 0, "dequantize_by_number_i32");
+    a = residual_dequantize_by_number_i16(table, 1584, 1, 0, levels, 16, 4, 4, 8, false, out16, 16);
+    expect(a.number == 0 && out16[0] == 80, "dequantize_by_number_i16");
+    a = residual_dequantize_transform_skip_by_number_i32(table, 1584, 1, 0, levels, 16, 4, 4, 8, false, out, 16);
+    expect(a.number == 0 && out[0] == 3, "dequantize_transform_skip_by_number_i32");
+    a = residual_dequantize_transform_skip_by_number_i16(table, 1584, 0, 0, levels, 16, 4, 4, 8, false, out16, 16);
+    expect(a.number == 18 && out16[0] == 80, "dequantize_transform_skip_by_number_i16, refused");
+    a = residual_drop_list(table, 1584, 1, 0);
+    expect(a.number == 0 && table[792] == 0, "drop_list");
+}
+#endif
+
 int main(void) {
     quantities();
 #ifdef has_scaling
@@ -193,6 +217,9 @@ int main(void) {
 #endif
 #ifdef has_lists
     lists();
+#endif
+#ifdef has_tables
+    tables();
 #endif
     printf("header: %d calls, %d failed\n", called, failed);
     return failed != 0;

@@ -307,3 +307,52 @@ pub mod rounding {
         residual_rounding_bound(dst, n, bit_depth, extended_precision)
     }
 }
+
+#[cfg(has_tables)]
+pub mod tables {
+    use super::{Answered, NumberAnswered};
+
+    #[repr(C)]
+    #[derive(Clone, Copy, PartialEq, Eq, Debug, Default)]
+    pub struct StoreAnswered {
+        pub number: u32,
+        pub row: u8,
+        pub column: u8,
+        pub place: usize,
+        pub stored: usize,
+    }
+
+    unsafe extern "C" {
+        fn residual_store_list(table: *mut u8, table_len: usize, stream: usize, list: *const u8, list_len: usize, dc: u8) -> StoreAnswered;
+        fn residual_drop_list(table: *mut u8, table_len: usize, stream: usize, number: usize) -> Answered;
+        fn residual_list_at(table: *const u8, table_len: usize, stream: usize, number: usize, list: *mut u8, list_len: usize) -> NumberAnswered;
+    }
+
+    pub fn store_list(table: &mut [u8], stream: usize, list: &[u8], dc: u8) -> StoreAnswered {
+        unsafe { residual_store_list(table.as_mut_ptr(), table.len(), stream, list.as_ptr(), list.len(), dc) }
+    }
+
+    pub fn drop_list(table: &mut [u8], stream: usize, number: usize) -> Answered {
+        unsafe { residual_drop_list(table.as_mut_ptr(), table.len(), stream, number) }
+    }
+
+    pub fn list_at(table: &[u8], stream: usize, number: usize, list: &mut [u8]) -> NumberAnswered {
+        unsafe { residual_list_at(table.as_ptr(), table.len(), stream, number, list.as_mut_ptr(), list.len()) }
+    }
+
+    macro_rules! by_number {
+        ($name:ident, $linked:ident, $out:ty) => {
+            unsafe extern "C" {
+                fn $linked(table: *const u8, table_len: usize, stream: usize, number: usize, levels: *const i32, levels_len: usize, n: usize, qp_prime: i32, bit_depth: u8, extended_precision: bool, out: *mut $out, out_len: usize) -> Answered;
+            }
+            pub fn $name(table: &[u8], stream: usize, number: usize, levels: &[i32], n: usize, qp_prime: i32, bit_depth: u8, extended_precision: bool, out: &mut [$out]) -> Answered {
+                unsafe { $linked(table.as_ptr(), table.len(), stream, number, levels.as_ptr(), levels.len(), n, qp_prime, bit_depth, extended_precision, out.as_mut_ptr(), out.len()) }
+            }
+        };
+    }
+
+    by_number!(dequantize_i32, residual_dequantize_by_number_i32, i32);
+    by_number!(dequantize_i16, residual_dequantize_by_number_i16, i16);
+    by_number!(dequantize_transform_skip_i32, residual_dequantize_transform_skip_by_number_i32, i32);
+    by_number!(dequantize_transform_skip_i16, residual_dequantize_transform_skip_by_number_i16, i16);
+}

@@ -1,5 +1,5 @@
-//! Compares the archive of the crate c_api with the Rust that was ported, on every exported function; the functions of pictures, of scaling lists and of the rounding bound, which were not ported, with a plain writing of their rules.
-#![cfg_attr(not(all(has_scaling, has_transform, has_edits, has_lists, has_picture, has_rounding)), allow(dead_code, unused_mut))]
+//! Compares the archive of the crate c_api with the Rust that was ported, on every exported function; the functions of pictures, of scaling lists, of tables of them and of the rounding bound, which were not ported, with a plain writing of their rules.
+#![cfg_attr(not(all(has_scaling, has_transform, has_edits, has_lists, has_picture, has_rounding, has_tables)), allow(dead_code, unused_mut))]
 mod archive;
 mod blocks;
 #[cfg(has_edits)]
@@ -16,6 +16,8 @@ mod reference;
 mod rounding;
 #[cfg(has_scaling)]
 mod scaling;
+#[cfg(has_tables)]
+mod tables;
 mod tally;
 mod timing;
 #[cfg(has_transform)]
@@ -76,6 +78,10 @@ fn differential(arguments: &Arguments) -> bool {
     {
         planned += rounding::FUNCTIONS;
     }
+    #[cfg(has_tables)]
+    {
+        planned += tables::FUNCTIONS;
+    }
     let mut tally = tally::Tally::new(planned);
     parameters::compare(&mut tally, arguments.seed, arguments.cases);
     #[cfg(has_scaling)]
@@ -90,6 +96,8 @@ fn differential(arguments: &Arguments) -> bool {
     lists::compare(&mut tally, arguments.seed, arguments.cases);
     #[cfg(has_rounding)]
     rounding::compare(&mut tally, arguments.seed, arguments.cases);
+    #[cfg(has_tables)]
+    tables::compare(&mut tally, arguments.seed, arguments.cases);
     println!("seed {}, {} random cases a function", arguments.seed, arguments.cases);
     tally.finish()
 }

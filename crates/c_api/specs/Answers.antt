@@ -4,6 +4,7 @@
 --   ofSigned          one signed number
 --   ofQpPrime         the same, where it is QP′
 --   ofBits            how many bits were read
+--   ofStored          the number under which a list was stored
 --   ofDequant         the numbers by which a block is scaled
 --   ofTransformSkip   the same with the shift of transform skip and its rounding
 use Prim.Native.Nat.{ℕ}
@@ -16,6 +17,7 @@ use Rattle.c_api.specs.declared.Answered.{Answered}
 use Rattle.c_api.specs.declared.NumberAnswered.{NumberAnswered}
 use Rattle.c_api.specs.declared.SignedAnswered.{SignedAnswered}
 use Rattle.c_api.specs.declared.BitsAnswered.{BitsAnswered}
+use Rattle.c_api.specs.declared.StoreAnswered.{StoreAnswered}
 use Rattle.c_api.specs.declared.DequantAnswered.{DequantAnswered}
 use Rattle.c_api.specs.declared.TransformSkipAnswered.{TransformSkipAnswered}
 
@@ -33,6 +35,9 @@ ofQpPrime r = record { number = r .number; row = r .row; column = r .column; pla
 
 abbrev pub ofBits : BitsAnswered → Outcome ℕ
 ofBits r = record { number = r .number; row = r .row; column = r .column; place = r .place; value = r .bits }
+
+abbrev pub ofStored : StoreAnswered → Outcome ℕ
+ofStored r = record { number = r .number; row = r .row; column = r .column; place = r .place; value = r .stored }
 
 abbrev pub ofDequant : DequantAnswered → Outcome DequantParams
 ofDequant r =

@@ -3,3 +3,4 @@ pub mod Blocks
 pub mod Edits
 pub mod Pictures
 pub mod Lists
+pub mod Tables

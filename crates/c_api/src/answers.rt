@@ -6,13 +6,17 @@ ghost use Rattle.scaling.specs.Answers.{factorOutcome, levelOutcome};
 ghost use Rattle.picture.specs.Answers.{checksumOutcome};
 ghost use Rattle.rounding.specs.Bound.{boundOutcome};
 ghost use Rattle.scaling_lists.specs.Answers.{readOutcome};
-ghost use Rattle.c_api.specs.Answers.{ofAnswered, ofNumber, ofSigned, ofQpPrime, ofBits, ofDequant, ofTransformSkip};
+ghost use Rattle.list_table.specs.Answers.{storeOutcome, listOutcome};
+ghost use Rattle.c_api.specs.Answers.{ofAnswered, ofNumber, ofSigned, ofQpPrime, ofBits, ofStored, ofDequant, ofTransformSkip};
 use crate::Answered;
 use crate::BitsAnswered;
 use crate::DequantAnswered;
 use crate::NumberAnswered;
 use crate::SignedAnswered;
+use crate::StoreAnswered;
 use crate::TransformSkipAnswered;
+use list_table::ListAnswer;
+use list_table::StoreAnswer;
 use parameters::DequantAnswer;
 use parameters::NumberAnswer;
 use parameters::QpPrimeAnswer;
@@ -284,6 +288,54 @@ pub(crate) fn read_answered(answer: ReadAnswer) -> BitsAnswered
                 column: no.column,
                 place: no.place,
                 bits: 0,
+            }
+        }
+    }
+}
+
+pub(crate) fn store_answered(answer: StoreAnswer) -> StoreAnswered
+    ensures { λ r. ⌜ ofStored r ≡ storeOutcome answer ⌝ }
+{
+    match answer {
+        StoreAnswer::Stored(stored) => StoreAnswered {
+            number: 0,
+            row: 0,
+            column: 0,
+            place: 0,
+            stored,
+        },
+        StoreAnswer::Refused(why) => {
+            let no = refused(why);
+            StoreAnswered {
+                number: no.number,
+                row: no.row,
+                column: no.column,
+                place: no.place,
+                stored: 0,
+            }
+        }
+    }
+}
+
+pub(crate) fn list_answered(answer: ListAnswer) -> NumberAnswered
+    ensures { λ r. ⌜ ofNumber r ≡ listOutcome answer ⌝ }
+{
+    match answer {
+        ListAnswer::Dc(dc) => NumberAnswered {
+            number: 0,
+            row: 0,
+            column: 0,
+            place: 0,
+            value: dc as u32,
+        },
+        ListAnswer::Refused(why) => {
+            let no = refused(why);
+            NumberAnswered {
+                number: no.number,
+                row: no.row,
+                column: no.column,
+                place: no.place,
+                value: 0,
             }
         }
     }

@@ -5,6 +5,7 @@ mod levels;
 mod lists;
 mod pictures;
 mod quantities;
+mod tables;
 mod transforms;
 
 pub use edits::residual_edit;
@@ -30,6 +31,13 @@ pub use quantities::residual_qp_bd_offset;
 pub use quantities::residual_qp_prime;
 pub use quantities::residual_rounding_bound;
 pub use quantities::residual_transform_skip_params;
+pub use tables::residual_dequantize_by_number_i16;
+pub use tables::residual_dequantize_by_number_i32;
+pub use tables::residual_dequantize_transform_skip_by_number_i16;
+pub use tables::residual_dequantize_transform_skip_by_number_i32;
+pub use tables::residual_drop_list;
+pub use tables::residual_list_at;
+pub use tables::residual_store_list;
 pub use transforms::residual_inv_transform_dst_into_scalar;
 pub use transforms::residual_inv_transform_dst_into_scalar_extended;
 pub use transforms::residual_inv_transform_dst_into_scalar16;
@@ -63,6 +71,16 @@ pub struct SignedAnswered {
     pub column: u8,
     pub place: usize,
     pub value: i32,
+}
+
+// The number under which a list was stored.
+#[repr(C)]
+pub struct StoreAnswered {
+    pub number: u32,
+    pub row: u8,
+    pub column: u8,
+    pub place: usize,
+    pub stored: usize,
 }
 
 // How many bits were read.
