@@ -1,0 +1,1 @@
+// Exp-Golomb codes as bits, and bits as bytes: definitions and laws.
