@@ -2,13 +2,15 @@
 --   binary-…                  lists of bits: none, one more, two lists, zeros
 --   begins-first, -second     bits of two lists: those of the first, and behind them those of the second
 --   begins-there, begins-bit  the first bit stands at the offset
---   begins-bytes              bits stand in every list of bytes that has their bytes at its start
-use mathlib.Core.Path.{_≡_, sym, ap, _∙_}
+--   bitsValue-…, byteOf-cong  n bits stand for a number below 2^n; one bit more; bits that are equal
+--   begins-bytes, begins-own  bits stand in every list of bytes that has their bytes at its start
+use mathlib.Core.Path.{_≡_, refl, sym, ap, ap₂, _∙_}
 use mathlib.Core.Bool.{true}
 use mathlib.Core.List.{List, [], _∷_, _++_}
 use Prim.Native.Nat.{ℕ, zero, suc, _+_, _-_, _*_, _/_, _%_, _^_, _≤_, _<_}
 use native.Mathlib.Nat.{add-zero, zero-add, not-suc-le-zero, div-one, div-div-eq-div-mul, pow-succ'}
 use native.Mathlib.Decide.{ℕ-discrete}
+use native.Mathlib.Numerals.{add-one}
 use native.Mathlib.Omega.{arith}
 use borrow.Author.Tests.{lt-ltb}
 use lib.Dec.{lit<}
@@ -67,6 +69,24 @@ module _ {bytes : List ℕ} {at b : ℕ} {bits : List ℕ} (h : Begins bytes at 
   begins-rest = begins-second (b ∷ []) bits h
 
 -- ---- bits as bytes
+pub bitsValue-small : (bits : List ℕ) (at n : ℕ) → Binary bits → bitsValue bits at n < 2 ^ n
+unfolding bitsValue
+bitsValue-small bits at zero g = lit< tt
+bitsValue-small bits at (suc n) g = rw (pow-succ' 2 n) (omega (arith, bitsValue-small bits at n g, g .small (at + n)))
+
+pub bitsValue-add-one : (bits : List ℕ) (at n : ℕ) → bitsValue bits at (n + 1) ≡ 2 * bitsValue bits at n + getD bits (at + n) 0
+unfolding bitsValue
+bitsValue-add-one bits at n = ap (bitsValue bits at) (add-one n)
+
+value-cong : (a b : List ℕ) (at n : ℕ) → ((i : ℕ) → getD a i 0 ≡ getD b i 0) → bitsValue a at n ≡ bitsValue b at n
+unfolding bitsValue
+value-cong a b at zero h = refl
+value-cong a b at (suc n) h = ap₂ (λ (v c : ℕ). 2 * v + c) (value-cong a b at n h) (h (at + n))
+
+pub byteOf-cong : (a b : List ℕ) (k : ℕ) → ((i : ℕ) → getD a i 0 ≡ getD b i 0) → byteOf a k ≡ byteOf b k
+unfolding byteOf
+byteOf-cong a b k h = value-cong a b (8 * k) 8 h
+
 -- a bit of the number that n bits stand for
 halved : (v b : ℕ) (k : ℕ) → b < 2 → (2 * v + b) / 2 ^ suc k ≡ v / 2 ^ k
 halved v b k h =

@@ -1,6 +1,6 @@
-// The up-right diagonal order, as tables.
+// The up-right diagonal order, as tables. Internal: the crates above walk blocks by them.
 ghost use mathlib.Core.Path.{_≡_};
-ghost use Rattle.scaling_lists.specs.Scan.{upRight};
+ghost use Rattle.scan.specs.Scan.{upRight};
 
 #[rattlefmt::skip]
 const UP_RIGHT_4: [u8; 16] = [
@@ -26,13 +26,13 @@ const UP_RIGHT_8: [u8; 64] = [
     63,
 ];
 
-pub(crate) fn up_right_4() -> [u8; 16]
+pub fn up_right_4() -> [u8; 16]
     ensures { λ r. ⌜ r ≡ upRight 4 ⌝ }
 {
     UP_RIGHT_4
 }
 
-pub(crate) fn up_right_8() -> [u8; 64]
+pub fn up_right_8() -> [u8; 64]
     ensures { λ r. ⌜ r ≡ upRight 8 ⌝ }
 {
     UP_RIGHT_8
