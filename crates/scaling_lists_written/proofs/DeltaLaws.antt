@@ -4,7 +4,8 @@
 --   delta-next            the entry that it leads to is the one that was written
 --   signed-read           se(v) is read as the number that was written
 --   delta-read, dc-read   one delta, and a DC
---   Entries ps l          each entry at the positions is 1 .. 255
+--   Entries ps es         each entry at the positions is 1 .. 255
+--   placed ps es to       those entries, put where they belong
 --   entries-read          the entries at the positions, put where they belong
 use mathlib.Core.Path.{_≡_, refl, ap, _∙_}
 use mathlib.Core.Bool.{Bool, true, false, cond}
@@ -14,16 +15,15 @@ use native.Mathlib.Omega.{arith}
 use borrow.Author.Tests.{ltb-true, ltb-false, le-ltb, ne-eqb}
 use lib.Dec.{ltb}
 use lib.IntN.{ℤ, pos, negsuc, negℤ}
-use lib.ListN.{length, set, length-append}
+use lib.ListN.{length, getD, set, length-append}
 use Rattle.bits.specs.declared.Code.the-variants.{Number}
 use Rattle.bits.specs.ExpGolomb.{unsignedCode}
 use Rattle.bits_written.specs.Codes.{codeNumber, signedBits}
 use Rattle.bits_written.specs.Bytes.{Begins}
 use Rattle.bits_written.proofs.BytesLaws.{begins-first, begins-second}
 use Rattle.bits_written.proofs.CodesLaws.{unsigned-read, codeNumber-signed}
-use Rattle.scaling_lists.specs.Syntax.{FactorList, outsideOf, added, nextCoef, deltaCode, entriesFrom, dcCode}
+use Rattle.scaling_lists.specs.Syntax.{outsideOf, added, nextCoef, deltaCode, entriesFrom, dcCode}
 use Rattle.scaling_lists.specs.Syntax.Reading.{got}
-use Rattle.scaling_lists_written.specs.Same.{entry}
 use Rattle.scaling_lists_written.specs.Written.{difference, deltaFrom, deltaBits}
 
 -- ---- differences
@@ -108,21 +108,22 @@ dc-read bytes dc at l h g =
     )
 
 -- ---- entries
-abbrev pub Entries : List ℕ → FactorList → Type 0
-Entries [] l = Unit {0}
-Entries (p ∷ ps) l = (1 ≤ entry l p) × (entry l p ≤ 255) × Entries ps l
+abbrev pub Entries : List ℕ → List ℕ → Type 0
+Entries [] es = Unit {0}
+Entries (p ∷ ps) es = (1 ≤ getD es p 0) × (getD es p 0 ≤ 255) × Entries ps es
 
-abbrev pub placed : List ℕ → FactorList → List ℕ → List ℕ
-placed [] l es = es
-placed (p ∷ ps) l es = placed ps l (set es p (entry l p))
+abbrev pub placed : List ℕ → List ℕ → List ℕ → List ℕ
+placed [] es to = to
+placed (p ∷ ps) es to = placed ps es (set to p (getD es p 0))
 
-pub entries-read : (bytes ps : List ℕ) (l : FactorList) (next at : ℕ) (es : List ℕ) → next ≤ 255 → Entries ps l → Begins bytes at (deltaBits ps next l)
-    → entriesFrom bytes ps next at es ≡ got (placed ps l es) (at + length (deltaBits ps next l))
+pub entries-read : (bytes ps es : List ℕ) (next at : ℕ) (to : List ℕ) → next ≤ 255 → Entries ps es → Begins bytes at (deltaBits ps next es)
+    → entriesFrom bytes ps next at to ≡ got (placed ps es to) (at + length (deltaBits ps next es))
 unfolding entriesFrom deltaBits
-entries-read bytes [] l next at es n f g = ap (got es) (omega arith)
-entries-read bytes (p ∷ ps) l next at es n f g =
-    let a = signedBits (deltaFrom next (entry l p)) in
-    let b = deltaBits ps (entry l p) l in
-    rw (delta-read bytes next (entry l p) at n (f .0) (f .1) (begins-first a b g))
-    (entries-read bytes ps l (entry l p) (at + length a) (set es p (entry l p)) (f .1) (f .2) (begins-second a b g)
-    ∙ ap (got (placed ps l (set es p (entry l p)))) (omega (arith, length-append a b)))
+entries-read bytes [] es next at to n f g = ap (got to) (omega arith)
+entries-read bytes (p ∷ ps) es next at to n f g =
+    let v = getD es p 0 in
+    let a = signedBits (deltaFrom next v) in
+    let b = deltaBits ps v es in
+    rw (delta-read bytes next v at n (f .0) (f .1) (begins-first a b g))
+    (entries-read bytes ps es v (at + length a) (set to p v) (f .1) (f .2) (begins-second a b g)
+    ∙ ap (got (placed ps es (set to p v))) (omega (arith, length-append a b)))

@@ -41,7 +41,7 @@ both true t h = (tt, h)
 both false t h = absurd h
 
 entries-below : (n : ℕ) (ps : List ℕ) (l : FactorList) → T (allBelow n ps)
-    → ((i : ℕ) → i < n → 1 ≤ entry l i) → ((i : ℕ) → i < n → entry l i ≤ 255) → Entries ps l
+    → ((i : ℕ) → i < n → 1 ≤ entry l i) → ((i : ℕ) → i < n → entry l i ≤ 255) → Entries ps (l .entries)
 entries-below n [] l a lo hi = tt
 entries-below n (p ∷ ps) l a lo hi =
     let b = both (ltb p n) (allBelow n ps) a in
@@ -49,43 +49,43 @@ entries-below n (p ∷ ps) l a lo hi =
     (lo p h, hi p h, entries-below n ps l (b .1) lo hi)
 
 module _ (s : ℕ) (l : FactorList) where
-  positions-entries : Proper s l → Entries (positions s) l
+  positions-entries : Proper s l → Entries (positions s) (l .entries)
   unfolding positions usedCount inside diagonal diagonals upRight
   positions-entries p = by-size (eqb s 0) (p .entries-least) (p .entries-most)
     where
       by-size : (b : Bool) → ((i : ℕ) → i < cond b 16 64 → 1 ≤ entry l i) → ((i : ℕ) → i < cond b 16 64 → entry l i ≤ 255)
-          → Entries (cond b (upRight 4) (upRight 8)) l
+          → Entries (cond b (upRight 4) (upRight 8)) (l .entries)
       by-size true lo hi = entries-below 16 (upRight 4) l tt lo hi
       by-size false lo hi = entries-below 64 (upRight 8) l tt lo hi
 
-  positions-placed : placed (positions s) l blank ≡ usedList s l .entries
+  positions-placed : placed (positions s) (l .entries) blank ≡ usedList s l .entries
   unfolding positions usedCount usedList tabulate tabulateFrom inside diagonal diagonals upRight
   positions-placed = by-size (eqb s 0)
     where
-      by-size : (b : Bool) → placed (cond b (upRight 4) (upRight 8)) l blank ≡ tabulate 64 (λ i. cond (ltb i (cond b 16 64)) (entry l i) 0)
+      by-size : (b : Bool) → placed (cond b (upRight 4) (upRight 8)) (l .entries) blank ≡ tabulate 64 (λ i. cond (ltb i (cond b 16 64)) (entry l i) 0)
       by-size true = refl
       by-size false = refl
 
 module _ (bytes : List ℕ) (s : ℕ) (l : FactorList) (proper : Proper s l) where
-  coded-read : (dc next at : ℕ) → next ≤ 255 → Begins bytes at (deltaBits (positions s) next l)
-      → codedEntries bytes s dc next at ≡ got (record { entries = usedList s l .entries; dc = dc }) (at + length (deltaBits (positions s) next l))
+  coded-read : (dc next at : ℕ) → next ≤ 255 → Begins bytes at (deltaBits (positions s) next (l .entries))
+      → codedEntries bytes s dc next at ≡ got (record { entries = usedList s l .entries; dc = dc }) (at + length (deltaBits (positions s) next (l .entries)))
   unfolding codedEntries
   coded-read dc next at n g =
-      rw (entries-read bytes (positions s) l next at blank n (positions-entries s l proper) g, positions-placed s l)
+      rw (entries-read bytes (positions s) (l .entries) next at blank n (positions-entries s l proper) g, positions-placed s l)
 
   pub full-read : (at : ℕ) → Begins bytes at (fullBits s l) → codedList bytes s at ≡ got (usedList s l) (at + length (fullBits s l))
   unfolding codedList fullBits hasDc usedList
   full-read at g = by-size (ltb 1 s) refl g
     where
       fullBy : Bool → List ℕ
-      fullBy b = cond b (signedBits (difference (l .dc) 8) ++ deltaBits (positions s) (l .dc) l) (deltaBits (positions s) 8 l)
+      fullBy b = cond b (signedBits (difference (l .dc) 8) ++ deltaBits (positions s) (l .dc) (l .entries)) (deltaBits (positions s) 8 (l .entries))
 
       by-size : (b : Bool) → ltb 1 s ≡ b → Begins bytes at (fullBy b)
           → cond b (andThen (dcCode bytes at) (λ dc behind. codedEntries bytes s dc dc behind)) (codedEntries bytes s 16 8 at)
           ≡ got (record { entries = usedList s l .entries; dc = cond b (l .dc) 16 }) (at + length (fullBy b))
       by-size true e h =
           let a = signedBits (difference (l .dc) 8) in
-          let b = deltaBits (positions s) (l .dc) l in
+          let b = deltaBits (positions s) (l .dc) (l .entries) in
           rw (dc-read bytes (l .dc) at (proper .dc-least e) (proper .dc-most e) (begins-first a b h))
           (coded-read (l .dc) (l .dc) (at + length a) (proper .dc-most e) (begins-second a b h)
           ∙ ap (got (record { entries = usedList s l .entries; dc = l .dc })) (omega (arith, length-append a b)))

@@ -58,18 +58,18 @@ read-lists-are-written lent lists =
     ap (usedList (sizeId j)) (tabulate-getD 20 (λ k. readList lent k (listAt lists k)) j none h) ∙ read-used lent j (listAt lists j))
 
 -- ---- every bit is one
-delta-binary : (ps : List ℕ) (next : ℕ) (l : FactorList) → Binary (deltaBits ps next l)
+delta-binary : (ps : List ℕ) (next : ℕ) (es : List ℕ) → Binary (deltaBits ps next es)
 unfolding deltaBits signedBits
-delta-binary [] next l = binary-none
-delta-binary (p ∷ ps) next l = binary-append (signedBits (deltaFrom next (entry l p))) (unsigned-binary _) (delta-binary ps (entry l p) l)
+delta-binary [] next es = binary-none
+delta-binary (p ∷ ps) next es = binary-append (signedBits (deltaFrom next (getD es p 0))) (unsigned-binary _) (delta-binary ps (getD es p 0) es)
 
 full-binary : (s : ℕ) (l : FactorList) → Binary (fullBits s l)
 unfolding fullBits signedBits
 full-binary s l = by-size (hasDc s)
   where
-    by-size : (t : Bool) → Binary (cond t (signedBits (difference (l .dc) 8) ++ deltaBits (positions s) (l .dc) l) (deltaBits (positions s) 8 l))
-    by-size true = binary-append (signedBits (difference (l .dc) 8)) (unsigned-binary _) (delta-binary (positions s) (l .dc) l)
-    by-size false = delta-binary (positions s) 8 l
+    by-size : (t : Bool) → Binary (cond t (signedBits (difference (l .dc) 8) ++ deltaBits (positions s) (l .dc) (l .entries)) (deltaBits (positions s) 8 (l .entries)))
+    by-size true = binary-append (signedBits (difference (l .dc) 8)) (unsigned-binary _) (delta-binary (positions s) (l .dc) (l .entries))
+    by-size false = delta-binary (positions s) 8 (l .entries)
 
 form-binary : (s : ℕ) (l : FactorList) (f : Form) → Binary (formBits s l f)
 unfolding formBits
@@ -87,12 +87,12 @@ unfolding writtenLists
 written-binary lent lists = upTo-binary lent lists 20
 
 -- ---- equal lists give equal bits
-deltas-used : (s next : ℕ) (l : FactorList) → deltaBits (positions s) next l ≡ deltaBits (positions s) next (usedList s l)
+deltas-used : (s next : ℕ) (l : FactorList) → deltaBits (positions s) next (l .entries) ≡ deltaBits (positions s) next (usedList s l .entries)
 unfolding deltaBits positions usedCount usedList tabulate tabulateFrom inside diagonal diagonals upRight
 deltas-used s next l = by-size (eqb s 0)
   where
-    by-size : (t : Bool) → deltaBits (cond t (upRight 4) (upRight 8)) next l
-        ≡ deltaBits (cond t (upRight 4) (upRight 8)) next (record { entries = tabulate 64 (λ i. cond (ltb i (cond t 16 64)) (entry l i) 0); dc = cond (hasDc s) (l .dc) 16 })
+    by-size : (t : Bool) → deltaBits (cond t (upRight 4) (upRight 8)) next (l .entries)
+        ≡ deltaBits (cond t (upRight 4) (upRight 8)) next (tabulate 64 (λ i. cond (ltb i (cond t 16 64)) (entry l i) 0))
     by-size true = refl
     by-size false = refl
 
@@ -101,8 +101,8 @@ unfolding fullBits usedList
 full-used s l = by-size (hasDc s) refl
   where
     by-size : (t : Bool) → hasDc s ≡ t
-        → cond t (signedBits (difference (l .dc) 8) ++ deltaBits (positions s) (l .dc) l) (deltaBits (positions s) 8 l)
-        ≡ cond t (signedBits (difference (cond t (l .dc) 16) 8) ++ deltaBits (positions s) (cond t (l .dc) 16) (usedList s l)) (deltaBits (positions s) 8 (usedList s l))
+        → cond t (signedBits (difference (l .dc) 8) ++ deltaBits (positions s) (l .dc) (l .entries)) (deltaBits (positions s) 8 (l .entries))
+        ≡ cond t (signedBits (difference (cond t (l .dc) 16) 8) ++ deltaBits (positions s) (cond t (l .dc) 16) (usedList s l .entries)) (deltaBits (positions s) 8 (usedList s l .entries))
     by-size true e = ap (λ (b : List ℕ). signedBits (difference (l .dc) 8) ++ b) (deltas-used s (l .dc) l)
     by-size false e = deltas-used s 8 l
 

@@ -2,7 +2,7 @@
 -- Letters: s sizeId, m matrixId, j the number of a list among the 20, l a list.
 --   difference a b          a - b
 --   deltaFrom next v        v - next modulo 256, in -128 .. 127: scaling_list_delta_coef
---   deltaBits ps next l     the entries at positions ps, each as the delta from the one before, the first from next
+--   deltaBits ps next es    the entries at positions ps, each as the delta from the one before, the first from next
 --   fullBits s l            a list in full: scaling_list_dc_coef_minus8 where the size has DC, and the entries in the diagonal order
 --   Form                    taken d: taken over by scaling_list_pred_matrix_id_delta d, 0 for the default; full
 --   defaultList lent s m    the default of s and m, with DC 16
@@ -21,12 +21,12 @@ use mathlib.Core.List.{List, [], _∷_, _++_}
 use Prim.Native.Nat.{ℕ, zero, suc, _+_, _-_, _%_}
 use lib.Dec.{ltb}
 use lib.IntN.{ℤ, pos, negℤ}
-use lib.ListN.{length}
+use lib.ListN.{length, getD}
 use Rattle.integers.specs.Lists.{tabulate}
 use Rattle.integers.specs.Search.{firstWhere}
 use Rattle.bits_written.specs.Codes.{unsignedBits, signedBits}
 use Rattle.scaling_lists.specs.Syntax.{FactorList, Defaults, defaultFor, positions, sizeId, matrixId}
-use Rattle.scaling_lists_written.specs.Same.{hasDc, entry, sameList, usedList, listAt}
+use Rattle.scaling_lists_written.specs.Same.{hasDc, sameList, usedList, listAt}
 
 -- ---- a list in full
 unfoldable pub difference : ℕ → ℕ → ℤ
@@ -36,13 +36,13 @@ difference a b = cond (ltb a b) (negℤ (pos (b - a))) (pos (a - b))
 unfoldable pub deltaFrom : ℕ → ℕ → ℤ
 deltaFrom next v = difference ((v + 384 - next) % 256) 128
 
-unfoldable pub deltaBits : List ℕ → ℕ → FactorList → List ℕ
-deltaBits [] next l = []
-deltaBits (p ∷ ps) next l = signedBits (deltaFrom next (entry l p)) ++ deltaBits ps (entry l p) l
+unfoldable pub deltaBits : List ℕ → ℕ → List ℕ → List ℕ
+deltaBits [] next es = []
+deltaBits (p ∷ ps) next es = signedBits (deltaFrom next (getD es p 0)) ++ deltaBits ps (getD es p 0) es
 
 unfoldable pub fullBits : ℕ → FactorList → List ℕ
 fullBits s l =
-    cond (hasDc s) (signedBits (difference (l .dc) 8) ++ deltaBits (positions s) (l .dc) l) (deltaBits (positions s) 8 l)
+    cond (hasDc s) (signedBits (difference (l .dc) 8) ++ deltaBits (positions s) (l .dc) (l .entries)) (deltaBits (positions s) 8 (l .entries))
 
 -- ---- how a list is written
 pub data Form : Type 0 where

@@ -1,0 +1,6 @@
+// Scaling lists compared, and put into a buffer of bits. Internal: the crate above calls these and meets what they require.
+mod codes;
+mod list;
+mod same;
+
+pub use list::put_lists;
