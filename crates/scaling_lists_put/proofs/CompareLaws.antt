@@ -1,14 +1,12 @@
 -- Lists in buffers, compared.
---   every-none, every-more    the invariant of a loop that tests
 --   same-by-dc, same-not      two lists by their entries, and by DC where those are equal
 --   held-list                 list j of the buffers
 --   same-held, same-default   two of those, and one with a default
 --   matrix-three, matrix-one  matrixId at 32×32 and below
-use mathlib.Core.Path.{_≡_, refl, sym, ap, ap₂, _∙_}
+use mathlib.Core.Path.{_≡_, sym, ap, ap₂, _∙_}
 use mathlib.Core.Bool.{Bool, true, false, cond, _&&_}
 use mathlib.Core.List.{List}
-use Prim.Native.Nat.{ℕ, zero, suc, _+_, _*_, _/_, _%_, _≤_, _<_}
-use native.Mathlib.Numerals.{add-one}
+use Prim.Native.Nat.{ℕ, _+_, _*_, _/_, _%_, _≤_, _<_}
 use native.Mathlib.Omega.{arith}
 use borrow.Author.Tests.{eq-eqb, ne-eqb}
 use lib.Dec.{eqb}
@@ -19,20 +17,8 @@ use Rattle.scaling_lists.specs.Work.{heldAt, held}
 use Rattle.scaling_lists.proofs.ListLaws.{fill-whole}
 use Rattle.scaling_lists_written.specs.Same.{every, hasDc, usedCount, entry, sameList, listAt}
 use Rattle.scaling_lists_written.specs.Written.{defaultList}
+use Rattle.scaling_lists_written.proofs.SameLaws.{every-cong}
 use Rattle.scaling_lists_put.specs.Lists.{listFrom}
-
-pub every-none : (p : ℕ → Bool) → every 0 p ≡ true
-unfolding every
-every-none p = refl
-
-pub every-more : (n : ℕ) (p : ℕ → Bool) → every n p ≡ true → p n ≡ true → every (n + 1) p ≡ true
-unfolding every
-every-more n p e h = ap (λ (k : ℕ). every k p) (add-one n) ∙ ap₂ _&&_ e h
-
-every-cong : (n : ℕ) (p q : ℕ → Bool) → ((i : ℕ) → i < n → p i ≡ q i) → every n p ≡ every n q
-unfolding every
-every-cong zero p q h = refl
-every-cong (suc n) p q h = ap₂ _&&_ (every-cong n p q (λ i l. h i (omega arith))) (h n (omega arith))
 
 module _ (j : ℕ) (a b : List ℕ) (at from c d n : ℕ) (is : n ≡ usedCount (sizeId j)) (few : n ≤ 64) where
   same-parts : every n (λ i. eqb (getD a (at + i) 0) (getD b (from + i) 0)) && cond (hasDc (sizeId j)) (eqb c d) true

@@ -4,3 +4,5 @@ mod list;
 mod same;
 
 pub use list::put_lists;
+pub use same::has_dc;
+pub use same::used_count;

@@ -26,14 +26,14 @@ fn same_entries(a: &[u8], at: usize, b: &[u8], from: usize, n: usize) -> bool
 }
 
 // How many entries list j uses.
-fn used_count(j: usize) -> usize
+pub fn used_count(j: usize) -> usize
     ensures { λ r. ⌜ (r ≡ usedCount (sizeId j)) × (r ≤ 64) ⌝ }
 {
     if j / 6 == 0 { 16 } else { 64 }
 }
 
 // Whether list j has a DC number.
-pub(crate) fn has_dc(j: usize) -> bool
+pub fn has_dc(j: usize) -> bool
     ensures { λ r. ⌜ r ≡ hasDc (sizeId j) ⌝ }
 {
     1 < j / 6

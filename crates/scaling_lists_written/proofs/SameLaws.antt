@@ -1,14 +1,16 @@
 -- Lists that are the same to their size.
 --   every-at, every-all, every-fails   a test that holds of all numbers below a bound, and one that fails somewhere
+--   every-none, every-more, every-cong   the invariant of a loop that tests; tests that agree
 --   same-used, used-same               the same: equal as the size uses them
 --   same-cong                          whether two lists are the same is told by what their size uses
 --   used-entry, used-idem, used-whole  entries of a list as its size uses it; used twice; a list of 64 entries that are all used
 use mathlib.Core.Path.{_≡_, refl, sym, ap, ap₂, _∙_, subst}
 use mathlib.Core.Bool.{Bool, true, false, cond, _&&_}
 use mathlib.Core.List.{List}
-use Prim.Native.Nat.{ℕ, zero, suc, _≤_, _<_}
+use Prim.Native.Nat.{ℕ, zero, suc, _+_, _≤_, _<_}
 use native.Mathlib.Nat.{not-suc-le-zero}
 use native.Mathlib.Decide.{ℕ-discrete}
+use native.Mathlib.Numerals.{add-one}
 use native.Mathlib.Omega.{arith}
 use borrow.Author.Tests.{eqb-true, eq-eqb, ne-eqb, ltb-true, lt-ltb}
 use lib.Dec.{T, eqb, ltb}
@@ -42,6 +44,19 @@ every-fails n p i h e = by-test (every n p) refl
     by-test : (b : Bool) → every n p ≡ b → b ≡ false
     by-test true t = sym (every-at n p t i h) ∙ e
     by-test false t = refl
+
+pub every-none : (p : ℕ → Bool) → every 0 p ≡ true
+unfolding every
+every-none p = refl
+
+pub every-more : (n : ℕ) (p : ℕ → Bool) → every n p ≡ true → p n ≡ true → every (n + 1) p ≡ true
+unfolding every
+every-more n p e h = ap (λ (k : ℕ). every k p) (add-one n) ∙ ap₂ _&&_ e h
+
+pub every-cong : (n : ℕ) (p q : ℕ → Bool) → ((i : ℕ) → i < n → p i ≡ q i) → every n p ≡ every n q
+unfolding every
+every-cong zero p q h = refl
+every-cong (suc n) p q h = ap₂ _&&_ (every-cong n p q (λ i l. h i (omega arith))) (h n (omega arith))
 
 -- ---- lists that are the same
 used-few : (s : ℕ) → usedCount s ≤ 64

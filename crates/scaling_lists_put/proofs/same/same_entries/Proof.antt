@@ -7,8 +7,7 @@ use borrow.Author.Tests.{eq-eqb, ne-eqb}
 use lib.Dec.{eqb}
 use lib.ListN.{getD}
 use Rattle.scaling_lists_written.specs.Same.{every}
-use Rattle.scaling_lists_written.proofs.SameLaws.{every-fails}
-use Rattle.scaling_lists_put.proofs.CompareLaws.{every-none, every-more}
+use Rattle.scaling_lists_written.proofs.SameLaws.{every-none, every-more, every-fails}
 use Rattle.scaling_lists_put.proofs.same.same_entries.Statement.{statement}
 use Rattle.scaling_lists_put.proofs.same.same_entries.Tie as tie
 

@@ -1,0 +1,3 @@
+-- Laws of writing scaling lists; each file builds only on those above it.
+pub mod ValueLaws
+pub mod WriterLaws
