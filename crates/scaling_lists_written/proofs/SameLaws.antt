@@ -3,6 +3,7 @@
 --   every-none, every-more, every-cong   the invariant of a loop that tests; tests that agree
 --   same-used, used-same               the same: equal as the size uses them
 --   same-cong                          whether two lists are the same is told by what their size uses
+--   used-few                           no size uses more than 64 entries
 --   used-entry, used-idem, used-whole  entries of a list as its size uses it; used twice; a list of 64 entries that are all used
 use mathlib.Core.Path.{_≡_, refl, sym, ap, ap₂, _∙_, subst}
 use mathlib.Core.Bool.{Bool, true, false, cond, _&&_}
@@ -59,7 +60,7 @@ every-cong zero p q h = refl
 every-cong (suc n) p q h = ap₂ _&&_ (every-cong n p q (λ i l. h i (omega arith))) (h n (omega arith))
 
 -- ---- lists that are the same
-used-few : (s : ℕ) → usedCount s ≤ 64
+pub used-few : (s : ℕ) → usedCount s ≤ 64
 unfolding usedCount
 used-few s = by-test (eqb s 0)
   where
