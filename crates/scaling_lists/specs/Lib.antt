@@ -1,4 +1,3 @@
-pub mod Scan
 pub mod Syntax
 pub mod Answers
 pub mod Work

@@ -5,7 +5,6 @@ ghost use Rattle.scaling_lists.specs.Syntax.{positions, blank, entriesFr
 ghost use Rattle.scaling_lists.specs.Work.{filled, listed, partEnd};
 use crate::Part;
 use crate::lists;
-use crate::scan;
 use crate::values;
 
 // The entries of a coded list, in the order of the size's positions.

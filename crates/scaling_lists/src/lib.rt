@@ -5,7 +5,6 @@ mod coded;
 mod list;
 mod lists;
 mod reader;
-mod scan;
 mod taken;
 mod values;
 
