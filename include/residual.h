@@ -41,7 +41,7 @@ typedef struct {
     int32_t value;
 } residual_signed_answered;
 
-/* How many bits were read. */
+/* How many bits were read or written. */
 typedef struct {
     uint32_t number;
     uint8_t row;
@@ -138,6 +138,10 @@ residual_answered residual_dequantize_transform_skip_scaled_into_scalar_i16(cons
 residual_bits_answered residual_read_scaling_lists(const uint8_t *bytes, size_t bytes_len, const uint8_t *default_4x4, size_t default_4x4_len,
     const uint8_t *default_intra, size_t default_intra_len, const uint8_t *default_inter, size_t default_inter_len, uint8_t *lists, size_t lists_len,
     uint8_t *dcs, size_t dcs_len);
+/* The same written back from the start of out: the default, else a reference to the nearest equal list of its size, else in full. It answers how many bits were
+ * written; the rest of the last byte is 0. */
+residual_bits_answered residual_write_scaling_lists(const uint8_t *lists, size_t lists_len, const uint8_t *dcs, size_t dcs_len, const uint8_t *default_4x4,
+    size_t default_4x4_len, const uint8_t *default_intra, size_t default_intra_len, const uint8_t *default_inter, size_t default_inter_len, uint8_t *out, size_t out_len);
 
 /* Inverse transforms: the DCT of a block whose columns from nx on are read as zero, and the DST of size 4. Coefficients have the width of the output. */
 residual_answered residual_inv_transform_into_scalar(const int32_t *coeff, size_t coeff_len, size_t n, uint8_t bit_depth, size_t nx, int32_t *out,

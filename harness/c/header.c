@@ -177,6 +177,22 @@ static void lists(void) {
 }
 #endif
 
+#ifdef has_writer
+/* Twenty defaults, but for the first list, whose entries are 9: what `lists` reads. */
+static void written(void) {
+    uint8_t four[64], intra[64], inter[64], all[1280], dcs[20], out[9];
+    memset(four, 16, 64), memset(intra, 17, 64), memset(inter, 18, 64), memset(dcs, 16, 20), memset(out, 7, 9);
+    for (int j = 0; j < 20; j++) memset(all + 64 * j, j < 6 ? 16 : j < 18 ? (j % 6 < 3 ? 17 : 18) : (j == 18 ? 17 : 18), 64);
+    memset(all, 9, 16);
+    const uint8_t bytes[8] = {0xaf, 0xff, 0xea, 0xaa, 0xaa, 0xaa, 0xaa, 0x80};
+    residual_bits_answered a = residual_write_scaling_lists(all, 1280, dcs, 20, four, 64, intra, 64, inter, 64, out, 9);
+    expect(a.number == 0 && a.bits == 57 && memcmp(out, bytes, 8) == 0 && out[8] == 7, "write_scaling_lists");
+    all[3] = 0;
+    a = residual_write_scaling_lists(all, 1280, dcs, 20, four, 64, intra, 64, inter, 64, out, 7);
+    expect(a.number == 16 && a.bits == 0, "write_scaling_lists, refused");
+}
+#endif
+
 #ifdef has_tables
 /* A list of 20s with DC 30 under number 0 of stream 1: with QP' 4 level 2 gives 2 * 40 by an entry and 2 * 60 by DC. Stream 0 holds nothing. */
 static void tables(void) {
@@ -217,6 +233,9 @@ int main(void) {
 #endif
 #ifdef has_lists
     lists();
+#endif
+#ifdef has_writer
+    written();
 #endif
 #ifdef has_tables
     tables();

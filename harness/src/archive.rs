@@ -293,6 +293,23 @@ pub mod lists {
             )
         }
     }
+
+    #[cfg(has_writer)]
+    unsafe extern "C" {
+        fn residual_write_scaling_lists(
+            lists: *const u8, lists_len: usize, dcs: *const u8, dcs_len: usize, four: *const u8, four_len: usize, intra: *const u8, intra_len: usize, inter: *const u8, inter_len: usize,
+            out: *mut u8, out_len: usize,
+        ) -> BitsAnswered;
+    }
+
+    #[cfg(has_writer)]
+    pub fn write_scaling_lists(lists: &[u8], dcs: &[u8], four: &[u8], intra: &[u8], inter: &[u8], out: &mut [u8]) -> BitsAnswered {
+        unsafe {
+            residual_write_scaling_lists(
+                lists.as_ptr(), lists.len(), dcs.as_ptr(), dcs.len(), four.as_ptr(), four.len(), intra.as_ptr(), intra.len(), inter.as_ptr(), inter.len(), out.as_mut_ptr(), out.len(),
+            )
+        }
+    }
 }
 
 #[cfg(has_rounding)]

@@ -1,9 +1,12 @@
-//! Scaling lists against a plain writing of clause 7.3.4, on streams that a small writer makes, on damaged ones, and on random bytes.
+//! Scaling lists against a plain writing of clause 7.3.4: read from streams that a small writer makes, from damaged ones, and from random bytes; written from lists of
+//! which some are defaults or equal, and read back.
+#[cfg(has_writer)]
+use crate::archive::lists::write_scaling_lists;
 use crate::archive::lists::{BitsAnswered, read_scaling_lists};
 use crate::random::Random;
 use crate::tally::Tally;
 
-pub const FUNCTIONS: usize = 1;
+pub const FUNCTIONS: usize = if cfg!(has_writer) { 2 } else { 1 };
 
 const LISTS: usize = 20;
 const ENTRIES: usize = 64;
@@ -284,5 +287,111 @@ pub fn compare(tally: &mut Tally, seed: u64, cases: usize) {
         let answered = read_scaling_lists(&bytes, &defaults.four, &defaults.intra, &defaults.inter, &mut lists, &mut dcs);
         let agrees = answered == answer && lists == expected && dcs == expected_dcs;
         tally.compared(answered.number, agrees, || format!("{bytes:02x?}: {answered:?}, expected {answer:?}"));
+    }
+    #[cfg(has_writer)]
+    written::compare(tally, seed, cases);
+}
+
+#[cfg(has_writer)]
+mod written {
+    use super::*;
+
+    fn used(size: usize) -> usize {
+        width(size) * width(size)
+    }
+
+    fn same(size: usize, a: &List, b: &List) -> bool {
+        a.entries[..used(size)] == b.entries[..used(size)] && (size < 2 || a.dc == b.dc)
+    }
+
+    /// The default, else the nearest equal list of its size, else in full.
+    fn write(lists: &[List], defaults: &Defaults) -> Writer {
+        let mut writer = Writer::default();
+        for (j, list) in lists.iter().enumerate() {
+            let (size, before) = (j / 6, j % 6);
+            let matrix = if size == 3 { 3 * before } else { before };
+            let reference = if same(size, list, &defaults.of(size, matrix)) { Some(0) } else { (1..=before).find(|d| same(size, list, &lists[j - d])) };
+            if let Some(delta) = reference {
+                writer.0.push(false);
+                writer.unsigned(delta as u64);
+                continue;
+            }
+            writer.0.push(true);
+            let mut next = 8;
+            if size > 1 {
+                next = i64::from(list.dc);
+                writer.signed(next - 8);
+            }
+            for (row, column) in up_right(width(size) as i32) {
+                let entry = i64::from(list.entries[row * width(size) + column]);
+                writer.signed((entry - next + 128).rem_euclid(256) - 128);
+                next = entry;
+            }
+        }
+        writer
+    }
+
+    fn list(random: &mut Random, j: usize, before: &[List], defaults: &Defaults) -> List {
+        let (size, of_size) = (j / 6, j % 6);
+        match random.below(4) {
+            0 => {
+                let mut list = defaults.of(size, if size == 3 { 3 * of_size } else { of_size });
+                list.dc = random.pick(&[16, 16, 17]);
+                list
+            }
+            1 if of_size > 0 => before[j - 1 - random.below(of_size)].clone(),
+            _ => List { entries: (0..ENTRIES).map(|_| entry(random) as u8).collect(), dc: entry(random) as u8 },
+        }
+    }
+
+    /// Lengths, values and room as they should be, now and then not.
+    pub fn compare(tally: &mut Tally, seed: u64, cases: usize) {
+        tally.begin("write_scaling_lists");
+        let mut random = Random::of(seed, "write_scaling_lists");
+        for _ in 0..cases / 40 {
+            let mut default = || (0..length(&mut random, ENTRIES)).map(|_| entry(&mut random) as u8).collect::<Vec<u8>>();
+            let defaults = Defaults { four: default(), intra: default(), inter: default() };
+            let right = [&defaults.four, &defaults.intra, &defaults.inter].iter().all(|d| d.len() == ENTRIES);
+            let mut all: Vec<List> = Vec::new();
+            for j in 0..LISTS {
+                let plain = Defaults { four: vec![16; ENTRIES], intra: vec![17; ENTRIES], inter: vec![18; ENTRIES] };
+                let mut next = list(&mut random, j, &all, if right { &defaults } else { &plain });
+                if random.one_in(400) {
+                    next.entries[random.below(ENTRIES)] = 0;
+                }
+                if random.one_in(400) {
+                    next.dc = 0;
+                }
+                all.push(next);
+            }
+            let mut entries: Vec<u8> = all.iter().flat_map(|l| l.entries.clone()).collect();
+            let mut dcs: Vec<u8> = all.iter().map(|l| l.dc).collect();
+            entries.resize(length(&mut random, LISTS * ENTRIES), 0);
+            dcs.resize(length(&mut random, LISTS), 0);
+            let zero = all.iter().enumerate().any(|(j, l)| l.entries[..used(j / 6)].contains(&0) || (j >= 12 && l.dc == 0));
+            let fits = right && entries.len() >= LISTS * ENTRIES && dcs.len() >= LISTS;
+            let bits = if fits && !zero { write(&all, &defaults) } else { Writer::default() };
+            let bytes = bits.bytes();
+            let room = if random.one_in(20) && !bytes.is_empty() { bytes.len() - 1 } else { bytes.len() + random.below(4) };
+            let mut out: Vec<u8> = (0..room).map(|_| random.next() as u8).collect();
+            let mut due = out.clone();
+            let answer = if !fits {
+                BitsAnswered { number: 5, ..BitsAnswered::default() }
+            } else if zero {
+                BitsAnswered { number: 16, ..BitsAnswered::default() }
+            } else if room < bytes.len() {
+                BitsAnswered { number: 7, ..BitsAnswered::default() }
+            } else {
+                due[..bytes.len()].copy_from_slice(&bytes);
+                BitsAnswered { bits: bits.0.len(), ..BitsAnswered::default() }
+            };
+            let answered = write_scaling_lists(&entries, &dcs, &defaults.four, &defaults.intra, &defaults.inter, &mut out);
+            let mut agrees = answered == answer && out == due;
+            if answered.number == 0 {
+                let back = read(&out, &defaults);
+                agrees &= back.is_ok_and(|(read, end)| end == answered.bits && read.iter().zip(&all).enumerate().all(|(j, (a, b))| same(j / 6, a, b)));
+            }
+            tally.compared(answered.number, agrees, || format!("{answered:?}, expected {answer:?}"));
+        }
     }
 }

@@ -3,7 +3,7 @@
 --   ofNumber          of a call that hands back one unsigned number
 --   ofSigned          one signed number
 --   ofQpPrime         the same, where it is QP′
---   ofBits            how many bits were read
+--   ofBits            how many bits were read or written
 --   ofStored          the number under which a list was stored
 --   ofDequant         the numbers by which a block is scaled
 --   ofTransformSkip   the same with the shift of transform skip and its rounding

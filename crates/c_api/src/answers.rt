@@ -6,6 +6,7 @@ ghost use Rattle.scaling.specs.Answers.{factorOutcome, levelOutcome};
 ghost use Rattle.picture.specs.Answers.{checksumOutcome};
 ghost use Rattle.rounding.specs.Bound.{boundOutcome};
 ghost use Rattle.scaling_lists.specs.Answers.{readOutcome};
+ghost use Rattle.scaling_lists_writer.specs.Answers.{writeOutcome};
 ghost use Rattle.list_table.specs.Answers.{storeOutcome, listOutcome};
 ghost use Rattle.c_api.specs.Answers.{ofAnswered, ofNumber, ofSigned, ofQpPrime, ofBits, ofStored, ofDequant, ofTransformSkip};
 use crate::Answered;
@@ -28,6 +29,7 @@ use rounding::BoundAnswer;
 use scaling::FactorAnswer;
 use scaling::LevelAnswer;
 use scaling_lists::ReadAnswer;
+use scaling_lists_writer::WriteAnswer;
 
 pub(crate) fn refused(why: Refusal) -> Answered
     ensures { λ r. ⌜ ofAnswered r ≡ refusedWith tt why ⌝ }
@@ -336,6 +338,30 @@ pub(crate) fn list_answered(answer: ListAnswer) -> NumberAnswered
                 column: no.column,
                 place: no.place,
                 value: 0,
+            }
+        }
+    }
+}
+
+pub(crate) fn write_answered(answer: WriteAnswer) -> BitsAnswered
+    ensures { λ r. ⌜ ofBits r ≡ writeOutcome answer ⌝ }
+{
+    match answer {
+        WriteAnswer::Written(bits) => BitsAnswered {
+            number: 0,
+            row: 0,
+            column: 0,
+            place: 0,
+            bits,
+        },
+        WriteAnswer::Refused(why) => {
+            let no = refused(why);
+            BitsAnswered {
+                number: no.number,
+                row: no.row,
+                column: no.column,
+                place: no.place,
+                bits: 0,
             }
         }
     }

@@ -23,6 +23,7 @@ pub use levels::residual_dequantize_transform_skip_scaled_into_scalar_i32;
 pub use levels::residual_scale_level;
 pub use levels::residual_scaling_coeff;
 pub use lists::residual_read_scaling_lists;
+pub use lists::residual_write_scaling_lists;
 pub use pictures::picture_checksum;
 pub use pictures::picture_rebuild_block;
 pub use quantities::residual_dequant_params;
