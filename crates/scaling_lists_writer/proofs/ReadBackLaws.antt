@@ -1,7 +1,6 @@
 -- What an accepted call leaves in its buffer is read as the lists that were written.
---   Bytes xs                 each element is a byte
 --   writable-held            lists of bytes that row 16 does not refuse can be written
---   reader-reads-the-buffer  the reader gets them from the buffer, and ends at the number of bits that the call answers
+--   reader-reads-the-buffer  the statement of specs/Statements.antt
 use mathlib.Core.Path.{_≡_, refl, sym, subst}
 use mathlib.Core.Bool.{Bool, true, false, cond, not, _&&_}
 use mathlib.Core.List.{List}
@@ -16,20 +15,18 @@ use Rattle.refusal.specs.declared.Refusal.the-variants.{ListLengthInvalid, Outp
 use Rattle.refusal.specs.Outcome.{accepted}
 use Rattle.bits_written.specs.Bytes.{byteCount, byteOf, Begins}
 use Rattle.bits_written.proofs.BytesLaws.{begins-bytes}
-use Rattle.scaling_lists.specs.Syntax.{FactorList, Defaults, sizeId, scalingListData}
-use Rattle.scaling_lists.specs.Syntax.Reading.{got}
+use Rattle.scaling_lists.specs.Syntax.{FactorList, Defaults, sizeId}
 use Rattle.scaling_lists.specs.Work.{held}
 use Rattle.scaling_lists_written.specs.Same.{every, hasDc, usedCount, entry, Proper, listAt, Writable}
-use Rattle.scaling_lists_written.specs.Written.{writtenLists, readLists, Lent}
+use Rattle.scaling_lists_written.specs.Statements.{ReadBack}
+use Rattle.scaling_lists_written.specs.Written.{writtenLists, Lent}
 use Rattle.scaling_lists_written.proofs.SameLaws.{every-at, used-few}
 use Rattle.scaling_lists_written.proofs.WrittenLaws.{written-binary, reader-gets-what-was-written}
 use Rattle.scaling_lists_put.specs.Lists.{listFrom}
 use Rattle.scaling_lists_put.proofs.CompareLaws.{held-list}
 use Rattle.scaling_lists_writer.specs.Answers.{lengthsRefused, nonzero, valuesRefused, roomRefused, untouched, written, listsWritten, ListsWritten}
+use Rattle.scaling_lists_writer.specs.Statements.{Bytes, ReaderReadsTheBuffer}
 use Rattle.scaling_lists_writer.proofs.ValueLaws.{lengths-accepted}
-
-pub record Bytes (xs : List ℕ) : Type 0 where
-  pub small : (i : ℕ) → getD xs i 0 ≤ 255
 
 both : (s t : Bool) → s && t ≡ true → (s ≡ true) × (t ≡ true)
 both true t e = (refl, e)
@@ -72,7 +69,7 @@ module _ (lent : Defaults) (lists dcs out : List ℕ) (f : Bytes lists) (g : Byt
   bits = writtenLists lent (held 20 lists dcs)
 
   abbrev Back : ListsWritten → Type 0
-  Back w = w .answer .number ≡ 0 → scalingListData lent (w .out) ≡ got (readLists lent (held 20 lists dcs)) (w .answer .value)
+  Back w = w .answer .number ≡ 0 → ReadBack lent (held 20 lists dcs) (w .out) × (w .answer .value ≡ length bits)
 
   buffer-begins : byteCount (length bits) ≤ length out → Begins (overwrite (byteCount (length bits)) (byteOf bits) out) 0 bits
   buffer-begins h =
@@ -84,9 +81,11 @@ module _ (lent : Defaults) (lists dcs out : List ℕ) (f : Bytes lists) (g : Byt
       → Back (cond t (untouched out OutputTooShort) (record { answer = accepted (length bits); out = overwrite (byteCount (length bits)) (byteOf bits) out }))
   unfolding roomRefused
   by-room true e long v z = absurd (let b : ⊥ = omega arith in b)
-  by-room false e long v z =
-      reader-gets-what-was-written lent long (held 20 lists dcs) (writable-held lists dcs f g v) (overwrite (byteCount (length bits)) (byteOf bits) out)
-      (buffer-begins (ltb-false (length out) (byteCount (length bits)) e))
+  by-room false e long v z = (
+    reader-gets-what-was-written lent (held 20 lists dcs) long (writable-held lists dcs f g v) (overwrite (byteCount (length bits)) (byteOf bits) out)
+        (buffer-begins (ltb-false (length out) (byteCount (length bits)) e)),
+    refl,
+  )
 
   by-values : (t : Bool) → valuesRefused (held 20 lists dcs) ≡ t → Lent lent → Back (cond t (untouched out (ListValueInvalid 0)) (written out bits))
   unfolding written
@@ -100,8 +99,7 @@ module _ (lent : Defaults) (lists dcs out : List ℕ) (f : Bytes lists) (g : Byt
       let l = lengths-accepted lists dcs (lent .four) (lent .intra) (lent .inter) e in
       by-values (valuesRefused (held 20 lists dcs)) refl (record { four-long = l .four-long; intra-long = l .intra-long; inter-long = l .inter-long }) z
 
-  pub reader-reads-the-buffer : listsWritten lent lists dcs out .answer .number ≡ 0
-      → scalingListData lent (listsWritten lent lists dcs out .out) ≡ got (readLists lent (held 20 lists dcs)) (listsWritten lent lists dcs out .answer .value)
-  unfolding listsWritten
-  reader-reads-the-buffer z =
-      by-lengths (lengthsRefused (length lists) (length dcs) (length (lent .four)) (length (lent .intra)) (length (lent .inter))) refl z
+pub reader-reads-the-buffer : ReaderReadsTheBuffer
+unfolding listsWritten
+reader-reads-the-buffer lent lists dcs out f g z =
+    by-lengths lent lists dcs out f g (lengthsRefused (length lists) (length dcs) (length (lent .four)) (length (lent .intra)) (length (lent .inter))) refl z

@@ -1,11 +1,9 @@
 -- The 20 lists: what the reader gets, and what equal bits mean.
---   reader-gets-what-was-written   from bytes that begin with the bits written the reader gets the lists, and it ends behind those bits
---   read-lists-are-written         those lists are the lists written, as far as their sizes use them
---   equal-bits-mean-equal-lists    under the same defaults two sets of lists give equal bits exactly when they are equal
+--   reader-gets-what-was-written, equal-bits-mean-equal-lists   the statements of specs/Statements.antt
+--   written-binary                 every bit written is 0 or 1
 use mathlib.Core.Path.{_≡_, refl, sym, ap, ap₂, _∙_, subst}
 use mathlib.Core.Bool.{Bool, true, false, cond}
 use mathlib.Core.List.{List, [], _∷_, _++_}
-use mathlib.Core.Logic.{_↔_}
 use Prim.Native.Nat.{ℕ, zero, suc, _+_, _-_, _≤_, _<_}
 use native.Mathlib.Nat.{zero-add}
 use native.Mathlib.Omega.{arith}
@@ -24,6 +22,7 @@ use Rattle.scaling_lists.specs.Syntax.Reading.{got}
 use Rattle.scaling_lists_written.specs.Same.{hasDc, usedCount, entry, usedList, listAt, usedLists, Writable}
 use Rattle.scaling_lists_written.specs.Written.{Form, difference, deltaFrom, deltaBits, fullBits, defaultList, earlier, nearest, formOf, formBits, listBits, writtenUpTo, writtenLists, readList, readLists, Lent}
 use Rattle.scaling_lists_written.specs.Written.Form.{taken, full}
+use Rattle.scaling_lists_written.specs.Statements.{ReaderGetsWhatWasWritten, EqualBitsMeanEqualLists}
 use Rattle.scaling_lists_written.proofs.SameLaws.{same-cong}
 use Rattle.scaling_lists_written.proofs.ListLaws.{readBefore, list-read, read-used}
 
@@ -47,15 +46,19 @@ module _ (lent : Defaults) (long : Lent lent) (lists : List FactorList) (writabl
       (ap₂ (listsFrom k lent bytes) (sym (tabulate-suc j (λ k. readList lent k (listAt lists k)))) (sym (length-append (writtenUpTo lent lists j) (listBits lent lists j)))
       ∙ lists-read k (suc j) (omega arith))
 
-  pub reader-gets-what-was-written : scalingListData lent bytes ≡ got (readLists lent lists) (length (writtenLists lent lists))
+  all-read : scalingListData lent bytes ≡ got (readLists lent lists) (length (writtenLists lent lists))
   unfolding scalingListData readLists writtenLists tabulate tabulateFrom writtenUpTo
-  reader-gets-what-was-written = lists-read 20 0 refl
+  all-read = lists-read 20 0 refl
 
-pub read-lists-are-written : (lent : Defaults) (lists : List FactorList) → usedLists (readLists lent lists) ≡ usedLists lists
+used-read : (lent : Defaults) (lists : List FactorList) → usedLists (readLists lent lists) ≡ usedLists lists
 unfolding usedLists readLists
-read-lists-are-written lent lists =
+used-read lent lists =
     tabulate-cong 20 _ _ (λ j h.
     ap (usedList (sizeId j)) (tabulate-getD 20 (λ k. readList lent k (listAt lists k)) j none h) ∙ read-used lent j (listAt lists j))
+
+pub reader-gets-what-was-written : ReaderGetsWhatWasWritten
+reader-gets-what-was-written lent lists long writable bytes g =
+    record { read = all-read lent long lists writable bytes g; as-written = used-read lent lists }
 
 -- ---- every bit is one
 delta-binary : (ps : List ℕ) (next : ℕ) (es : List ℕ) → Binary (deltaBits ps next es)
@@ -154,14 +157,13 @@ module _ (lent : Defaults) (a b : List FactorList) (e : usedLists a ≡ usedList
 same-got : {A : Type 0} (a b : A) (m n : ℕ) → got a m ≡ got b n → a ≡ b
 same-got a b m n e = cc
 
-module _ (lent : Defaults) (long : Lent lent) (a b : List FactorList) (fa : Writable a) (fb : Writable b) where
-  equal-lists : writtenLists lent a ≡ writtenLists lent b → usedLists a ≡ usedLists b
-  equal-lists e =
-      let bytes = bytesOf (writtenLists lent a) in
-      let g : Begins bytes 0 (writtenLists lent a) = begins-own (writtenLists lent a) (written-binary lent a) in
-      let r = reader-gets-what-was-written lent long a fa bytes g in
-      let t = reader-gets-what-was-written lent long b fb bytes (subst (λ (bits : List ℕ). Begins bytes 0 bits) e g) in
-      sym (read-lists-are-written lent a) ∙ ap usedLists (same-got _ _ _ _ (sym r ∙ t)) ∙ read-lists-are-written lent b
+equal-lists : (lent : Defaults) (a b : List FactorList) → Lent lent → Writable a → Writable b → writtenLists lent a ≡ writtenLists lent b → usedLists a ≡ usedLists b
+equal-lists lent a b long f h e =
+    let bytes = bytesOf (writtenLists lent a) in
+    let g : Begins bytes 0 (writtenLists lent a) = begins-own (writtenLists lent a) (written-binary lent a) in
+    let r = reader-gets-what-was-written lent a long f bytes g in
+    let t = reader-gets-what-was-written lent b long h bytes (subst (λ (bits : List ℕ). Begins bytes 0 bits) e g) in
+    sym (r .as-written) ∙ ap usedLists (same-got _ _ _ _ (sym (r .read) ∙ t .read)) ∙ t .as-written
 
-  pub equal-bits-mean-equal-lists : (writtenLists lent a ≡ writtenLists lent b) ↔ (usedLists a ≡ usedLists b)
-  equal-bits-mean-equal-lists = (equal-lists, equal-bits lent a b)
+pub equal-bits-mean-equal-lists : EqualBitsMeanEqualLists
+equal-bits-mean-equal-lists lent a b long f h = (equal-lists lent a b long f h, equal-bits lent a b)
