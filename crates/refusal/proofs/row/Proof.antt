@@ -32,6 +32,9 @@ enum-told-8 c = search needs
 enum-known-refusal : tie.Need-enum-known-refusal
 enum-known-refusal c = search needs
 
+enum-known-refusal-2 : tie.Need-enum-known-refusal-2
+enum-known-refusal-2 c = search needs
+
 enum-told-9 : tie.Need-enum-told-9
 enum-told-9 c = search needs
 
@@ -47,8 +50,8 @@ enum-told-12 c = search needs
 enum-told-13 : tie.Need-enum-told-13
 enum-told-13 c = search needs
 
-enum-known-refusal-2 : tie.Need-enum-known-refusal-2
-enum-known-refusal-2 c = search needs
+enum-known-refusal-3 : tie.Need-enum-known-refusal-3
+enum-known-refusal-3 c = search needs
 
 enum-told-14 : tie.Need-enum-told-14
 enum-told-14 c = search needs
@@ -90,34 +93,37 @@ returns-9 : tie.Need-returns-9
 returns-9 c = sym (ap row (c .before .refusal .given .1))
 
 returns-10 : tie.Need-returns-10
-returns-10 c = sym (ap row (c .enum-told9 .given .1))
+returns-10 c = sym (ap row (c .before .refusal2 .given .1))
 
 returns-11 : tie.Need-returns-11
-returns-11 c = sym (ap row (c .enum-told10 .given .1))
+returns-11 c = sym (ap row (c .enum-told9 .given .1))
 
 returns-12 : tie.Need-returns-12
-returns-12 c = sym (ap row (c .enum-told11 .given .1))
+returns-12 c = sym (ap row (c .enum-told10 .given .1))
 
 returns-13 : tie.Need-returns-13
-returns-13 c = sym (ap row (c .enum-told12 .given .1))
+returns-13 c = sym (ap row (c .enum-told11 .given .1))
 
 returns-14 : tie.Need-returns-14
-returns-14 c = sym (ap row (c .enum-told13 .given .1))
+returns-14 c = sym (ap row (c .enum-told12 .given .1))
 
 returns-15 : tie.Need-returns-15
-returns-15 c = sym (ap row (c .before .refusal2 .given .1))
+returns-15 c = sym (ap row (c .enum-told13 .given .1))
 
 returns-16 : tie.Need-returns-16
-returns-16 c = sym (ap row (c .enum-told14 .given .1))
+returns-16 c = sym (ap row (c .before .refusal3 .given .1))
 
 returns-17 : tie.Need-returns-17
-returns-17 c = sym (ap row (c .enum-told15 .given .1))
+returns-17 c = sym (ap row (c .enum-told14 .given .1))
 
 returns-18 : tie.Need-returns-18
-returns-18 c = sym (ap row (c .enum-told16 .given .1))
+returns-18 c = sym (ap row (c .enum-told15 .given .1))
 
 returns-19 : tie.Need-returns-19
-returns-19 c = sym (ap row (c .enum-told17 .given .1))
+returns-19 c = sym (ap row (c .enum-told16 .given .1))
+
+returns-20 : tie.Need-returns-20
+returns-20 c = sym (ap row (c .enum-told17 .given .1))
 
 pub row-spec : {M : Type 1} → statement M
 row-spec =
@@ -132,12 +138,13 @@ row-spec =
     enum-told-7
     enum-told-8
     enum-known-refusal
+    enum-known-refusal-2
     enum-told-9
     enum-told-10
     enum-told-11
     enum-told-12
     enum-told-13
-    enum-known-refusal-2
+    enum-known-refusal-3
     enum-told-14
     enum-told-15
     enum-told-16
@@ -160,4 +167,5 @@ row-spec =
     returns-16
     returns-17
     returns-18
-    returns-19)
+    returns-19
+    returns-20)
