@@ -1,0 +1,3 @@
+pub mod LevelLaws
+pub mod ScalesLaws
+pub mod SideLaws

@@ -1,0 +1,1 @@
+// Which levels give the coefficients of a block: scaling asked backwards.
