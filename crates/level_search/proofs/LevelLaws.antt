@@ -1,4 +1,5 @@
 -- Laws of the level that gives a coefficient, whatever the scaling.
+--   clash                           a test is not both
 --   equal-sound, equal-refl         the test for equality
 --   gives-sound, gives-complete     the test of a level is what it stands for
 --   missing-none, missing-some      `levelMissing` says that no level of the range gives the coefficient, both ways
@@ -23,7 +24,7 @@ use Rattle.h265.specs.Range.{coeffMin, coeffMax, outsideRange}
 use Rattle.h265.proofs.RangeLaws.{outsideRange-false}
 use Rattle.level_search.specs.Level.{equal, Gives, LeastLevel, gives, leastSize, levelMissing, leastLevel, Scales}
 
-clash : {A : Type 0} {t : Bool} → t ≡ false → t ≡ true → A
+pub clash : {A : Type 0} {t : Bool} → t ≡ false → t ≡ true → A
 clash e d = absurd (subst T (sym d ∙ e) tt)
 
 -- ---- tests

@@ -1,3 +1,4 @@
 pub mod LevelLaws
 pub mod ScalesLaws
 pub mod SideLaws
+pub mod NearestLaws

@@ -10,7 +10,7 @@ use mathlib.Core.Bool.{Bool, true, false, not, cond}
 use Prim.Native.Nat.{ℕ, suc, _+_, _^_, _≤_, _<_}
 use native.Mathlib.Omega.{arith}
 use borrow.Author.Tests.{ltb-true, ltb-false, not-true}
-use lib.Dec.{T, ltb}
+use lib.Dec.{ltb}
 use lib.Pow.{pow-pos}
 use lib.IntN.{ℤ, pos, negsuc, negℤ, natAbs}
 use lib.Signed.{ltZ, _≤ℤ_, _<ℤ_, ≤ℤ-refl, clashℤ}
@@ -24,10 +24,7 @@ use Rattle.h265.proofs.RangeLaws.{outsideRange-false}
 use Rattle.parameters.specs.declared.DequantParams.{DequantParams}
 use Rattle.level_search.specs.Level.{Gives, LeastLevel, levelMissing, Scales}
 use Rattle.level_search.specs.Work.{sided, sideEnd, reaches, nearestSize, nearest}
-use Rattle.level_search.proofs.LevelLaws.{inside-range, inside-size, missing-all}
-
-clash : {A : Type 0} {t : Bool} → t ≡ false → t ≡ true → A
-clash e d = absurd (subst T (sym d ∙ e) tt)
+use Rattle.level_search.proofs.LevelLaws.{clash, inside-range, inside-size, missing-all}
 
 -- ---- the first of a rising test
 module _ (e : ℕ) (p : ℕ → Bool) (Hit : ℕ → Type 0)

@@ -51,6 +51,8 @@ firstMiss p list n coeff = firstWhere (n * n) (missesAt p list n coeff)
 
 pub record Invertible (p : DequantParams) : Type 0 where
   pub manageable : Manageable p
+  pub least : p .«clip_min» ≤ℤ pos 0
+  pub most : pos 0 ≤ℤ p .«clip_max»
   pub scales : (m : ℕ) → Scales (listedLevel p m)
 
 pub record Searched (p : DequantParams) (list : ScalingList) (n : ℕ) (coeff before after : List ℤ) (first : ℕ) : Type 0 where
