@@ -2,3 +2,4 @@ pub mod LevelLaws
 pub mod ScalesLaws
 pub mod SideLaws
 pub mod NearestLaws
+pub mod BlockLaws

@@ -44,6 +44,7 @@ fn search(
     requires { ⌜ Invertible by ⌝ }
     requires { ⌜ WholeList (length (now list)) n ⌝ }
     requires { ⌜ n * n ≤ length (now coeff) ⌝ }
+    requires { ⌜ length (now found) ≡ 1024 ⌝ }
     ensures { λ r. ⌜ Searched by (listed (now (list .entry)) dc) n (now (coeff .entry)) (now (found .entry)) (now (found .exit)) r ⌝ }
 {
     let count = n * n;

@@ -1,26 +1,23 @@
+-- `level_search::block::missing_at` meets its contract: row and column of an index below n² fit 8 bits.
+use native.Mathlib.Omega.{arith}
 use borrow.Author.Needs.{needs}
+use Rattle.h265.proofs.RangeLaws.{size-bound}
+use Rattle.level_search.proofs.BlockLaws.{row-fits, column-fits}
 use Rattle.level_search.proofs.block.missing_at.Statement.{statement}
 use Rattle.level_search.proofs.block.missing_at.Tie as tie
-use Rattle.level_search.proofs.block.missing_at.Reads as reads
-use Rattle.level_search.proofs.block.missing_at.Lts as lts
 
--- src/block.rt:82:28
 div-t3 : tie.Need-div-t3
-div-t3 c = ?
+div-t3 c = omega (arith, size-bound (c .args .n) (c .pre .0))
 
--- src/block.rt:82:27
 cast-t4 : tie.Need-cast-t4
-cast-t4 c = ?
+cast-t4 c = omega (arith, row-fits (c .args .n) (c .args .index) (c .pre .0) (c .pre .1))
 
--- src/block.rt:82:47
 rem-t5 : tie.Need-rem-t5
-rem-t5 c = ?
+rem-t5 c = omega (arith, size-bound (c .args .n) (c .pre .0))
 
--- src/block.rt:82:46
 cast-t6 : tie.Need-cast-t6
-cast-t6 c = ?
+cast-t6 c = omega (arith, column-fits (c .args .n) (c .args .index) (c .pre .0))
 
--- src/block.rt:77:1
 returns : tie.Need-returns
 returns c = search needs
 
