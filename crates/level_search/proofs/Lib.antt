@@ -3,3 +3,4 @@ pub mod ScalesLaws
 pub mod SideLaws
 pub mod NearestLaws
 pub mod BlockLaws
+pub mod FoundLaws
