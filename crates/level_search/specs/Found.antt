@@ -5,9 +5,10 @@
 --   firstMissing               the first such index in row order, and n² where there is none
 --   leastAt                    the level of least size that gives the coefficient at an index
 --   levelsFound                what a call hands back: its answer, and the buffer of levels afterwards
+--   Missing                    some coefficient of the block has no level, said of every level in the range
 use mathlib.Core.Bool.{Bool, cond}
 use mathlib.Core.List.{List}
-use Prim.Native.Nat.{ℕ, _*_, _/_, _%_}
+use Prim.Native.Nat.{ℕ, _*_, _/_, _%_, _<_}
 use lib.Dec.{ltb}
 use lib.IntN.{ℤ, pos, natAbs}
 use lib.ListN.{length, getD}
@@ -20,7 +21,7 @@ use Rattle.h265.specs.ScalingFactor.{ScalingList, scalingFactor}
 use Rattle.refusal.specs.declared.Refusal.the-variants.{LevelMissing}
 use Rattle.refusal.specs.Written.{Written, left, wrote}
 use Rattle.scaling_blocks.specs.Blocks.{bits32, entriesOf, blockLadder}
-use Rattle.level_search.specs.Level.{levelMissing, leastLevel}
+use Rattle.level_search.specs.Level.{Gives, levelMissing, leastLevel}
 
 unfoldable pub scalingAt : ScalingList → ℕ → ℕ → Bool → ℤ → ℕ → ℤ → ℤ
 scalingAt list n b x q i level =
@@ -48,3 +49,9 @@ levelsFound list n q b x coeff out =
     blockLadder (left out)
     (blockFound n (firstMissing list n b x q coeff) (leastAt list n b x q coeff) out)
     bits32 n b x (entriesOf list) (length coeff) (length out)
+
+-- a coefficient of the block that no level in the range scales to
+pub record Missing (list : ScalingList) (n b : ℕ) (x : Bool) (q : ℤ) (coeff : List ℤ) : Type 0 where
+  pub index : ℕ
+  pub inside : index < n * n
+  pub none : (v : ℤ) → Gives (scalingAt list n b x q index) (transformRange b x) (getD coeff index (pos 0)) v → ⊥
