@@ -3,7 +3,7 @@
 use Prim.Native.Nat.{_≤_}
 use lib.Dec.{lit≤}
 use Rattle.refusal.specs.declared.Refusal.{Refusal}
-use Rattle.refusal.specs.declared.Refusal.the-variants.{SizeInvalid, DepthInvalid, WidthTooNarrow, DstSizeInvalid, ListLengthInvalid, InputTooShort, OutputTooShort, PlaceOutside, CoefficientAbove, SampleOutside, PictureInvalid, BitsEnded, ReferenceMissing, ListValueInvalid, StreamFull, ListMissing, CoefficientBelow, KindUnknown, BodyTooShort, LevelsBeforeParameters, ParameterInvalid}
+use Rattle.refusal.specs.declared.Refusal.the-variants.{SizeInvalid, DepthInvalid, WidthTooNarrow, DstSizeInvalid, ListLengthInvalid, InputTooShort, OutputTooShort, PlaceOutside, CoefficientAbove, LevelMissing, SampleOutside, PictureInvalid, BitsEnded, ReferenceMissing, ListValueInvalid, StreamFull, ListMissing, CoefficientBelow, KindUnknown, BodyTooShort, LevelsBeforeParameters, ParameterInvalid}
 use Rattle.refusal.specs.Refusal.{number}
 
 pub number-least : (e : Refusal) → 1 ≤ number e
@@ -16,6 +16,7 @@ number-least InputTooShort = lit≤ tt
 number-least OutputTooShort = lit≤ tt
 number-least PlaceOutside = lit≤ tt
 number-least (CoefficientAbove k c) = lit≤ tt
+number-least (LevelMissing k c) = lit≤ tt
 number-least (SampleOutside at) = lit≤ tt
 number-least PictureInvalid = lit≤ tt
 number-least (BitsEnded at) = lit≤ tt

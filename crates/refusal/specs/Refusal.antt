@@ -4,7 +4,7 @@
 --   row e, column e the place of a coefficient outside its range, else 0
 use Prim.Native.Nat.{ℕ}
 use Rattle.refusal.specs.declared.Refusal.{Refusal}
-use Rattle.refusal.specs.declared.Refusal.the-variants.{SizeInvalid, DepthInvalid, WidthTooNarrow, DstSizeInvalid, ListLengthInvalid, InputTooShort, OutputTooShort, PlaceOutside, CoefficientAbove, SampleOutside, PictureInvalid, BitsEnded, ReferenceMissing, ListValueInvalid, StreamFull, ListMissing, CoefficientBelow, KindUnknown, BodyTooShort, LevelsBeforeParameters, ParameterInvalid}
+use Rattle.refusal.specs.declared.Refusal.the-variants.{SizeInvalid, DepthInvalid, WidthTooNarrow, DstSizeInvalid, ListLengthInvalid, InputTooShort, OutputTooShort, PlaceOutside, CoefficientAbove, LevelMissing, SampleOutside, PictureInvalid, BitsEnded, ReferenceMissing, ListValueInvalid, StreamFull, ListMissing, CoefficientBelow, KindUnknown, BodyTooShort, LevelsBeforeParameters, ParameterInvalid}
 
 abbrev pub number : Refusal → ℕ
 number SizeInvalid = 1
@@ -16,6 +16,7 @@ number InputTooShort = 6
 number OutputTooShort = 7
 number PlaceOutside = 8
 number (CoefficientAbove k c) = 9
+number (LevelMissing k c) = 11
 number (SampleOutside at) = 12
 number PictureInvalid = 13
 number (BitsEnded at) = 14
@@ -39,6 +40,7 @@ place InputTooShort = 0
 place OutputTooShort = 0
 place PlaceOutside = 0
 place (CoefficientAbove k c) = 0
+place (LevelMissing k c) = 0
 place (SampleOutside at) = at
 place PictureInvalid = 0
 place (BitsEnded at) = at
@@ -62,6 +64,7 @@ row InputTooShort = 0
 row OutputTooShort = 0
 row PlaceOutside = 0
 row (CoefficientAbove k c) = k
+row (LevelMissing k c) = k
 row (SampleOutside at) = 0
 row PictureInvalid = 0
 row (BitsEnded at) = 0
@@ -85,6 +88,7 @@ column InputTooShort = 0
 column OutputTooShort = 0
 column PlaceOutside = 0
 column (CoefficientAbove k c) = c
+column (LevelMissing k c) = c
 column (SampleOutside at) = 0
 column PictureInvalid = 0
 column (BitsEnded at) = 0

@@ -32,6 +32,9 @@ enum-told-8 c = search needs
 enum-known-refusal : tie.Need-enum-known-refusal
 enum-known-refusal c = search needs
 
+enum-known-refusal-2 : tie.Need-enum-known-refusal-2
+enum-known-refusal-2 c = search needs
+
 enum-told-9 : tie.Need-enum-told-9
 enum-told-9 c = search needs
 
@@ -53,8 +56,8 @@ enum-told-14 c = search needs
 enum-told-15 : tie.Need-enum-told-15
 enum-told-15 c = search needs
 
-enum-known-refusal-2 : tie.Need-enum-known-refusal-2
-enum-known-refusal-2 c = search needs
+enum-known-refusal-3 : tie.Need-enum-known-refusal-3
+enum-known-refusal-3 c = search needs
 
 enum-told-16 : tie.Need-enum-told-16
 enum-told-16 c = search needs
@@ -96,40 +99,43 @@ returns-9 : tie.Need-returns-9
 returns-9 c = sym (ap column (c .before .refusal .given .1))
 
 returns-10 : tie.Need-returns-10
-returns-10 c = sym (ap column (c .enum-told9 .given .1))
+returns-10 c = sym (ap column (c .before .refusal2 .given .1))
 
 returns-11 : tie.Need-returns-11
-returns-11 c = sym (ap column (c .enum-told10 .given .1))
+returns-11 c = sym (ap column (c .enum-told9 .given .1))
 
 returns-12 : tie.Need-returns-12
-returns-12 c = sym (ap column (c .enum-told11 .given .1))
+returns-12 c = sym (ap column (c .enum-told10 .given .1))
 
 returns-13 : tie.Need-returns-13
-returns-13 c = sym (ap column (c .enum-told12 .given .1))
+returns-13 c = sym (ap column (c .enum-told11 .given .1))
 
 returns-14 : tie.Need-returns-14
-returns-14 c = sym (ap column (c .enum-told13 .given .1))
+returns-14 c = sym (ap column (c .enum-told12 .given .1))
 
 returns-15 : tie.Need-returns-15
-returns-15 c = sym (ap column (c .enum-told14 .given .1))
+returns-15 c = sym (ap column (c .enum-told13 .given .1))
 
 returns-16 : tie.Need-returns-16
-returns-16 c = sym (ap column (c .enum-told15 .given .1))
+returns-16 c = sym (ap column (c .enum-told14 .given .1))
 
 returns-17 : tie.Need-returns-17
-returns-17 c = sym (ap column (c .before .refusal2 .given .1))
+returns-17 c = sym (ap column (c .enum-told15 .given .1))
 
 returns-18 : tie.Need-returns-18
-returns-18 c = sym (ap column (c .enum-told16 .given .1))
+returns-18 c = sym (ap column (c .before .refusal3 .given .1))
 
 returns-19 : tie.Need-returns-19
-returns-19 c = sym (ap column (c .enum-told17 .given .1))
+returns-19 c = sym (ap column (c .enum-told16 .given .1))
 
 returns-20 : tie.Need-returns-20
-returns-20 c = sym (ap column (c .enum-told18 .given .1))
+returns-20 c = sym (ap column (c .enum-told17 .given .1))
 
 returns-21 : tie.Need-returns-21
-returns-21 c = sym (ap column (c .enum-told19 .given .1))
+returns-21 c = sym (ap column (c .enum-told18 .given .1))
+
+returns-22 : tie.Need-returns-22
+returns-22 c = sym (ap column (c .enum-told19 .given .1))
 
 pub column-spec : {M : Type 1} → statement M
 column-spec =
@@ -144,6 +150,7 @@ column-spec =
     enum-told-7
     enum-told-8
     enum-known-refusal
+    enum-known-refusal-2
     enum-told-9
     enum-told-10
     enum-told-11
@@ -151,7 +158,7 @@ column-spec =
     enum-told-13
     enum-told-14
     enum-told-15
-    enum-known-refusal-2
+    enum-known-refusal-3
     enum-told-16
     enum-told-17
     enum-told-18
@@ -176,4 +183,5 @@ column-spec =
     returns-18
     returns-19
     returns-20
-    returns-21)
+    returns-21
+    returns-22)

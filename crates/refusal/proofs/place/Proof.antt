@@ -32,11 +32,14 @@ enum-told-8 c = search needs
 enum-told-9 : tie.Need-enum-told-9
 enum-told-9 c = search needs
 
+enum-told-10 : tie.Need-enum-told-10
+enum-told-10 c = search needs
+
 enum-known-refusal : tie.Need-enum-known-refusal
 enum-known-refusal c = search needs
 
-enum-told-10 : tie.Need-enum-told-10
-enum-told-10 c = search needs
+enum-told-11 : tie.Need-enum-told-11
+enum-told-11 c = search needs
 
 enum-known-refusal-2 : tie.Need-enum-known-refusal-2
 enum-known-refusal-2 c = search needs
@@ -46,9 +49,6 @@ enum-known-refusal-3 c = search needs
 
 enum-known-refusal-4 : tie.Need-enum-known-refusal-4
 enum-known-refusal-4 c = search needs
-
-enum-told-11 : tie.Need-enum-told-11
-enum-told-11 c = search needs
 
 enum-told-12 : tie.Need-enum-told-12
 enum-told-12 c = search needs
@@ -67,6 +67,9 @@ enum-told-16 c = search needs
 
 enum-told-17 : tie.Need-enum-told-17
 enum-told-17 c = search needs
+
+enum-told-18 : tie.Need-enum-told-18
+enum-told-18 c = search needs
 
 returns : tie.Need-returns
 returns c = sym (ap place (c .enum-told .given .1))
@@ -96,22 +99,22 @@ returns-9 : tie.Need-returns-9
 returns-9 c = sym (ap place (c .enum-told9 .given .1))
 
 returns-10 : tie.Need-returns-10
-returns-10 c = sym (ap place (c .before .refusal .given .1))
+returns-10 c = sym (ap place (c .enum-told10 .given .1))
 
 returns-11 : tie.Need-returns-11
-returns-11 c = sym (ap place (c .enum-told10 .given .1))
+returns-11 c = sym (ap place (c .before .refusal .given .1))
 
 returns-12 : tie.Need-returns-12
-returns-12 c = sym (ap place (c .before .refusal2 .given .1))
+returns-12 c = sym (ap place (c .enum-told11 .given .1))
 
 returns-13 : tie.Need-returns-13
-returns-13 c = sym (ap place (c .before .refusal3 .given .1))
+returns-13 c = sym (ap place (c .before .refusal2 .given .1))
 
 returns-14 : tie.Need-returns-14
-returns-14 c = sym (ap place (c .before .refusal4 .given .1))
+returns-14 c = sym (ap place (c .before .refusal3 .given .1))
 
 returns-15 : tie.Need-returns-15
-returns-15 c = sym (ap place (c .enum-told11 .given .1))
+returns-15 c = sym (ap place (c .before .refusal4 .given .1))
 
 returns-16 : tie.Need-returns-16
 returns-16 c = sym (ap place (c .enum-told12 .given .1))
@@ -131,6 +134,9 @@ returns-20 c = sym (ap place (c .enum-told16 .given .1))
 returns-21 : tie.Need-returns-21
 returns-21 c = sym (ap place (c .enum-told17 .given .1))
 
+returns-22 : tie.Need-returns-22
+returns-22 c = sym (ap place (c .enum-told18 .given .1))
+
 pub place-spec : {M : Type 1} → statement M
 place-spec =
     tie.close
@@ -144,18 +150,19 @@ place-spec =
     enum-told-7
     enum-told-8
     enum-told-9
-    enum-known-refusal
     enum-told-10
+    enum-known-refusal
+    enum-told-11
     enum-known-refusal-2
     enum-known-refusal-3
     enum-known-refusal-4
-    enum-told-11
     enum-told-12
     enum-told-13
     enum-told-14
     enum-told-15
     enum-told-16
     enum-told-17
+    enum-told-18
     returns
     returns-2
     returns-3
@@ -176,4 +183,5 @@ place-spec =
     returns-18
     returns-19
     returns-20
-    returns-21)
+    returns-21
+    returns-22)
