@@ -62,6 +62,9 @@ enum-told-14 c = search needs
 enum-told-15 : tie.Need-enum-told-15
 enum-told-15 c = search needs
 
+enum-told-16 : tie.Need-enum-told-16
+enum-told-16 c = search needs
+
 returns : tie.Need-returns
 returns c = sym (ap place (c .enum-told .given .1))
 
@@ -119,6 +122,9 @@ returns-18 c = sym (ap place (c .enum-told14 .given .1))
 returns-19 : tie.Need-returns-19
 returns-19 c = sym (ap place (c .enum-told15 .given .1))
 
+returns-20 : tie.Need-returns-20
+returns-20 c = sym (ap place (c .enum-told16 .given .1))
+
 pub place-spec : {M : Type 1} → statement M
 place-spec =
     tie.close
@@ -142,6 +148,7 @@ place-spec =
     enum-told-13
     enum-told-14
     enum-told-15
+    enum-told-16
     returns
     returns-2
     returns-3
@@ -160,4 +167,5 @@ place-spec =
     returns-16
     returns-17
     returns-18
-    returns-19)
+    returns-19
+    returns-20)

@@ -62,6 +62,9 @@ enum-told-16 c = search needs
 enum-told-17 : tie.Need-enum-told-17
 enum-told-17 c = search needs
 
+enum-told-18 : tie.Need-enum-told-18
+enum-told-18 c = search needs
+
 returns : tie.Need-returns
 returns c = sym (ap row (c .enum-told .given .1))
 
@@ -119,6 +122,9 @@ returns-18 c = sym (ap row (c .enum-told16 .given .1))
 returns-19 : tie.Need-returns-19
 returns-19 c = sym (ap row (c .enum-told17 .given .1))
 
+returns-20 : tie.Need-returns-20
+returns-20 c = sym (ap row (c .enum-told18 .given .1))
+
 pub row-spec : {M : Type 1} → statement M
 row-spec =
     tie.close
@@ -142,6 +148,7 @@ row-spec =
     enum-told-15
     enum-told-16
     enum-told-17
+    enum-told-18
     returns
     returns-2
     returns-3
@@ -160,4 +167,5 @@ row-spec =
     returns-16
     returns-17
     returns-18
-    returns-19)
+    returns-19
+    returns-20)
