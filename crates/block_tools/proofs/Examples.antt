@@ -18,7 +18,7 @@ use Rattle.coefficients.specs.Outside.{outsideAt, firstOutside, outsideRefusal,
 use Rattle.block_tools.specs.declared.Accumulate.{Accumulate}
 use Rattle.block_tools.specs.declared.Accumulate.the-variants.{Off, AlongRows, DownColumns}
 use Rattle.block_tools.specs.Modification.{rotatedIndex, rotated, accumulatedRow, accumulatedColumn, modified}
-use Rattle.block_tools.specs.Residual.{Written, bypassResidualAt, bypassResidual}
+use Rattle.block_tools.specs.Residual.{Written, bypassResidualAt, bypassLadder, bypassResidual}
 
 -- what a definition gives, and what is right
 pub record Case : Type 0 where
@@ -74,5 +74,5 @@ examples =
     ∷ []
 
 pub examples-hold : T (agree examples)
-unfolding examples agree equal row counted blockOf answered rotatedIndex rotated accumulatedRow accumulatedColumn modified bypassResidualAt bypassResidual tsResidual roundShift shiftRight sum tabulate tabulateFrom overwrite firstWhere firstOutside outsideAt outsideRange outsideRefusal refusalAt transformRange coeffMin coeffMax sizeRefused depthRefused rotationRefused blockRefused
+unfolding examples agree equal row counted blockOf answered rotatedIndex rotated accumulatedRow accumulatedColumn modified bypassResidualAt bypassLadder bypassResidual tsResidual roundShift shiftRight sum tabulate tabulateFrom overwrite firstWhere firstOutside outsideAt outsideRange outsideRefusal refusalAt transformRange coeffMin coeffMax sizeRefused depthRefused rotationRefused blockRefused
 examples-hold = tt

@@ -6,7 +6,7 @@
 --   modified-off             without rotation and accumulation values are shifted alone
 --   stored-kept, -done, -rest  a loop that leaves an element that is right as it stands; an element that it stored, and one that it has not come to
 --   accumulated-cong, rotated-cong, rotated-within   blocks that agree, and their bound
---   overwritten-…            a block that was written, and what is made of it in its place
+--   overwritten-…, modified-twice   a block that was written, and what is made of it in its place
 --   rotates, rotates-not     a block of any size, rotated or not
 --   Turned, turned-…         a loop that has exchanged the first and the last k of 16 elements
 use mathlib.Core.Path.{_≡_, refl, sym, ap, ap₂, subst, _∙_}
@@ -125,7 +125,7 @@ module _ (n : ℕ) (f : ℕ → ℤ) where
       ]
 
 -- ---- size
-quotient-lt : (n i : ℕ) → i < n * n → i / n < n
+pub quotient-lt : (n i : ℕ) → i < n * n → i / n < n
 quotient-lt n i h =
     elim (decLt (i / n) n) [
       | yes q ↦ q
@@ -263,6 +263,12 @@ module _ (k : ℕ) (g : ℕ → ℤ) (xs : List ℤ) {mid : List ℤ} (e : mid �
       → {zs : List ℤ} → zs ≡ overwrite k (h (at mid)) mid → zs ≡ overwrite k (h g) xs
   overwritten-twice h local q =
       q ∙ overwrite-cong k (h (at mid)) (h g) mid (local (at mid) overwritten-at) ∙ ap (overwrite k (h g)) e ∙ overwrite-twice k (h g) g xs
+
+pub modified-twice : (a : Accumulate) (t : Bool) (n : ℕ) (g : ℕ → ℤ) (xs : List ℤ) {mid zs : List ℤ} → mid ≡ overwrite (n * n) g xs
+    → zs ≡ overwrite (n * n) (accumulated a n (rotated t n (at mid))) mid → zs ≡ overwrite (n * n) (accumulated a n (rotated t n g)) xs
+modified-twice a t n g xs e q =
+    overwritten-twice (n * n) g xs e (λ f. accumulated a n (rotated t n f))
+    (λ f d i h. accumulated-cong a n (rotated t n f) (rotated t n g) (λ j l. rotated-cong t n f g d j l) i h) q
 
 -- a block written onto itself
 pub overwrite-self : (k : ℕ) (xs : List ℤ) → k ≤ length xs → overwrite k (at xs) xs ≡ xs
