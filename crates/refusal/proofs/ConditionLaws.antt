@@ -2,14 +2,15 @@
 --   size-accepted   the size is one of the four
 --   depth-accepted  the depth is 8 .. 16
 --   width-accepted  the depth is at most 9, and precision is not extended
+--   rotation-accepted  the size is 4
 --   neither         where one test or another does not apply, neither does
 use mathlib.Core.Path.{_≡_, refl, sym, subst}
 use mathlib.Core.Bool.{Bool, true, false, not, _||_}
 use Prim.Native.Nat.{ℕ, _≤_}
 use borrow.Author.Tests.{ltb-false}
-use lib.Dec.{T, ltb}
+use lib.Dec.{T, eqb, eqb→eq, ltb}
 use Rattle.h265.specs.Range.{isSize}
-use Rattle.refusal.specs.Condition.{sizeRefused, depthRefused, widthRefused}
+use Rattle.refusal.specs.Condition.{sizeRefused, depthRefused, widthRefused, rotationRefused}
 
 not-false : (t : Bool) → not t ≡ false → T t
 not-false true e = tt
@@ -30,3 +31,7 @@ depth-accepted b e = let h = neither (ltb b 8) (ltb 16 b) e in (ltb-false b 8 (h
 pub width-accepted : (b : ℕ) (x : Bool) → widthRefused b x ≡ false → (b ≤ 9) × (x ≡ false)
 unfolding widthRefused
 width-accepted b x e = let h = neither (ltb 9 b) x e in (ltb-false 9 b (h .0), h .1)
+
+pub rotation-accepted : (n : ℕ) → rotationRefused true n ≡ false → n ≡ 4
+unfolding rotationRefused
+rotation-accepted n e = eqb→eq n 4 (not-false (eqb n 4) e)

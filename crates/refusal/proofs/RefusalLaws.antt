@@ -3,7 +3,7 @@
 use Prim.Native.Nat.{_≤_}
 use lib.Dec.{lit≤}
 use Rattle.refusal.specs.declared.Refusal.{Refusal}
-use Rattle.refusal.specs.declared.Refusal.the-variants.{SizeInvalid, DepthInvalid, WidthTooNarrow, DstSizeInvalid, ListLengthInvalid, InputTooShort, OutputTooShort, PlaceOutside, CoefficientAbove, LevelMissing, SampleOutside, PictureInvalid, BitsEnded, ReferenceMissing, ListValueInvalid, StreamFull, ListMissing, CoefficientBelow, KindUnknown, BodyTooShort, LevelsBeforeParameters, ParameterInvalid}
+use Rattle.refusal.specs.declared.Refusal.the-variants.{SizeInvalid, DepthInvalid, WidthTooNarrow, DstSizeInvalid, ListLengthInvalid, InputTooShort, OutputTooShort, PlaceOutside, CoefficientAbove, LevelMissing, SampleOutside, PictureInvalid, BitsEnded, ReferenceMissing, ListValueInvalid, StreamFull, ListMissing, CoefficientBelow, KindUnknown, BodyTooShort, LevelsBeforeParameters, ParameterInvalid, RotationSizeInvalid}
 use Rattle.refusal.specs.Refusal.{number}
 
 pub number-least : (e : Refusal) → 1 ≤ number e
@@ -29,3 +29,4 @@ number-least KindUnknown = lit≤ tt
 number-least BodyTooShort = lit≤ tt
 number-least LevelsBeforeParameters = lit≤ tt
 number-least ParameterInvalid = lit≤ tt
+number-least RotationSizeInvalid = lit≤ tt

@@ -4,7 +4,7 @@
 --   row e, column e the place of a coefficient outside its range, else 0
 use Prim.Native.Nat.{ℕ}
 use Rattle.refusal.specs.declared.Refusal.{Refusal}
-use Rattle.refusal.specs.declared.Refusal.the-variants.{SizeInvalid, DepthInvalid, WidthTooNarrow, DstSizeInvalid, ListLengthInvalid, InputTooShort, OutputTooShort, PlaceOutside, CoefficientAbove, LevelMissing, SampleOutside, PictureInvalid, BitsEnded, ReferenceMissing, ListValueInvalid, StreamFull, ListMissing, CoefficientBelow, KindUnknown, BodyTooShort, LevelsBeforeParameters, ParameterInvalid}
+use Rattle.refusal.specs.declared.Refusal.the-variants.{SizeInvalid, DepthInvalid, WidthTooNarrow, DstSizeInvalid, ListLengthInvalid, InputTooShort, OutputTooShort, PlaceOutside, CoefficientAbove, LevelMissing, SampleOutside, PictureInvalid, BitsEnded, ReferenceMissing, ListValueInvalid, StreamFull, ListMissing, CoefficientBelow, KindUnknown, BodyTooShort, LevelsBeforeParameters, ParameterInvalid, RotationSizeInvalid}
 
 abbrev pub number : Refusal → ℕ
 number SizeInvalid = 1
@@ -29,6 +29,7 @@ number KindUnknown = 20
 number BodyTooShort = 21
 number LevelsBeforeParameters = 22
 number ParameterInvalid = 23
+number RotationSizeInvalid = 25
 
 abbrev pub place : Refusal → ℕ
 place SizeInvalid = 0
@@ -53,6 +54,7 @@ place KindUnknown = 0
 place BodyTooShort = 0
 place LevelsBeforeParameters = 0
 place ParameterInvalid = 0
+place RotationSizeInvalid = 0
 
 abbrev pub row : Refusal → ℕ
 row SizeInvalid = 0
@@ -77,6 +79,7 @@ row KindUnknown = 0
 row BodyTooShort = 0
 row LevelsBeforeParameters = 0
 row ParameterInvalid = 0
+row RotationSizeInvalid = 0
 
 abbrev pub column : Refusal → ℕ
 column SizeInvalid = 0
@@ -101,3 +104,4 @@ column KindUnknown = 0
 column BodyTooShort = 0
 column LevelsBeforeParameters = 0
 column ParameterInvalid = 0
+column RotationSizeInvalid = 0

@@ -1,6 +1,6 @@
 // Why a call was refused: a variant for each row of document 01's table, with the place where the row names one.
 ghost use mathlib.Core.Path.{_≡_};
-ghost use Rattle.refusal.specs.Condition.{sizeRefused, depthRefused, widthRefused};
+ghost use Rattle.refusal.specs.Condition.{sizeRefused, depthRefused, widthRefused, rotationRefused};
 ghost use Rattle.refusal.specs.Refusal.{number, place, row, column};
 
 pub enum Refusal {
@@ -26,6 +26,7 @@ pub enum Refusal {
     BodyTooShort,
     LevelsBeforeParameters,
     ParameterInvalid,
+    RotationSizeInvalid,
 }
 
 // The answer of a call that hands nothing back but what it wrote.
@@ -61,6 +62,7 @@ pub fn number(refusal: Refusal) -> u8
         Refusal::BodyTooShort => 21,
         Refusal::LevelsBeforeParameters => 22,
         Refusal::ParameterInvalid => 23,
+        Refusal::RotationSizeInvalid => 25,
     }
 }
 
@@ -91,6 +93,7 @@ pub fn place(refusal: Refusal) -> usize
         Refusal::BodyTooShort => 0,
         Refusal::LevelsBeforeParameters => 0,
         Refusal::ParameterInvalid => 0,
+        Refusal::RotationSizeInvalid => 0,
     }
 }
 
@@ -121,6 +124,7 @@ pub fn row(refusal: Refusal) -> u8
         Refusal::BodyTooShort => 0,
         Refusal::LevelsBeforeParameters => 0,
         Refusal::ParameterInvalid => 0,
+        Refusal::RotationSizeInvalid => 0,
     }
 }
 
@@ -151,6 +155,7 @@ pub fn column(refusal: Refusal) -> u8
         Refusal::BodyTooShort => 0,
         Refusal::LevelsBeforeParameters => 0,
         Refusal::ParameterInvalid => 0,
+        Refusal::RotationSizeInvalid => 0,
     }
 }
 
@@ -182,4 +187,14 @@ pub fn width_refused(bit_depth: u8, extended_precision: bool) -> bool
         return true;
     }
     extended_precision
+}
+
+// Row 25: rotation at a size other than 4.
+pub fn rotation_refused(rotate: bool, n: usize) -> bool
+    ensures { λ r. ⌜ r ≡ rotationRefused rotate n ⌝ }
+{
+    if rotate {
+        return n != 4;
+    }
+    false
 }

@@ -71,6 +71,9 @@ enum-told-17 c = search needs
 enum-told-18 : tie.Need-enum-told-18
 enum-told-18 c = search needs
 
+enum-told-19 : tie.Need-enum-told-19
+enum-told-19 c = search needs
+
 returns : tie.Need-returns
 returns c = sym (ap place (c .enum-told .given .1))
 
@@ -137,6 +140,9 @@ returns-21 c = sym (ap place (c .enum-told17 .given .1))
 returns-22 : tie.Need-returns-22
 returns-22 c = sym (ap place (c .enum-told18 .given .1))
 
+returns-23 : tie.Need-returns-23
+returns-23 c = sym (ap place (c .enum-told19 .given .1))
+
 pub place-spec : {M : Type 1} → statement M
 place-spec =
     tie.close
@@ -163,6 +169,7 @@ place-spec =
     enum-told-16
     enum-told-17
     enum-told-18
+    enum-told-19
     returns
     returns-2
     returns-3
@@ -184,4 +191,5 @@ place-spec =
     returns-19
     returns-20
     returns-21
-    returns-22)
+    returns-22
+    returns-23)

@@ -1,0 +1,4 @@
+pub mod Examples
+pub mod ModificationLaws
+pub mod SkipLaws
+pub mod ResidualLaws

@@ -1,0 +1,59 @@
+-- `block_tools::modify::step_back` meets its contract: each arm is the definition's clause, and its test the clause's.
+use mathlib.Core.Path.{_≡_, sym, ap, _∙_}
+use mathlib.Core.Bool.{cond}
+use Prim.Native.Nat.{ℕ}
+use borrow.Author.Needs.{needs}
+use borrow.Author.Tests.{lt-ltb, le-ltb, ne-eqb}
+use lib.Dec.{eqb}
+use Rattle.block_tools.specs.Work.{stepBack}
+use Rattle.block_tools.proofs.modify.step_back.Statement.{statement}
+use Rattle.block_tools.proofs.modify.step_back.Tie as tie
+
+enum-told : tie.Need-enum-told
+enum-told c = search needs
+
+enum-told-2 : tie.Need-enum-told-2
+enum-told-2 c = search needs
+
+rem-if1 : tie.Need-rem-if1
+rem-if1 c = search needs
+
+returns : tie.Need-returns
+returns c =
+    let a = c .before .before .before .args in
+    sym (ap (λ k. stepBack k (a .n) (a .i)) (c .before .enum-told2 .given .1) ∙ ap (λ (r : ℕ). cond (eqb r 0) 0 1) (c .if1 .taken))
+
+enum-told-3 : tie.Need-enum-told-3
+enum-told-3 c = search needs
+
+returns-2 : tie.Need-returns-2
+returns-2 c =
+    let a = c .before .before .before .args in
+    sym (ap (λ k. stepBack k (a .n) (a .i)) (c .before .enum-told3 .given .1) ∙ ap (λ t. cond t 0 (a .n)) (lt-ltb (a .i) (a .n) (c .if2 .taken)))
+
+returns-3 : tie.Need-returns-3
+returns-3 c = search needs
+
+returns-4 : tie.Need-returns-4
+returns-4 c =
+    let a = c .before .before .before .args in
+    sym (ap (λ k. stepBack k (a .n) (a .i)) (c .before .enum-told2 .given .1) ∙ ap (λ t. cond t 0 1) (ne-eqb _ 0 (c .if1 .left)))
+
+returns-5 : tie.Need-returns-5
+returns-5 c =
+    let a = c .before .before .before .args in
+    sym (ap (λ k. stepBack k (a .n) (a .i)) (c .before .enum-told3 .given .1) ∙ ap (λ t. cond t 0 (a .n)) (le-ltb (a .i) (a .n) (c .if2 .left)))
+
+pub step-back-spec : {M : Type 1} → statement M
+step-back-spec =
+    tie.close
+    (tie.spec
+    enum-told
+    enum-told-2
+    rem-if1
+    returns
+    enum-told-3
+    returns-2
+    returns-3
+    returns-4
+    returns-5)

@@ -1,0 +1,80 @@
+// Transform skip with rotation and accumulation: residuals as without them, and then the block tools where they stand.
+ghost use mathlib.Core.Path.{_≡_};
+ghost use Rattle.h265.specs.ScalingFactor.ScalingList.{flat, listed};
+ghost use Rattle.block_tools.specs.Residual.{skipResidual, Writes};
+use crate::Accumulate;
+use crate::modify;
+use crate::refuse;
+use parameters::QpPrime;
+use refusal::Answer;
+use refusal::Refusal;
+
+// The residuals of a block without a list.
+pub fn transform_skip_residual(
+    levels: &[i32],
+    n: usize,
+    qp_prime: QpPrime,
+    bit_depth: u8,
+    extended_precision: bool,
+    rotate: bool,
+    accumulate: Accumulate,
+    out: &mut [i32],
+) -> Answer
+    ensures { λ r. ⌜ Writes r (now (out .exit)) (skipResidual accumulate rotate flat n («qp_prime» .0) «bit_depth» «extended_precision» (now (levels .entry)) (now (out .entry))) ⌝ }
+{
+    if refuse::rotation_named(rotate, n, bit_depth) {
+        return Answer::Refused(Refusal::RotationSizeInvalid);
+    }
+    let skipped = scaling_wide::dequantize_transform_skip_into_scalar_i32(
+        levels,
+        n,
+        qp_prime,
+        bit_depth,
+        extended_precision,
+        out,
+    );
+    match skipped {
+        Answer::Done => {
+            modify::modify_block(n, rotate, accumulate, out);
+            Answer::Done
+        }
+        Answer::Refused(why) => Answer::Refused(why),
+    }
+}
+
+// The residuals of a block with a list.
+pub fn transform_skip_scaled_residual(
+    levels: &[i32],
+    n: usize,
+    qp_prime: QpPrime,
+    bit_depth: u8,
+    extended_precision: bool,
+    list: &[u8],
+    dc: u8,
+    rotate: bool,
+    accumulate: Accumulate,
+    out: &mut [i32],
+) -> Answer
+    ensures { λ r. ⌜ Writes r (now (out .exit)) (skipResidual accumulate rotate (listed (now (list .entry)) dc) n («qp_prime» .0) «bit_depth» «extended_precision» (now (levels .entry)) (now (out .entry))) ⌝ }
+{
+    if refuse::rotation_named(rotate, n, bit_depth) {
+        return Answer::Refused(Refusal::RotationSizeInvalid);
+    }
+    let skipped = scaling_wide::dequantize_transform_skip_scaled_into_scalar_i32(
+        levels,
+        n,
+        qp_prime,
+        bit_depth,
+        extended_precision,
+        list,
+        dc,
+        out,
+    );
+    match skipped {
+        Answer::Done => {
+            modify::modify_block(n, rotate, accumulate, out);
+            Answer::Done
+        }
+        Answer::Refused(why) => Answer::Refused(why),
+    }
+}
