@@ -168,6 +168,21 @@ residual_answered residual_dequantize_transform_skip_by_number_i32(const uint8_t
 residual_answered residual_dequantize_transform_skip_by_number_i16(const uint8_t *table, size_t table_len, size_t stream, size_t number, const int32_t *levels,
     size_t levels_len, size_t n, int32_t qp_prime, uint8_t bit_depth, bool extended_precision, int16_t *out, size_t out_len);
 
+/* The block tools of the range extensions: a 4 * 4 block rotated by half a turn, and residuals accumulated after the skip shift: accumulate is 0 for none, 1 along
+ * rows, any other number down columns. The bypass has levels that are the residual. */
+residual_answered residual_transform_skip_residual(const int32_t *levels, size_t levels_len, size_t n, int32_t qp_prime, uint8_t bit_depth,
+    bool extended_precision, bool rotate, uint8_t accumulate, int32_t *out, size_t out_len);
+residual_answered residual_transform_skip_scaled_residual(const int32_t *levels, size_t levels_len, size_t n, int32_t qp_prime, uint8_t bit_depth,
+    bool extended_precision, const uint8_t *list, size_t list_len, uint8_t dc, bool rotate, uint8_t accumulate, int32_t *out, size_t out_len);
+residual_answered residual_bypass_residual(const int32_t *levels, size_t levels_len, size_t n, uint8_t bit_depth, bool extended_precision, bool rotate,
+    uint8_t accumulate, int32_t *out, size_t out_len);
+
+/* For each coefficient the level of least size that scales to it; refused with 11 where one has none. */
+residual_answered residual_find_levels(const int32_t *coeff, size_t coeff_len, size_t n, int32_t qp_prime, uint8_t bit_depth, bool extended_precision,
+    int32_t *levels, size_t levels_len);
+residual_answered residual_find_levels_scaled(const int32_t *coeff, size_t coeff_len, size_t n, int32_t qp_prime, uint8_t bit_depth, bool extended_precision,
+    const uint8_t *list, size_t list_len, uint8_t dc, int32_t *levels, size_t levels_len);
+
 /* By how much 2^(7 + s2) times a residual may differ from the exact product of its coefficients, where no stage-one value was limited. */
 residual_number_answered residual_rounding_bound(bool dst, size_t n, uint8_t bit_depth, bool extended_precision);
 

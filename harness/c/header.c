@@ -217,6 +217,29 @@ static void tables(void) {
 }
 #endif
 
+#ifdef has_tools
+/* Level 1 at index 0 alone: rotated it stands at index 15; along rows it stays there, and unrotated it fills its row. Level 1 with QP' 4 gives 32, and 32 level 1. */
+static void tools(void) {
+    int32_t levels[16] = {1}, out[16];
+    uint8_t list[64];
+    memset(list, 16, 64);
+    residual_answered a = residual_bypass_residual(levels, 16, 4, 8, false, true, 1, out, 16);
+    expect(a.number == 0 && out[15] == 1 && out[14] == 0 && out[0] == 0, "bypass_residual");
+    levels[0] = 32;
+    a = residual_transform_skip_residual(levels, 16, 4, 4, 8, false, false, 1, out, 16);
+    expect(a.number == 0 && out[0] == 32 && out[3] == 32 && out[4] == 0, "transform_skip_residual");
+    a = residual_transform_skip_scaled_residual(levels, 16, 4, 4, 8, false, list, 64, 16, false, 2, out, 16);
+    expect(a.number == 0 && out[0] == 32 && out[3] == 0 && out[12] == 32, "transform_skip_scaled_residual");
+    a = residual_transform_skip_residual(levels, 16, 8, 4, 8, false, true, 0, out, 16);
+    expect(a.number == 25 && out[12] == 32, "transform_skip_residual, refused");
+    a = residual_find_levels(levels, 16, 4, 4, 8, false, out, 16);
+    expect(a.number == 0 && out[0] == 1 && out[1] == 0, "find_levels");
+    levels[6] = 33;
+    a = residual_find_levels_scaled(levels, 16, 4, 4, 8, false, list, 64, 16, out, 16);
+    expect(a.number == 11 && a.row == 1 && a.column == 2 && out[0] == 1, "find_levels_scaled, refused");
+}
+#endif
+
 int main(void) {
     quantities();
 #ifdef has_scaling
@@ -239,6 +262,9 @@ int main(void) {
 #endif
 #ifdef has_tables
     tables();
+#endif
+#ifdef has_tools
+    tools();
 #endif
     printf("header: %d calls, %d failed\n", called, failed);
     return failed != 0;

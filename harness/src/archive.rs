@@ -373,3 +373,38 @@ pub mod tables {
     by_number!(dequantize_transform_skip_i32, residual_dequantize_transform_skip_by_number_i32, i32);
     by_number!(dequantize_transform_skip_i16, residual_dequantize_transform_skip_by_number_i16, i16);
 }
+
+#[cfg(has_tools)]
+pub mod tools {
+    use super::Answered;
+
+    unsafe extern "C" {
+        fn residual_transform_skip_residual(levels: *const i32, levels_len: usize, n: usize, qp_prime: i32, bit_depth: u8, extended_precision: bool, rotate: bool, accumulate: u8, out: *mut i32, out_len: usize) -> Answered;
+        fn residual_transform_skip_scaled_residual(
+            levels: *const i32, levels_len: usize, n: usize, qp_prime: i32, bit_depth: u8, extended_precision: bool, list: *const u8, list_len: usize, dc: u8, rotate: bool, accumulate: u8, out: *mut i32, out_len: usize,
+        ) -> Answered;
+        fn residual_bypass_residual(levels: *const i32, levels_len: usize, n: usize, bit_depth: u8, extended_precision: bool, rotate: bool, accumulate: u8, out: *mut i32, out_len: usize) -> Answered;
+        fn residual_find_levels(coeff: *const i32, coeff_len: usize, n: usize, qp_prime: i32, bit_depth: u8, extended_precision: bool, levels: *mut i32, levels_len: usize) -> Answered;
+        fn residual_find_levels_scaled(coeff: *const i32, coeff_len: usize, n: usize, qp_prime: i32, bit_depth: u8, extended_precision: bool, list: *const u8, list_len: usize, dc: u8, levels: *mut i32, levels_len: usize) -> Answered;
+    }
+
+    pub fn transform_skip_residual(levels: &[i32], n: usize, qp_prime: i32, bit_depth: u8, extended_precision: bool, list: Option<(&[u8], u8)>, rotate: bool, accumulate: u8, out: &mut [i32]) -> Answered {
+        let (at, len, out_at, out_len) = (levels.as_ptr(), levels.len(), out.as_mut_ptr(), out.len());
+        match list {
+            None => unsafe { residual_transform_skip_residual(at, len, n, qp_prime, bit_depth, extended_precision, rotate, accumulate, out_at, out_len) },
+            Some((list, dc)) => unsafe { residual_transform_skip_scaled_residual(at, len, n, qp_prime, bit_depth, extended_precision, list.as_ptr(), list.len(), dc, rotate, accumulate, out_at, out_len) },
+        }
+    }
+
+    pub fn bypass_residual(levels: &[i32], n: usize, bit_depth: u8, extended_precision: bool, rotate: bool, accumulate: u8, out: &mut [i32]) -> Answered {
+        unsafe { residual_bypass_residual(levels.as_ptr(), levels.len(), n, bit_depth, extended_precision, rotate, accumulate, out.as_mut_ptr(), out.len()) }
+    }
+
+    pub fn find_levels(coeff: &[i32], n: usize, qp_prime: i32, bit_depth: u8, extended_precision: bool, list: Option<(&[u8], u8)>, levels: &mut [i32]) -> Answered {
+        let (at, len, levels_at, levels_len) = (coeff.as_ptr(), coeff.len(), levels.as_mut_ptr(), levels.len());
+        match list {
+            None => unsafe { residual_find_levels(at, len, n, qp_prime, bit_depth, extended_precision, levels_at, levels_len) },
+            Some((list, dc)) => unsafe { residual_find_levels_scaled(at, len, n, qp_prime, bit_depth, extended_precision, list.as_ptr(), list.len(), dc, levels_at, levels_len) },
+        }
+    }
+}

@@ -1,5 +1,5 @@
-//! Compares the archive of the crate c_api with the Rust that was ported, on every exported function; the functions of pictures, of scaling lists, of tables of them and of the rounding bound, which were not ported, with a plain writing of their rules.
-#![cfg_attr(not(all(has_scaling, has_transform, has_edits, has_lists, has_picture, has_rounding, has_tables)), allow(dead_code, unused_mut))]
+//! Compares the archive of the crate c_api with the Rust that was ported, on every exported function; the functions of pictures, of scaling lists, of tables of them, of the block tools, of the search for levels and of the rounding bound, which were not ported, with a plain writing of their rules.
+#![cfg_attr(not(all(has_scaling, has_transform, has_edits, has_lists, has_picture, has_rounding, has_tables, has_tools)), allow(dead_code, unused_mut))]
 mod archive;
 mod blocks;
 #[cfg(has_edits)]
@@ -20,6 +20,8 @@ mod scaling;
 mod tables;
 mod tally;
 mod timing;
+#[cfg(has_tools)]
+mod tools;
 #[cfg(has_transform)]
 mod transform;
 
@@ -82,6 +84,10 @@ fn differential(arguments: &Arguments) -> bool {
     {
         planned += tables::FUNCTIONS;
     }
+    #[cfg(has_tools)]
+    {
+        planned += tools::FUNCTIONS;
+    }
     let mut tally = tally::Tally::new(planned);
     parameters::compare(&mut tally, arguments.seed, arguments.cases);
     #[cfg(has_scaling)]
@@ -98,6 +104,8 @@ fn differential(arguments: &Arguments) -> bool {
     rounding::compare(&mut tally, arguments.seed, arguments.cases);
     #[cfg(has_tables)]
     tables::compare(&mut tally, arguments.seed, arguments.cases);
+    #[cfg(has_tools)]
+    tools::compare(&mut tally, arguments.seed, arguments.cases);
     println!("seed {}, {} random cases a function", arguments.seed, arguments.cases);
     tally.finish()
 }

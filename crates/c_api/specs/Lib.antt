@@ -4,3 +4,4 @@ pub mod Edits
 pub mod Pictures
 pub mod Lists
 pub mod Tables
+pub mod Tools
