@@ -19,7 +19,7 @@ use Rattle.scaling_lists.specs.Syntax.{FactorList, Defaults, sizeId}
 use Rattle.scaling_lists.specs.Work.{held}
 use Rattle.scaling_lists_written.specs.Same.{every, hasDc, usedCount, entry, Proper, listAt, Writable}
 use Rattle.scaling_lists_written.specs.Statements.{ReadBack}
-use Rattle.scaling_lists_written.specs.Written.{writtenLists, Lent}
+use Rattle.scaling_lists_written.specs.Written.{writtenLists, Whole}
 use Rattle.scaling_lists_written.proofs.SameLaws.{every-at, used-few}
 use Rattle.scaling_lists_written.proofs.WrittenLaws.{written-binary, reader-gets-what-was-written}
 use Rattle.scaling_lists_put.specs.Lists.{listFrom}
@@ -77,7 +77,7 @@ module _ (lent : Defaults) (lists dcs out : List ℕ) (f : Bytes lists) (g : Byt
       (rw (overwrite-length (byteCount (length bits)) (byteOf bits) out h) h)
       (λ k l. overwrite-getD (byteCount (length bits)) (byteOf bits) out k 0 l)
 
-  by-room : (t : Bool) → roomRefused (length bits) (length out) ≡ t → Lent lent → valuesRefused (held 20 lists dcs) ≡ false
+  by-room : (t : Bool) → roomRefused (length bits) (length out) ≡ t → Whole lent → valuesRefused (held 20 lists dcs) ≡ false
       → Back (cond t (untouched out OutputTooShort) (record { answer = accepted (length bits); out = overwrite (byteCount (length bits)) (byteOf bits) out }))
   unfolding roomRefused
   by-room true e long v z = absurd (let b : ⊥ = omega arith in b)
@@ -87,7 +87,7 @@ module _ (lent : Defaults) (lists dcs out : List ℕ) (f : Bytes lists) (g : Byt
     refl,
   )
 
-  by-values : (t : Bool) → valuesRefused (held 20 lists dcs) ≡ t → Lent lent → Back (cond t (untouched out (ListValueInvalid 0)) (written out bits))
+  by-values : (t : Bool) → valuesRefused (held 20 lists dcs) ≡ t → Whole lent → Back (cond t (untouched out (ListValueInvalid 0)) (written out bits))
   unfolding written
   by-values true e long z = absurd (let b : ⊥ = omega arith in b)
   by-values false e long z = by-room (roomRefused (length bits) (length out)) refl long e z

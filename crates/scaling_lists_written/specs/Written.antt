@@ -14,7 +14,7 @@
 --   writtenLists            all 20
 --   readList lent j l       what the reader gets: the default as lent where the list is the same as it, else the list as its size uses it
 --   readLists               of all 20
---   Lent lent               each default has 64 entries
+--   Whole lent              each default has 64 entries
 use mathlib.Core.Bool.{cond}
 use mathlib.Core.Path.{_≡_}
 use mathlib.Core.List.{List, [], _∷_, _++_}
@@ -86,7 +86,7 @@ readList lent j l =
 unfoldable pub readLists : Defaults → List FactorList → List FactorList
 readLists lent lists = tabulate 20 (λ j. readList lent j (listAt lists j))
 
-pub record Lent (lent : Defaults) : Type 0 where
+pub record Whole (lent : Defaults) : Type 0 where
   pub four-long : length (lent .four) ≡ 64
   pub intra-long : length (lent .intra) ≡ 64
   pub inter-long : length (lent .inter) ≡ 64
