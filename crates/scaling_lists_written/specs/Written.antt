@@ -9,7 +9,8 @@
 --   earlier j               how many lists of its size stand before list j
 --   nearest lists j         how many lists stand between list j and the nearest earlier one of its size that is the same; earlier j for none
 --   formOf lent lists j     the default, else the nearest reference, else in full
---   listBits lent lists j   list j, from scaling_list_pred_mode_flag on
+--   formBits s l f          a list in a form, from scaling_list_pred_mode_flag on
+--   listBits lent lists j   list j in its form
 --   writtenUpTo             the lists before list j, one behind the other
 --   writtenLists            all 20
 --   readList lent j l       what the reader gets: the default as lent where the list is the same as it, else the list as its size uses it
