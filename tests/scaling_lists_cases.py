@@ -212,4 +212,5 @@ def main():
     (crate / "stdout").write_text(text)
 
 
-main()
+if __name__ == "__main__":
+    main()

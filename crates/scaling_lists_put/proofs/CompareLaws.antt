@@ -2,17 +2,15 @@
 --   same-by-dc, same-not      two lists by their entries, and by DC where those are equal
 --   held-list                 list j of the buffers
 --   same-held, same-default   two of those, and one with a default
---   matrix-three, matrix-one  matrixId at 32×32 and below
 use mathlib.Core.Path.{_≡_, sym, ap, ap₂, _∙_}
 use mathlib.Core.Bool.{Bool, true, false, cond, _&&_}
 use mathlib.Core.List.{List}
-use Prim.Native.Nat.{ℕ, _+_, _*_, _/_, _%_, _≤_, _<_}
+use Prim.Native.Nat.{ℕ, _+_, _*_, _≤_, _<_}
 use native.Mathlib.Omega.{arith}
-use borrow.Author.Tests.{eq-eqb, ne-eqb}
 use lib.Dec.{eqb}
 use lib.ListN.{length, getD}
 use Rattle.integers.proofs.ListsLaws.{tabulate-getD}
-use Rattle.scaling_lists.specs.Syntax.{Defaults, none, matrixStep, sizeId, matrixId, defaultFor}
+use Rattle.scaling_lists.specs.Syntax.{Defaults, none, sizeId, matrixId, defaultFor}
 use Rattle.scaling_lists.specs.Work.{heldAt, held}
 use Rattle.scaling_lists.proofs.ListLaws.{fill-whole}
 use Rattle.scaling_lists_written.specs.Same.{every, hasDc, usedCount, entry, sameList, listAt}
@@ -51,12 +49,3 @@ module _ (lists dcs : List ℕ) where
       → sameList (sizeId j) (listFrom lists (64 * j) (getD dcs j 0)) (listFrom d 0 16) ≡ sameList (sizeId j) (listAt (held 20 lists dcs) j) (defaultList lent (sizeId j) (matrixId j))
   same-default lent j d h long e =
       ap₂ (sameList (sizeId j)) (sym (held-list j h)) (ap (λ (es : List ℕ). record { entries = es; dc = 16 }) (fill-whole 64 d long ∙ e))
-
--- ---- matrixId
-pub matrix-three : (j : ℕ) → j / 6 ≡ 3 → j % 6 * 3 ≡ matrixId j
-unfolding matrixId matrixStep sizeId
-matrix-three j e = rw (eq-eqb (j / 6) 3 e)
-
-pub matrix-one : (j : ℕ) → (j / 6 ≡ 3 → ⊥) → j % 6 * 1 ≡ matrixId j
-unfolding matrixId matrixStep sizeId
-matrix-one j e = rw (ne-eqb (j / 6) 3 e)

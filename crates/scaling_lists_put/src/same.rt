@@ -4,7 +4,7 @@ ghost use mathlib.Core.Bool.{true, cond};
 ghost use Prim.Native.Nat.{_+_, _*_, _≤_, _<_};
 ghost use lib.Dec.{eqb};
 ghost use lib.ListN.{length, getD};
-ghost use Rattle.scaling_lists.specs.Syntax.{defaults, sizeId, matrixId};
+ghost use Rattle.scaling_lists.specs.Syntax.{defaults, matrixStep, sizeId, matrixId};
 ghost use Rattle.scaling_lists.specs.Work.{held};
 ghost use Rattle.scaling_lists_written.specs.Same.{every, hasDc, usedCount, sameList, listAt};
 ghost use Rattle.scaling_lists_written.specs.Written.{defaultList, nearest};
@@ -56,12 +56,19 @@ fn same_list(a: &[u8], at: usize, a_dc: u8, b: &[u8], from: usize, b_dc: u8, j: 
     false
 }
 
+// How far apart the matrices of list j's size are that have a list.
+fn matrix_step(j: usize) -> usize
+    ensures { λ r. ⌜ r ≡ matrixStep (sizeId j) ⌝ }
+{
+    if j / 6 == 3 { 3 } else { 1 }
+}
+
 // matrixId of list j.
 fn matrix_of(j: usize) -> usize
     requires { ⌜ j < 20 ⌝ }
     ensures { λ r. ⌜ r ≡ matrixId j ⌝ }
 {
-    if j / 6 == 3 { j % 6 * 3 } else { j % 6 * 1 }
+    j % 6 * matrix_step(j)
 }
 
 // Whether list j is the same as its default with DC 16.

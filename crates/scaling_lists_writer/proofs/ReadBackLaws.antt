@@ -1,13 +1,13 @@
 -- What an accepted call leaves in its buffer is read as the lists that were written.
 --   writable-held            lists of bytes that row 16 does not refuse can be written
 --   reader-reads-the-buffer  the statement of specs/Statements.antt
-use mathlib.Core.Path.{_≡_, refl, sym, subst}
-use mathlib.Core.Bool.{Bool, true, false, cond, not, _&&_}
+use mathlib.Core.Path.{_≡_, refl}
+use mathlib.Core.Bool.{Bool, true, false, cond, not}
 use mathlib.Core.List.{List}
 use Prim.Native.Nat.{ℕ, _+_, _*_, _≤_, _<_}
 use native.Mathlib.Omega.{arith}
 use borrow.Author.Tests.{ltb-false, not-true, not-false, eqb-false}
-use lib.Dec.{T, eqb}
+use lib.Dec.{eqb}
 use lib.ListN.{length, getD}
 use Rattle.integers.specs.Lists.{overwrite}
 use Rattle.integers.proofs.ListsLaws.{tabulate-getD, overwrite-getD, overwrite-length}
@@ -19,18 +19,14 @@ use Rattle.scaling_lists.specs.Syntax.{FactorList, Defaults, sizeId}
 use Rattle.scaling_lists.specs.Work.{held}
 use Rattle.scaling_lists_written.specs.Same.{every, hasDc, usedCount, entry, Proper, listAt, Writable}
 use Rattle.scaling_lists_written.specs.Statements.{ReadBack}
-use Rattle.scaling_lists_written.specs.Written.{writtenLists, Lent}
-use Rattle.scaling_lists_written.proofs.SameLaws.{every-at, used-few}
+use Rattle.scaling_lists_written.specs.Written.{writtenLists, Whole}
+use Rattle.scaling_lists_written.proofs.SameLaws.{both, every-at, used-few}
 use Rattle.scaling_lists_written.proofs.WrittenLaws.{written-binary, reader-gets-what-was-written}
 use Rattle.scaling_lists_put.specs.Lists.{listFrom}
 use Rattle.scaling_lists_put.proofs.CompareLaws.{held-list}
 use Rattle.scaling_lists_writer.specs.Answers.{lengthsRefused, nonzero, valuesRefused, roomRefused, untouched, written, listsWritten, ListsWritten}
 use Rattle.scaling_lists_writer.specs.Statements.{Bytes, ReaderReadsTheBuffer}
 use Rattle.scaling_lists_writer.proofs.ValueLaws.{lengths-accepted}
-
-both : (s t : Bool) → s && t ≡ true → (s ≡ true) × (t ≡ true)
-both true t e = (refl, e)
-both false t e = absurd (subst T (sym e) tt)
 
 least : (n : ℕ) → not (eqb n 0) ≡ true → 1 ≤ n
 least n e = let h = eqb-false n 0 (not-true (eqb n 0) e) in omega arith
@@ -77,7 +73,7 @@ module _ (lent : Defaults) (lists dcs out : List ℕ) (f : Bytes lists) (g : Byt
       (rw (overwrite-length (byteCount (length bits)) (byteOf bits) out h) h)
       (λ k l. overwrite-getD (byteCount (length bits)) (byteOf bits) out k 0 l)
 
-  by-room : (t : Bool) → roomRefused (length bits) (length out) ≡ t → Lent lent → valuesRefused (held 20 lists dcs) ≡ false
+  by-room : (t : Bool) → roomRefused (length bits) (length out) ≡ t → Whole lent → valuesRefused (held 20 lists dcs) ≡ false
       → Back (cond t (untouched out OutputTooShort) (record { answer = accepted (length bits); out = overwrite (byteCount (length bits)) (byteOf bits) out }))
   unfolding roomRefused
   by-room true e long v z = absurd (let b : ⊥ = omega arith in b)
@@ -87,7 +83,7 @@ module _ (lent : Defaults) (lists dcs out : List ℕ) (f : Bytes lists) (g : Byt
     refl,
   )
 
-  by-values : (t : Bool) → valuesRefused (held 20 lists dcs) ≡ t → Lent lent → Back (cond t (untouched out (ListValueInvalid 0)) (written out bits))
+  by-values : (t : Bool) → valuesRefused (held 20 lists dcs) ≡ t → Whole lent → Back (cond t (untouched out (ListValueInvalid 0)) (written out bits))
   unfolding written
   by-values true e long z = absurd (let b : ⊥ = omega arith in b)
   by-values false e long z = by-room (roomRefused (length bits) (length out)) refl long e z

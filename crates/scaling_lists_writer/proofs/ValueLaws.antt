@@ -7,14 +7,15 @@ use mathlib.Core.Bool.{Bool, true, false, cond, not, _||_, _&&_}
 use mathlib.Core.List.{List}
 use Prim.Native.Nat.{ℕ, _+_, _*_, _≤_, _<_}
 use native.Mathlib.Omega.{arith}
-use borrow.Author.Tests.{eqb-true, ltb-false, not-false}
+use borrow.Author.Tests.{ltb-false}
 use lib.Dec.{eqb, ltb}
 use lib.ListN.{length, getD}
 use Rattle.integers.proofs.ListsLaws.{tabulate-getD}
-use Rattle.refusal.specs.Condition.{listRefused}
 use Rattle.refusal.proofs.ConditionLaws.{neither}
 use Rattle.scaling_lists.specs.Syntax.{FactorList, sizeId}
+use Rattle.scaling_lists.specs.Answers.{lengthsRefused as defaultsRefused}
 use Rattle.scaling_lists.specs.Work.{held}
+use Rattle.scaling_lists.proofs.ReaderLaws.{lengths-accepted as defaults-accepted}
 use Rattle.scaling_lists_written.specs.Same.{every, hasDc, usedCount, entry, listAt}
 use Rattle.scaling_lists_written.proofs.SameLaws.{every-cong, every-fails}
 use Rattle.scaling_lists_put.specs.Lists.{listFrom, Lent}
@@ -46,21 +47,16 @@ pub values-accepted : (lists : List FactorList) → every 20 (λ j. nonzero (siz
 unfolding valuesRefused
 values-accepted lists e = sym (ap not e)
 
-length-accepted : (n : ℕ) → listRefused n ≡ false → n ≡ 64
-unfolding listRefused
-length-accepted n e = eqb-true n 64 (not-false (eqb n 64) e)
-
 pub lengths-accepted : (lists dcs four intra inter : List ℕ) → lengthsRefused (length lists) (length dcs) (length four) (length intra) (length inter) ≡ false
     → Lent lists dcs four intra inter
 unfolding lengthsRefused
 lengths-accepted lists dcs four intra inter e =
-    let a = neither (listRefused (length four) || (listRefused (length intra) || listRefused (length inter))) (ltb (length lists) 1280 || ltb (length dcs) 20) e in
-    let b = neither (listRefused (length four)) (listRefused (length intra) || listRefused (length inter)) (a .0) in
-    let c = neither (listRefused (length intra)) (listRefused (length inter)) (b .1) in
-    let d = neither (ltb (length lists) 1280) (ltb (length dcs) 20) (a .1) in
+    let a = neither (defaultsRefused (length four) (length intra) (length inter)) (ltb (length lists) 1280 || ltb (length dcs) 20) e in
+    let d = defaults-accepted (length four) (length intra) (length inter) (a .0) in
+    let s = neither (ltb (length lists) 1280) (ltb (length dcs) 20) (a .1) in
     record {
-      set = record { lists-long = ltb-false (length lists) 1280 (d .0); dcs-long = ltb-false (length dcs) 20 (d .1) };
-      four-long = length-accepted (length four) (b .0);
-      intra-long = length-accepted (length intra) (c .0);
-      inter-long = length-accepted (length inter) (c .1);
+      set = record { lists-long = ltb-false (length lists) 1280 (s .0); dcs-long = ltb-false (length dcs) 20 (s .1) };
+      four-long = d .0;
+      intra-long = d .1;
+      inter-long = d .2;
     }

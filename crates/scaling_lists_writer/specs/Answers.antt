@@ -1,6 +1,6 @@
 -- What writing scaling lists hands back. Change request R-12, and rows 5, 7 and 16 of the table.
 --   writeOutcome            number, place, and how many bits were written
---   lengthsRefused          5: a default has not 64 entries, or there are fewer than 20 × 64 entries or fewer than 20 DC numbers to write
+--   lengthsRefused          5: a default has not 64 entries, as the reader refuses it, or there are fewer than 20 × 64 entries or fewer than 20 DC numbers to write
 --   nonzero s l             no entry that the size uses is 0, nor DC where it has one
 --   valuesRefused lists     16: one of the 20 lists has such a 0
 --   roomRefused bits room   7: fewer bytes have room than the bits take
@@ -16,10 +16,10 @@ use lib.ListN.{length}
 use Rattle.integers.specs.Lists.{overwrite}
 use Rattle.refusal.specs.declared.Refusal.{Refusal}
 use Rattle.refusal.specs.declared.Refusal.the-variants.{ListLengthInvalid, OutputTooShort, ListValueInvalid}
-use Rattle.refusal.specs.Condition.{listRefused}
 use Rattle.refusal.specs.Outcome.{Outcome, accepted, refused}
 use Rattle.bits_written.specs.Bytes.{byteCount, byteOf}
 use Rattle.scaling_lists.specs.Syntax.{FactorList, Defaults, sizeId}
+use Rattle.scaling_lists.specs.Answers.{lengthsRefused as defaultsRefused}
 use Rattle.scaling_lists.specs.Work.{held}
 use Rattle.scaling_lists_written.specs.Same.{every, hasDc, usedCount, entry, listAt}
 use Rattle.scaling_lists_written.specs.Written.{writtenLists}
@@ -31,8 +31,7 @@ writeOutcome (Written bits) = accepted bits
 writeOutcome (Refused e) = refused 0 e
 
 unfoldable pub lengthsRefused : ℕ → ℕ → ℕ → ℕ → ℕ → Bool
-lengthsRefused lists dcs four intra inter =
-    (listRefused four || (listRefused intra || listRefused inter)) || (ltb lists 1280 || ltb dcs 20)
+lengthsRefused lists dcs four intra inter = defaultsRefused four intra inter || (ltb lists 1280 || ltb dcs 20)
 
 unfoldable pub nonzero : ℕ → FactorList → Bool
 nonzero s l = every (usedCount s) (λ i. not (eqb (entry l i) 0)) && cond (hasDc s) (not (eqb (l .dc) 0)) true

@@ -26,7 +26,7 @@ use Rattle.scan.specs.Scan.{inside, diagonal, diagonals, upRight}
 use Rattle.scaling_lists.specs.Syntax.{FactorList, Defaults, andThen, matrixStep, sizeId, matrixId, listNumber, defaultFor, positions, blank, codedEntries, dcCode, codedList, referenceCode, referred, takenOver, none, listBy, listCode}
 use Rattle.scaling_lists.specs.Syntax.Reading.{got}
 use Rattle.scaling_lists_written.specs.Same.{hasDc, usedCount, entry, sameList, usedList, Proper, listAt}
-use Rattle.scaling_lists_written.specs.Written.{difference, deltaBits, fullBits, defaultList, earlier, nearest, formOf, formBits, listBits, readList, Lent}
+use Rattle.scaling_lists_written.specs.Written.{difference, deltaBits, fullBits, defaultList, earlier, nearest, formOf, formBits, listBits, readList, Whole}
 use Rattle.scaling_lists_written.specs.Written.Form.{taken, full}
 use Rattle.scaling_lists_written.proofs.SameLaws.{same-used, used-same, used-whole, used-idem}
 use Rattle.scaling_lists_written.proofs.DeltaLaws.{dc-read, Entries, placed, entries-read}
@@ -120,7 +120,7 @@ taken-read lent bytes read j d at h g =
     rw (unsigned-read d (omega arith) bytes at g, earlier-is j, le-ltb (earlier j) d h)
 
 -- ---- which list is read
-module _ (lent : Defaults) (long : Lent lent) (s : ℕ) where
+module _ (lent : Defaults) (long : Whole lent) (s : ℕ) where
   default-long : (m : ℕ) → length (defaultFor lent s m) ≡ 64
   unfolding defaultFor
   default-long m = by-tests (eqb s 0) (ltb m 3)
@@ -173,7 +173,7 @@ module _ (lent : Defaults) (bytes : List ℕ) (read : List FactorList) (j at : �
 abbrev pub readBefore : Defaults → List FactorList → ℕ → List FactorList
 readBefore lent lists j = tabulate j (λ k. readList lent k (listAt lists k))
 
-module _ (lent : Defaults) (long : Lent lent) (lists : List FactorList) (j : ℕ) where
+module _ (lent : Defaults) (long : Whole lent) (lists : List FactorList) (j : ℕ) where
   referred-default : (read : List FactorList) → referred lent read (sizeId j) (matrixId j) 0 ≡ defaultList lent (sizeId j) (matrixId j)
   unfolding referred
   referred-default read = refl
@@ -200,7 +200,7 @@ module _ (lent : Defaults) (long : Lent lent) (lists : List FactorList) (j : ℕ
   back-read d h e own =
       rw (size-back d h) (same-read lent long (sizeId j) (matrixId j) (matrixId (j - 1 - d)) (listAt lists j) (listAt lists (j - 1 - d)) e own)
 
-module _ (lent : Defaults) (long : Lent lent) (lists : List FactorList) (j : ℕ) (proper : Proper (sizeId j) (listAt lists j)) (bytes : List ℕ) (at : ℕ) where
+module _ (lent : Defaults) (long : Whole lent) (lists : List FactorList) (j : ℕ) (proper : Proper (sizeId j) (listAt lists j)) (bytes : List ℕ) (at : ℕ) where
   abbrev s : ℕ
   s = sizeId j
 

@@ -1,4 +1,5 @@
 -- Lists that are the same to their size.
+--   both                               where two tests hold together, each holds
 --   every-at, every-all, every-fails   a test that holds of all numbers below a bound, and one that fails somewhere
 --   every-none, every-more, every-cong   the invariant of a loop that tests; tests that agree
 --   same-used, used-same               the same: equal as the size uses them
@@ -23,7 +24,7 @@ use Rattle.scaling_lists.specs.Syntax.{FactorList}
 use Rattle.scaling_lists_written.specs.Same.{every, hasDc, usedCount, entry, sameList, usedList}
 
 -- ---- tests of all numbers below a bound
-both : (s t : Bool) → s && t ≡ true → (s ≡ true) × (t ≡ true)
+pub both : (s t : Bool) → s && t ≡ true → (s ≡ true) × (t ≡ true)
 both true t e = (refl, e)
 both false t e = absurd (subst T (sym e) tt)
 

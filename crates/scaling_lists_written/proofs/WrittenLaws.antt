@@ -20,14 +20,14 @@ use Rattle.scan.specs.Scan.{inside, diagonal, diagonals, upRight}
 use Rattle.scaling_lists.specs.Syntax.{FactorList, Defaults, none, sizeId, matrixId, positions, listsFrom, scalingListData}
 use Rattle.scaling_lists.specs.Syntax.Reading.{got}
 use Rattle.scaling_lists_written.specs.Same.{hasDc, usedCount, entry, usedList, listAt, usedLists, Writable}
-use Rattle.scaling_lists_written.specs.Written.{Form, difference, deltaFrom, deltaBits, fullBits, defaultList, earlier, nearest, formOf, formBits, listBits, writtenUpTo, writtenLists, readList, readLists, Lent}
+use Rattle.scaling_lists_written.specs.Written.{Form, difference, deltaFrom, deltaBits, fullBits, defaultList, earlier, nearest, formOf, formBits, listBits, writtenUpTo, writtenLists, readList, readLists, Whole}
 use Rattle.scaling_lists_written.specs.Written.Form.{taken, full}
 use Rattle.scaling_lists_written.specs.Statements.{ReaderGetsWhatWasWritten, EqualBitsMeanEqualLists}
 use Rattle.scaling_lists_written.proofs.SameLaws.{same-cong}
 use Rattle.scaling_lists_written.proofs.ListLaws.{readBefore, list-read, read-used}
 
 -- ---- the reader gets what was written
-module _ (lent : Defaults) (long : Lent lent) (lists : List FactorList) (writable : Writable lists) (bytes : List ℕ) (g : Begins bytes 0 (writtenLists lent lists)) where
+module _ (lent : Defaults) (long : Whole lent) (lists : List FactorList) (writable : Writable lists) (bytes : List ℕ) (g : Begins bytes 0 (writtenLists lent lists)) where
   begins-upTo : (k j : ℕ) → j + k ≡ 20 → Begins bytes 0 (writtenUpTo lent lists j)
   unfolding writtenLists writtenUpTo
   begins-upTo zero j e = let t : j ≡ 20 = omega arith in rw t g
@@ -157,7 +157,7 @@ module _ (lent : Defaults) (a b : List FactorList) (e : usedLists a ≡ usedList
 same-got : {A : Type 0} (a b : A) (m n : ℕ) → got a m ≡ got b n → a ≡ b
 same-got a b m n e = cc
 
-equal-lists : (lent : Defaults) (a b : List FactorList) → Lent lent → Writable a → Writable b → writtenLists lent a ≡ writtenLists lent b → usedLists a ≡ usedLists b
+equal-lists : (lent : Defaults) (a b : List FactorList) → Whole lent → Writable a → Writable b → writtenLists lent a ≡ writtenLists lent b → usedLists a ≡ usedLists b
 equal-lists lent a b long f h e =
     let bytes = bytesOf (writtenLists lent a) in
     let g : Begins bytes 0 (writtenLists lent a) = begins-own (writtenLists lent a) (written-binary lent a) in

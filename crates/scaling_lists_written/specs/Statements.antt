@@ -11,7 +11,7 @@ use Rattle.bits_written.specs.Bytes.{Begins}
 use Rattle.scaling_lists.specs.Syntax.{FactorList, Defaults, scalingListData}
 use Rattle.scaling_lists.specs.Syntax.Reading.{got}
 use Rattle.scaling_lists_written.specs.Same.{usedLists, Writable}
-use Rattle.scaling_lists_written.specs.Written.{writtenLists, readLists, Lent}
+use Rattle.scaling_lists_written.specs.Written.{writtenLists, readLists, Whole}
 
 pub record ReadBack (lent : Defaults) (lists : List FactorList) (bytes : List ℕ) : Type 0 where
   pub read : scalingListData lent bytes ≡ got (readLists lent lists) (length (writtenLists lent lists))
@@ -19,10 +19,10 @@ pub record ReadBack (lent : Defaults) (lists : List FactorList) (bytes : List �
 
 abbrev pub ReaderGetsWhatWasWritten : Type 0
 ReaderGetsWhatWasWritten =
-    (lent : Defaults) (lists : List FactorList) → Lent lent → Writable lists
+    (lent : Defaults) (lists : List FactorList) → Whole lent → Writable lists
     → (bytes : List ℕ) → Begins bytes 0 (writtenLists lent lists) → ReadBack lent lists bytes
 
 abbrev pub EqualBitsMeanEqualLists : Type 0
 EqualBitsMeanEqualLists =
-    (lent : Defaults) (a b : List FactorList) → Lent lent → Writable a → Writable b
+    (lent : Defaults) (a b : List FactorList) → Whole lent → Writable a → Writable b
     → (writtenLists lent a ≡ writtenLists lent b) ↔ (usedLists a ≡ usedLists b)

@@ -9,12 +9,13 @@
 --   earlier j               how many lists of its size stand before list j
 --   nearest lists j         how many lists stand between list j and the nearest earlier one of its size that is the same; earlier j for none
 --   formOf lent lists j     the default, else the nearest reference, else in full
---   listBits lent lists j   list j, from scaling_list_pred_mode_flag on
+--   formBits s l f          a list in a form, from scaling_list_pred_mode_flag on
+--   listBits lent lists j   list j in its form
 --   writtenUpTo             the lists before list j, one behind the other
 --   writtenLists            all 20
 --   readList lent j l       what the reader gets: the default as lent where the list is the same as it, else the list as its size uses it
 --   readLists               of all 20
---   Lent lent               each default has 64 entries
+--   Whole lent              each default has 64 entries
 use mathlib.Core.Bool.{cond}
 use mathlib.Core.Path.{_≡_}
 use mathlib.Core.List.{List, [], _∷_, _++_}
@@ -86,7 +87,7 @@ readList lent j l =
 unfoldable pub readLists : Defaults → List FactorList → List FactorList
 readLists lent lists = tabulate 20 (λ j. readList lent j (listAt lists j))
 
-pub record Lent (lent : Defaults) : Type 0 where
+pub record Whole (lent : Defaults) : Type 0 where
   pub four-long : length (lent .four) ≡ 64
   pub intra-long : length (lent .intra) ≡ 64
   pub inter-long : length (lent .inter) ≡ 64
