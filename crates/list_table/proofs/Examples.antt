@@ -9,8 +9,9 @@ use Rattle.integers.specs.Lists.{tabulate, tabulateFrom, overwrite}
 use Rattle.integers.specs.Search.{firstWhere}
 use Rattle.refusal.specs.Condition.{listRefused}
 use Rattle.refusal.specs.Outcome.{Outcome}
-use Rattle.list_table.specs.Stream.{Found, emptyStream, lowestFree, streamRefused, missing, full, storeLadder, numberLadder, storeAnswer, numberAnswer, findAnswer}
-use Rattle.list_table.specs.Table.{entriesAt, placeAt, streamOf, short, storedTable, droppedTable}
+use Rattle.list_places.specs.Stream.{emptyStream, lowestFree, streamRefused, missing, full, numberLadder, numberAnswer}
+use Rattle.list_places.specs.Table.{entriesAt, placeAt, streamOf, short}
+use Rattle.list_table.specs.Calls.{Found, storeLadder, storeAnswer, findAnswer, storedTable, droppedTable}
 use Rattle.list_table.specs.Run.{Call, Reply, StreamCall, streamAfter, historyReplies, tableAfter, repliesFor}
 use Rattle.list_table.specs.Run.Call.{store, drop, find, scale}
 use Rattle.list_table.specs.Run.Reply.{stored, dropped, found, scaled}
