@@ -4,18 +4,16 @@
 --   Ready, scale-ready              what holds once nothing was refused
 --   scale-inside                    the table has its 24 places, and the number is one
 --   scale-done                      what the library has written with the entries of the place
-use mathlib.Core.Path.{_≡_, refl, sym, ap, ap₂, _∙_}
-use mathlib.Core.Bool.{Bool, true, false}
+use mathlib.Core.Path.{_≡_, refl, sym, _∙_}
+use mathlib.Core.Bool.{Bool, false}
 use mathlib.Core.List.{List, [], _∷_, _++_}
 use Prim.Native.Nat.{ℕ, _+_, _-_, _*_, _≤_, _<_}
 use native.Mathlib.Omega.{arith}
-use borrow.Author.Tests.{ltb-false}
 use lib.IntN.{ℤ}
 use lib.ListN.{length, getD, take, drop, length-take, length-drop}
 use lib.Seq.{getD-take, getD-drop, ext-getD}
 use Rattle.integers.proofs.ListsLaws.{tabulate-length, tabulate-getD}
 use Rattle.h265.specs.Range.{log2Size}
-use Rattle.h265.specs.ScalingFactor.{ScalingList}
 use Rattle.h265.specs.ScalingFactor.ScalingList.{listed}
 use Rattle.refusal.specs.declared.Answer.{Answer}
 use Rattle.refusal.specs.declared.Answer.the-variants.{Refused}
@@ -27,7 +25,7 @@ use Rattle.refusal.proofs.LadderLaws.Rung.{rung}
 use Rattle.parameters.specs.declared.TransformSkipParams.{TransformSkipParams}
 use Rattle.parameters.specs.Answers.{noTransformSkip}
 use Rattle.parameters.specs.Parameters.{transformSkipOf}
-use Rattle.scaling_blocks.specs.Blocks.{blockLadder, blockParams, Written, Writes, left}
+use Rattle.scaling_blocks.specs.Blocks.{blockLadder, blockParams, Writes, left}
 use Rattle.scaling_blocks.proofs.BlockLaws.{rungs}
 use Rattle.list_places.specs.Stream.{Stream, numbered, missing, numberLadder, numberAnswer}
 use Rattle.list_places.specs.Table.{entriesAt, streamOf, short}

@@ -2,13 +2,12 @@
 --   store-length, -short, -stream, -full, -done   a store
 --   drop-short, -missing, -done                   a drop
 --   find-short, -narrow, -missing, -done          a look at a number
-use mathlib.Core.Path.{_≡_, refl, sym, ap, ap₂, _∙_}
-use mathlib.Core.Bool.{Bool, true, false, not, _||_, cond}
+use mathlib.Core.Path.{_≡_, refl, sym, ap, _∙_}
+use mathlib.Core.Bool.{true, false, not}
 use mathlib.Core.List.{List, _∷_}
 use Prim.Native.Nat.{ℕ, _+_, _*_, _≤_, _<_}
-use native.Mathlib.Omega.{arith}
 use borrow.Author.Tests.{lt-ltb, le-ltb, le-leb, lt-leb, eq-eqb, ne-eqb}
-use lib.Dec.{eqb, ltb, leb}
+use lib.Dec.{leb}
 use lib.ListN.{length, getD, set}
 use lib.Seq.{paste}
 use Rattle.integers.specs.Lists.{overwrite}

@@ -1,8 +1,8 @@
 -- `list_blocks::block_refused` meets its contract: refused where the numbers of the block are, else as the number is.
 use mathlib.Core.Path.{sym, ap, _∙_}
+use borrow.Author.Needs.{needs}
 use Rattle.parameters.specs.Answers.{transformSkipOutcome}
 use Rattle.list_blocks.proofs.ScaleLaws.{params-refused, params-passed}
-use borrow.Author.Needs.{needs}
 use Rattle.list_blocks.proofs.block_refused.Statement.{statement}
 use Rattle.list_blocks.proofs.block_refused.Tie as tie
 

@@ -2,14 +2,14 @@
 use mathlib.Core.Path.{_≡_, sym, ap, _∙_}
 use Prim.Native.Nat.{_≤_, _<_}
 use native.Mathlib.Omega.{arith}
+use borrow.Author.Needs.{needs}
 use lib.ListN.{length}
 use Rattle.refusal.specs.Outcome.{accepted, answer}
 use Rattle.scaling_blocks.specs.Blocks.{bits16}
+use Rattle.list_places.specs.Table.{streamOf, short}
 use Rattle.list_blocks.specs.Scale.{block}
 use Rattle.list_blocks.specs.Scale.Work.{coefficients}
-use Rattle.list_places.specs.Table.{streamOf, short}
 use Rattle.list_blocks.proofs.ScaleLaws.{answered, scale-refused, scale-inside, scale-done}
-use borrow.Author.Needs.{needs}
 use Rattle.list_blocks.proofs.dequantize_by_number_i16.Statement.{statement}
 use Rattle.list_blocks.proofs.dequantize_by_number_i16.Tie as tie
 

@@ -2,17 +2,15 @@
 use mathlib.Core.Path.{_≡_, sym, ap, _∙_}
 use Prim.Native.Nat.{_≤_, _<_}
 use native.Mathlib.Omega.{arith}
+use borrow.Author.Needs.{needs}
 use lib.ListN.{length}
 use Rattle.refusal.specs.Outcome.{accepted, answer}
 use Rattle.scaling_blocks.specs.Blocks.{bits32}
+use Rattle.list_places.specs.Table.{streamOf, short}
 use Rattle.list_blocks.specs.Scale.{block}
 use Rattle.list_blocks.specs.Scale.Work.{residuals}
-use Rattle.list_places.specs.Table.{streamOf, short}
 use Rattle.list_blocks.proofs.ScaleLaws.{answered, scale-refused, scale-inside, scale-done}
-use borrow.Author.Needs.{needs}
-use Rattle.list_blocks.proofs.dequantize_transform_skip_by_number_i32.Statement.{
-  statement,
-}
+use Rattle.list_blocks.proofs.dequantize_transform_skip_by_number_i32.Statement.{statement}
 use Rattle.list_blocks.proofs.dequantize_transform_skip_by_number_i32.Tie as tie
 
 -- the ladder was passed

@@ -1,8 +1,8 @@
 -- `list_places::is_missing` meets its contract: no such stream, no such number, or the first byte of its place.
 use mathlib.Core.Path.{sym}
 use native.Mathlib.Omega.{arith}
-use Rattle.list_places.proofs.TableLaws.{missing-stream, missing-past, missing-byte}
 use borrow.Author.Needs.{needs}
+use Rattle.list_places.proofs.TableLaws.{missing-stream, missing-past, missing-byte}
 use Rattle.list_places.proofs.is_missing.Statement.{statement}
 use Rattle.list_places.proofs.is_missing.Tie as tie
 

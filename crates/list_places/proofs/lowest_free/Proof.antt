@@ -1,9 +1,8 @@
 -- `list_places::lowest_free` meets its contract. The loop's invariant: no number below i is free.
-use borrow.Author.Tests.{eq-eqb, ne-eqb}
 use mathlib.Core.Path.{_≡_, sym, _∙_}
-use Prim.Native.Nat.{ℕ, _-_, _≤_}
+use Prim.Native.Nat.{_-_, _≤_}
 use native.Mathlib.Omega.{arith}
-use borrow.Author.Needs.{needs}
+use borrow.Author.Tests.{eq-eqb, ne-eqb}
 use Rattle.integers.proofs.SearchLaws.{None, none-zero, none-suc, firstWhere-none, firstWhere-found}
 use Rattle.list_places.specs.Stream.{isFree, numbered, lowestFree}
 use Rattle.list_places.specs.Table.{streamOf}

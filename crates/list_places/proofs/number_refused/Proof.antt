@@ -1,8 +1,8 @@
 -- `list_places::number_refused` meets its contract: the table's length, then the number.
 use mathlib.Core.Path.{sym, _∙_}
 use native.Mathlib.Omega.{arith}
-use Rattle.list_places.proofs.TableLaws.{number-short, number-missing, number-held}
 use borrow.Author.Needs.{needs}
+use Rattle.list_places.proofs.TableLaws.{number-short, number-missing, number-held}
 use Rattle.list_places.proofs.number_refused.Statement.{statement}
 use Rattle.list_places.proofs.number_refused.Tie as tie
 

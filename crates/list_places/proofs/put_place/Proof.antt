@@ -1,9 +1,9 @@
 -- `list_places::put_place` meets its contract. The loop's invariant: flag, DC and i entries are in their places.
-use lib.ListN.{length-set}
 use mathlib.Core.Path.{_∙_}
-use Rattle.list_places.proofs.PlaceLaws.{PutUpTo, put-none, put-more, put-length, put-all}
 use Prim.Native.Nat.{_-_}
 use native.Mathlib.Omega.{arith}
+use lib.ListN.{length-set}
+use Rattle.list_places.proofs.PlaceLaws.{PutUpTo, put-none, put-more, put-length, put-all}
 use Rattle.list_places.proofs.put_place.Statement.{statement}
 use Rattle.list_places.proofs.put_place.Tie as tie
 

@@ -1,13 +1,13 @@
 -- `list_table::drop_list` meets its contract: the ladder, and one byte.
-use mathlib.Core.Path.{_≡_, sym, _∙_}
 use mathlib.Core.Bool.{false}
+use mathlib.Core.Path.{_≡_, sym, _∙_}
 use Prim.Native.Nat.{_<_}
+use native.Mathlib.Omega.{arith}
+use borrow.Author.Needs.{needs}
 use Rattle.list_places.specs.Stream.{missing}
 use Rattle.list_places.specs.Table.{streamOf}
-use native.Mathlib.Omega.{arith}
 use Rattle.list_places.proofs.TableLaws.{number-inside}
 use Rattle.list_table.proofs.AnswerLaws.{drop-short, drop-missing, drop-done}
-use borrow.Author.Needs.{needs}
 use Rattle.list_table.proofs.drop_list.Statement.{statement}
 use Rattle.list_table.proofs.drop_list.Tie as tie
 
@@ -31,7 +31,7 @@ returns-2 : tie.Need-returns-2
 returns-2 c = drop-missing _ _ _ (omega arith) (sym (c .before .is-missing .ensures) ∙ c .if2 .taken)
 
 start-of-requires : tie.Need-start-of-requires
-start-of-requires c κs = inside c
+start-of-requires c κs = (omega (arith, inside c), omega (arith, inside c))
 
 slice-write-table : tie.Need-slice-write-table
 slice-write-table c = omega (arith, c .start-of .ensures, inside (c .before))

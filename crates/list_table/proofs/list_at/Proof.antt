@@ -1,13 +1,13 @@
 -- `list_table::list_at` meets its contract: the ladder, the entries and DC.
-use mathlib.Core.Path.{_≡_, sym, _∙_}
 use mathlib.Core.Bool.{false}
+use mathlib.Core.Path.{_≡_, sym, _∙_}
 use Prim.Native.Nat.{_<_}
+use native.Mathlib.Omega.{arith}
+use borrow.Author.Needs.{needs}
 use Rattle.list_places.specs.Stream.{missing}
 use Rattle.list_places.specs.Table.{streamOf}
-use native.Mathlib.Omega.{arith}
 use Rattle.list_places.proofs.TableLaws.{number-inside}
 use Rattle.list_table.proofs.AnswerLaws.{find-short, find-narrow, find-missing, find-done}
-use borrow.Author.Needs.{needs}
 use Rattle.list_table.proofs.list_at.Statement.{statement}
 use Rattle.list_table.proofs.list_at.Tie as tie
 
@@ -22,7 +22,7 @@ returns : tie.Need-returns
 returns c = find-short _ _ _ _ (c .if1 .taken)
 
 returns-2 : tie.Need-returns-2
-returns-2 c = find-narrow _ _ _ _ (omega arith) (c .if2 .taken)
+returns-2 c = find-narrow _ _ _ _ (omega arith) (omega arith)
 
 is-missing-requires : tie.Need-is-missing-requires
 is-missing-requires c κs = search needs
@@ -31,7 +31,7 @@ returns-3 : tie.Need-returns-3
 returns-3 c = find-missing _ _ _ _ (omega arith) (omega arith) (sym (c .before .is-missing .ensures) ∙ c .if3 .taken)
 
 start-of-requires : tie.Need-start-of-requires
-start-of-requires c κs = inside c
+start-of-requires c κs = (omega (arith, inside c), omega (arith, inside c))
 
 entries-out-requires : tie.Need-entries-out-requires
 entries-out-requires c κs = (omega (arith, c .before .start-of .ensures, inside (c .before .before)), omega arith)

@@ -1,7 +1,7 @@
 -- `list_table::store_list` meets its contract: the ladder, and the place of the lowest free number.
 use native.Mathlib.Omega.{arith}
-use Rattle.list_table.proofs.AnswerLaws.{store-length, store-short, store-stream, store-full, store-done}
 use borrow.Author.Needs.{needs}
+use Rattle.list_table.proofs.AnswerLaws.{store-length, store-short, store-stream, store-full, store-done}
 use Rattle.list_table.proofs.store_list.Statement.{statement}
 use Rattle.list_table.proofs.store_list.Tie as tie
 
