@@ -4,15 +4,12 @@
 --   Ready, scale-ready              what holds once nothing was refused
 --   scale-inside                    the table has its 24 places, and the number is one
 --   scale-done                      what the library has written with the entries of the place
-use mathlib.Core.Path.{_≡_, refl, sym, _∙_}
+use mathlib.Core.Path.{_≡_, refl}
 use mathlib.Core.Bool.{Bool, false}
 use mathlib.Core.List.{List, [], _∷_, _++_}
 use Prim.Native.Nat.{ℕ, _+_, _-_, _*_, _≤_, _<_}
-use native.Mathlib.Omega.{arith}
 use lib.IntN.{ℤ}
-use lib.ListN.{length, getD, take, drop, length-take, length-drop}
-use lib.Seq.{getD-take, getD-drop, ext-getD}
-use Rattle.integers.proofs.ListsLaws.{tabulate-length, tabulate-getD}
+use lib.ListN.{length, getD}
 use Rattle.h265.specs.Range.{log2Size}
 use Rattle.h265.specs.ScalingFactor.ScalingList.{listed}
 use Rattle.refusal.specs.declared.Answer.{Answer}
@@ -73,29 +70,18 @@ module _ (short : Bool) (d : ℕ) (s : Stream) (i : ℕ) (k : Block) (out : List
       let l = p .1 .1 .1 .1 .1 .1 in
       record { room = l .0; present = l .1 .0; is = first-passed (left out) (libraryBlock k (listOf (numbered s i)) out) (allRungs short d s i k out) p }
 
--- ---- the entries of a place, where they stand
-entries-part : (table : List ℕ) (p : ℕ) → 66 * p + 66 ≤ length table → take 64 (drop (66 * p + 2) table) ≡ entriesAt table p
-unfolding entriesAt
-entries-part table p room =
-    ext-getD 0 (take 64 (drop (66 * p + 2) table)) _ (long ∙ sym (tabulate-length 64 (λ j. getD table (66 * p + 2 + j) 0)))
-    (λ i h. at i (rw long at h))
-  where
-    long : length (take 64 (drop (66 * p + 2) table)) ≡ 64
-    long = simp (length-take, length-drop) (omega arith)
-
-    at : (i : ℕ) → i < 64 → getD (take 64 (drop (66 * p + 2) table)) i 0 ≡ getD (entriesAt table p) i 0
-    at i h = getD-take 64 (drop (66 * p + 2) table) i 0 h ∙ getD-drop (66 * p + 2) table i 0 ∙ sym (tabulate-getD 64 (λ j. getD table (66 * p + 2 + j) 0) i 0 h)
-
+-- ---- accepted
 module _ (table : List ℕ) (d i : ℕ) (k : Block) (out : List ℤ) where
-  pub scale-inside : accepted tt ≡ answered (short table) d (streamOf table d) i k out → (1584 ≤ length table) × ((d < 2) × (i < 12))
+  pub scale-inside : accepted tt ≡ answered (short table) d (streamOf table d) i k out → (1584 ≤ length table) × (d < 2) × (i < 12)
   scale-inside h =
-      let y = scale-ready (short table) d (streamOf table d) i k out h in (table-room table (y .room), number-inside table d i (y .present))
-
-  pub scale-done : (at : ℕ) (r : Answer) (after : List ℤ) → accepted tt ≡ answered (short table) d (streamOf table d) i k out
-      → at ≡ 66 * (12 * d + i)
-      → Writes r after (libraryBlock k (listed (take (at + 66 - (at + 2)) (drop (at + 2) table)) (getD table (at + 1) 0)) out)
-      → Writes r after (scaleAnswer (short table) d (streamOf table d) i k out)
-  scale-done at r after h a w =
       let y = scale-ready (short table) d (streamOf table d) i k out h in
-      let e : at + 66 - (at + 2) ≡ 64 = omega arith in
-      rw (y .is, held-place table d i (y .present), ← entries-part table (12 * d + i) (omega (arith, scale-inside h)), ← a, ← e) w
+      let n = number-inside table d i (y .present) in
+      (table-room table (y .room), n .0, n .1)
+
+  pub scale-done : (list : List ℕ) (dc : ℕ) (r : Answer) (after : List ℤ) → accepted tt ≡ answered (short table) d (streamOf table d) i k out
+      → list ≡ entriesAt table (12 * d + i)
+      → dc ≡ getD table (66 * (12 * d + i) + 1) 0
+      → Writes r after (libraryBlock k (listed list dc) out)
+      → Writes r after (scaleAnswer (short table) d (streamOf table d) i k out)
+  scale-done list dc r after h e f w =
+      let y = scale-ready (short table) d (streamOf table d) i k out h in rw (y .is, held-place table d i (y .present), ← e, ← f) w

@@ -71,17 +71,14 @@ pub fn dequantize_by_number_i32(
     if let Answer::Refused(why) = checked {
         return Answer::Refused(why);
     }
-    let at = list_places::start_of(stream, number);
-    let first = at + 2;
-    let end = at + 66;
     scaling_wide::dequantize_scaled_into_scalar_i32(
         levels,
         n,
         qp_prime,
         bit_depth,
         extended_precision,
-        &table[first..end],
-        table[at + 1],
+        list_places::entries(table, stream, number),
+        list_places::dc_at(table, stream, number),
         out,
     )
 }
@@ -115,17 +112,14 @@ pub fn dequantize_by_number_i16(
     if let Answer::Refused(why) = checked {
         return Answer::Refused(why);
     }
-    let at = list_places::start_of(stream, number);
-    let first = at + 2;
-    let end = at + 66;
     scaling_narrow::dequantize_scaled_into_scalar_i16(
         levels,
         n,
         qp_prime,
         bit_depth,
         extended_precision,
-        &table[first..end],
-        table[at + 1],
+        list_places::entries(table, stream, number),
+        list_places::dc_at(table, stream, number),
         out,
     )
 }
@@ -159,17 +153,14 @@ pub fn dequantize_transform_skip_by_number_i32(
     if let Answer::Refused(why) = checked {
         return Answer::Refused(why);
     }
-    let at = list_places::start_of(stream, number);
-    let first = at + 2;
-    let end = at + 66;
     scaling_wide::dequantize_transform_skip_scaled_into_scalar_i32(
         levels,
         n,
         qp_prime,
         bit_depth,
         extended_precision,
-        &table[first..end],
-        table[at + 1],
+        list_places::entries(table, stream, number),
+        list_places::dc_at(table, stream, number),
         out,
     )
 }
@@ -203,17 +194,14 @@ pub fn dequantize_transform_skip_by_number_i16(
     if let Answer::Refused(why) = checked {
         return Answer::Refused(why);
     }
-    let at = list_places::start_of(stream, number);
-    let first = at + 2;
-    let end = at + 66;
     scaling_narrow::dequantize_transform_skip_scaled_into_scalar_i16(
         levels,
         n,
         qp_prime,
         bit_depth,
         extended_precision,
-        &table[first..end],
-        table[at + 1],
+        list_places::entries(table, stream, number),
+        list_places::dc_at(table, stream, number),
         out,
     )
 }

@@ -3,6 +3,7 @@
 --   placeAt-cong                  a place is by its own 66 bytes
 --   put-same, put-other           a place after a list was put at it, and every other place
 --   freed-same, freed-other       the same after it was freed
+--   entries-part                  the entries of a place as a part of the list
 --   PutUpTo, put-none, -more, -length, -all   the invariant of the loop that puts a list at a place, and its needs
 use mathlib.Core.Path.{_≡_, refl, sym, ap, ap₂, _∙_}
 use mathlib.Core.Bool.{Bool, true, false, cond}
@@ -14,7 +15,7 @@ use native.Mathlib.Numerals.{add-one}
 use native.Mathlib.Omega.{arith}
 use borrow.Author.Tests.{ltb-true, ltb-false}
 use lib.Dec.{eqb, ltb}
-use lib.ListN.{length, getD, take, drop, set, length-set, List·getD-append}
+use lib.ListN.{length, getD, take, drop, set, length-set, length-take, length-drop, List·getD-append}
 use lib.Seq.{paste, paste-zero, paste-suc, length-paste, take-paste, drop-paste, take-take, drop-drop, take-at, getD-take, getD-drop, getD-append-add, getD-set-same, getD-set-other, length-take-le, ext-getD}
 use Rattle.integers.specs.Lists.{tabulate}
 use Rattle.integers.proofs.ListsLaws.{tabulate-cong, tabulate-length, tabulate-getD}
@@ -149,3 +150,20 @@ module _ {xs : List ℕ} {at : ℕ} {list : List ℕ} {dc : ℕ} {ys : List ℕ}
       let e : set ys (at + 2 + i) (getD list i 0) ≡ paste xs at (1 ∷ dc ∷ list) (suc (suc (suc i))) =
       more xs at list dc (s .room) (s .long) (suc (suc i)) ys (getD list i 0) (at + 2 + i) (omega arith) (s .is) refl (omega arith) in
       record { is = e ∙ ap (λ (k : ℕ). paste xs at (1 ∷ dc ∷ list) (suc (suc k))) (sym (add-one i)); within = omega arith; room = s .room; long = s .long }
+
+-- the entries of a place, where they stand
+entries-is : (table : List ℕ) (p : ℕ) → 66 * p + 66 ≤ length table → take 64 (drop (66 * p + 2) table) ≡ entriesAt table p
+unfolding entriesAt
+entries-is table p room =
+    ext-getD 0 (take 64 (drop (66 * p + 2) table)) _ (long ∙ sym (tabulate-length 64 (λ j. getD table (66 * p + 2 + j) 0)))
+    (λ i h. at i (rw long at h))
+  where
+    long : length (take 64 (drop (66 * p + 2) table)) ≡ 64
+    long = simp (length-take, length-drop) (omega arith)
+
+    at : (i : ℕ) → i < 64 → getD (take 64 (drop (66 * p + 2) table)) i 0 ≡ getD (entriesAt table p) i 0
+    at i h = getD-take 64 (drop (66 * p + 2) table) i 0 h ∙ getD-drop (66 * p + 2) table i 0 ∙ sym (tabulate-getD 64 (λ j. getD table (66 * p + 2 + j) 0) i 0 h)
+
+pub entries-part : (table : List ℕ) (p at : ℕ) → at ≡ 66 * p → at + 66 ≤ length table → take (at + 66 - (at + 2)) (drop (at + 2) table) ≡ entriesAt table p
+entries-part table p at e room =
+    let f : at + 66 - (at + 2) ≡ 64 = omega arith in rw (f, e) (entries-is table p (omega arith))

@@ -6,7 +6,7 @@
 --   numbered s i      the place of a number; one above 11 holds nothing
 --   lowestFree s      the lowest free number, and 12 where none is
 --   streamRefused d   18: the stream is not one of the two
---   missing d s i     18: nor does it hold such a number
+--   missing d s i     18: so it is, or it does not hold the number
 --   full s            17: it holds 12 already
 --   numberLadder      rows 7 and 18 of a call that names a number; `short` says that the lent table has no room for 24 places
 --   numberAnswer      the answer of such a call, where it hands back no value

@@ -7,7 +7,7 @@ ghost use lib.Seq.{paste};
 ghost use Rattle.integers.specs.Lists.{overwrite};
 ghost use Rattle.refusal.specs.Outcome.{answer};
 ghost use Rattle.list_places.specs.Stream.{missing, lowestFree, numberAnswer};
-ghost use Rattle.list_places.specs.Table.{streamOf, short};
+ghost use Rattle.list_places.specs.Table.{entriesAt, streamOf, short};
 use refusal::Answer;
 use refusal::Refusal;
 
@@ -85,4 +85,23 @@ pub fn entries_out(table: &[u8], at: usize, out: &mut [u8])
         out[i] = table[at + 2 + i];
         i += 1;
     }
+}
+
+// The entries of a number, where they stand.
+pub fn entries<'a>(table: &'a [u8], stream: usize, number: usize) -> &'a [u8]
+    requires { ⌜ (1584 ≤ length (now table)) × (stream < 2) × (number < 12) ⌝ }
+    ensures { λ r. ⌜ now r ≡ entriesAt (now (table .entry)) (12 * stream + number) ⌝ }
+{
+    let at = start_of(stream, number);
+    let first = at + 2;
+    let end = at + 66;
+    &table[first..end]
+}
+
+// The DC of a number.
+pub fn dc_at(table: &[u8], stream: usize, number: usize) -> u8
+    requires { ⌜ (1584 ≤ length (now table)) × (stream < 2) × (number < 12) ⌝ }
+    ensures { λ r. ⌜ r ≡ getD (now (table .entry)) (66 * (12 * stream + number) + 1) 0 ⌝ }
+{
+    table[start_of(stream, number) + 1]
 }

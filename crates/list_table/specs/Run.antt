@@ -6,7 +6,7 @@
 --   historyReplies, historyAfter   the replies to a list of calls of stream d alone, and its places after them
 --   EmptyTable table          24 places, all of them free
 --   StreamCall                a call with the stream that it names
---   tableAfter table c        the table after a call
+--   replyOn, tableAfter table d c   the reply to a call on a table, and the table after it
 --   repliesFor d table cs     the replies to those calls of a list that name stream d
 --   tableAfterAll table cs    the table after a list of calls
 --   callsOf d cs              the calls of a list that name stream d, in their order

@@ -1,7 +1,6 @@
 -- `list_blocks::dequantize_by_number_i32` meets its contract: refused as the ladder says, else the library's block with the entries of the place.
 use mathlib.Core.Path.{_≡_, sym, ap, _∙_}
 use Prim.Native.Nat.{_≤_, _<_}
-use native.Mathlib.Omega.{arith}
 use borrow.Author.Needs.{needs}
 use lib.ListN.{length}
 use Rattle.refusal.specs.Outcome.{accepted, answer}
@@ -18,7 +17,7 @@ passed : (c : tie.After-enum-told)
     → let a = c .before .before .before .before .args in accepted tt ≡ answered (short (a .table .now)) (a .stream) (streamOf (a .table .now) (a .stream)) (a .number) (block coefficients bits32 (a .n) (a .qp-prime .0) (a .bit-depth) (a .extended-precision) (a .levels .now)) (a .out .now)
 passed c = sym (ap answer (c .enum-told .given .1)) ∙ c .before .before .block-refused .ensures
 
-inside : (c : tie.After-enum-told) → let a = c .before .before .before .before .args in (1584 ≤ length (a .table .now)) × ((a .stream < 2) × (a .number < 12))
+inside : (c : tie.After-enum-told) → let a = c .before .before .before .before .args in (1584 ≤ length (a .table .now)) × (a .stream < 2) × (a .number < 12)
 inside c = let a = c .before .before .before .before .args in scale-inside (a .table .now) (a .stream) (a .number) (block coefficients bits32 (a .n) (a .qp-prime .0) (a .bit-depth) (a .extended-precision) (a .levels .now)) (a .out .now) (passed c)
 
 block-refused-requires : tie.Need-block-refused-requires
@@ -37,31 +36,11 @@ returns c =
 enum-told : tie.Need-enum-told
 enum-told c = search needs
 
-start-of-requires : tie.Need-start-of-requires
-start-of-requires c κs = inside c .1
+entries-requires : tie.Need-entries-requires
+entries-requires c κs = inside c
 
-add-first : tie.Need-add-first
-add-first c = search needs
-
-add-end : tie.Need-add-end
-add-end c = omega (arith, c .start-of .ensures, inside (c .before))
-
-sub-dequantize-scaled-into-scalar-i32 : tie.Need-sub-dequantize-scaled-into-scalar-i32
-sub-dequantize-scaled-into-scalar-i32 c = search needs
-
-part-dequantize-scaled-into-scalar-i32-start :
-    tie.Need-part-dequantize-scaled-into-scalar-i32-start
-part-dequantize-scaled-into-scalar-i32-start c = search needs
-
-part-dequantize-scaled-into-scalar-i32-end : tie.Need-part-dequantize-scaled-into-scalar-i32-end
-part-dequantize-scaled-into-scalar-i32-end c = omega (arith, c .start-of .ensures, inside (c .before))
-
-add-dequantize-scaled-into-scalar-i32 : tie.Need-add-dequantize-scaled-into-scalar-i32
-add-dequantize-scaled-into-scalar-i32 c = search needs
-
-shared-slice-read-dequantize-scaled-into-scalar-i32 :
-    tie.Need-shared-slice-read-dequantize-scaled-into-scalar-i32
-shared-slice-read-dequantize-scaled-into-scalar-i32 c = let s = c .before .before in omega (arith, s .start-of .ensures, inside (s .before))
+dc-at-requires : tie.Need-dc-at-requires
+dc-at-requires c κs = inside (c .before)
 
 dequantize-scaled-into-scalar-i32-requires : tie.Need-dequantize-scaled-into-scalar-i32-requires
 dequantize-scaled-into-scalar-i32-requires c κs = search needs
@@ -71,9 +50,11 @@ same-length c = search needs
 
 returns-2 : tie.Need-returns-2
 returns-2 c =
-    let s = c .before .before .before .before .before in
-    let a = s .before .before .before .before .before .args in
-    scale-done (a .table .now) (a .stream) (a .number) (block coefficients bits32 (a .n) (a .qp-prime .0) (a .bit-depth) (a .extended-precision) (a .levels .now)) (a .out .now) (s .start-of .result) _ _ (passed (s .before)) (s .start-of .ensures) (c .before .dequantize-scaled-into-scalar-i32 .ensures)
+    let d = c .before .before .before in
+    let e = d .before in
+    let t = e .before in
+    let a = t .before .before .before .before .args in
+    scale-done (a .table .now) (a .stream) (a .number) (block coefficients bits32 (a .n) (a .qp-prime .0) (a .bit-depth) (a .extended-precision) (a .levels .now)) (a .out .now) _ _ _ _ (passed t) (e .entries .ensures) (d .dc-at .ensures) (c .before .dequantize-scaled-into-scalar-i32 .ensures)
 
 pub dequantize-by-number-i32-spec : {M : Type 1} → statement M
 dequantize-by-number-i32-spec =
@@ -83,14 +64,8 @@ dequantize-by-number-i32-spec =
     enum-known-checked
     returns
     enum-told
-    start-of-requires
-    add-first
-    add-end
-    sub-dequantize-scaled-into-scalar-i32
-    part-dequantize-scaled-into-scalar-i32-start
-    part-dequantize-scaled-into-scalar-i32-end
-    add-dequantize-scaled-into-scalar-i32
-    shared-slice-read-dequantize-scaled-into-scalar-i32
+    entries-requires
+    dc-at-requires
     dequantize-scaled-into-scalar-i32-requires
     same-length
     returns-2)
