@@ -4,13 +4,14 @@
 --   Ready, scale-ready              what holds once nothing was refused
 --   scale-inside                    the table has its 24 places, and the number is one
 --   scale-done                      what the library has written with the entries of the place
-use mathlib.Core.Path.{_≡_, refl}
+use mathlib.Core.Path.{_≡_, refl, sym, ap, ap₂, _∙_}
 use mathlib.Core.Bool.{Bool, false}
 use mathlib.Core.List.{List, [], _∷_, _++_}
 use Prim.Native.Nat.{ℕ, _+_, _-_, _*_, _≤_, _<_}
 use lib.IntN.{ℤ}
 use lib.ListN.{length, getD}
 use Rattle.h265.specs.Range.{log2Size}
+use Rattle.h265.specs.ScalingFactor.{ScalingList}
 use Rattle.h265.specs.ScalingFactor.ScalingList.{listed}
 use Rattle.refusal.specs.declared.Answer.{Answer}
 use Rattle.refusal.specs.declared.Answer.the-variants.{Refused}
@@ -84,4 +85,6 @@ module _ (table : List ℕ) (d i : ℕ) (k : Block) (out : List ℤ) where
       → Writes r after (libraryBlock k (listed list dc) out)
       → Writes r after (scaleAnswer (short table) d (streamOf table d) i k out)
   scale-done list dc r after h e f w =
-      let y = scale-ready (short table) d (streamOf table d) i k out h in rw (y .is, held-place table d i (y .present), ← e, ← f) w
+      let y = scale-ready (short table) d (streamOf table d) i k out h in
+      let l : listOf (numbered (streamOf table d) i) ≡ listed list dc = ap listOf (held-place table d i (y .present)) ∙ sym (ap₂ listed e f) in
+      rw (y .is ∙ ap (λ (list : ScalingList). libraryBlock k list out) l) w
