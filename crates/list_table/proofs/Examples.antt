@@ -35,7 +35,7 @@ unfolding equal
 agree [] = true
 agree (c ∷ cs) = equal (c .found) (c .expected) && agree cs
 
--- a reply as numbers: the refusal's, then the number of a store, or DC with the first two and the last elements of the lent list
+-- a reply as numbers: the refusal's, then the number of a store, or DC and the elements 0, 63 and 64 of the lent list
 told : Reply → List ℕ
 told (stored o) = o .number ∷ o .value ∷ []
 told (dropped o) = o .number ∷ []
