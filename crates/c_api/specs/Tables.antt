@@ -4,8 +4,9 @@
 use mathlib.Core.Path.{_≡_}
 use mathlib.Core.List.{List}
 use Prim.Native.Nat.{ℕ}
-use Rattle.list_table.specs.Stream.{Found, storeAnswer, numberAnswer}
-use Rattle.list_table.specs.Table.{streamOf, short, storedTable, droppedTable}
+use Rattle.list_places.specs.Stream.{numberAnswer}
+use Rattle.list_places.specs.Table.{streamOf, short}
+use Rattle.list_table.specs.Calls.{Found, storeAnswer, storedTable, droppedTable}
 use Rattle.c_api.specs.declared.Answered.{Answered}
 use Rattle.c_api.specs.declared.NumberAnswered.{NumberAnswered}
 use Rattle.c_api.specs.declared.StoreAnswered.{StoreAnswered}

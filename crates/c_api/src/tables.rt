@@ -1,8 +1,9 @@
 // Scaling lists of two streams in one lent table.
 ghost use Rattle.scaling_blocks.specs.Blocks.{bits16, bits32};
-ghost use Rattle.list_table.specs.Stream.{block, findAnswer, scaleAnswer};
-ghost use Rattle.list_table.specs.Stream.Work.{coefficients, residuals};
-ghost use Rattle.list_table.specs.Table.{streamOf, short};
+ghost use Rattle.list_places.specs.Table.{streamOf, short};
+ghost use Rattle.list_blocks.specs.Scale.{block, scaleAnswer};
+ghost use Rattle.list_blocks.specs.Scale.Work.{coefficients, residuals};
+ghost use Rattle.list_table.specs.Calls.{findAnswer};
 ghost use Rattle.c_api.specs.Blocks.{Writes};
 ghost use Rattle.c_api.specs.Tables.{Stores, Drops, Finds};
 use crate::Answered;
@@ -60,7 +61,7 @@ pub extern "C" fn residual_dequantize_by_number_i32(
 ) -> Answered
     ensures { λ r. ⌜ Writes r (now (out .exit)) (scaleAnswer (short (now (table .entry))) stream (streamOf (now (table .entry)) stream) number (block coefficients bits32 n «qp_prime» «bit_depth» «extended_precision» (now (levels .entry))) (now (out .entry))) ⌝ }
 {
-    let answer = list_table::dequantize_by_number_i32(
+    let answer = list_blocks::dequantize_by_number_i32(
         table,
         stream,
         number,
@@ -89,7 +90,7 @@ pub extern "C" fn residual_dequantize_by_number_i16(
 ) -> Answered
     ensures { λ r. ⌜ Writes r (now (out .exit)) (scaleAnswer (short (now (table .entry))) stream (streamOf (now (table .entry)) stream) number (block coefficients bits16 n «qp_prime» «bit_depth» «extended_precision» (now (levels .entry))) (now (out .entry))) ⌝ }
 {
-    let answer = list_table::dequantize_by_number_i16(
+    let answer = list_blocks::dequantize_by_number_i16(
         table,
         stream,
         number,
@@ -118,7 +119,7 @@ pub extern "C" fn residual_dequantize_transform_skip_by_number_i32(
 ) -> Answered
     ensures { λ r. ⌜ Writes r (now (out .exit)) (scaleAnswer (short (now (table .entry))) stream (streamOf (now (table .entry)) stream) number (block residuals bits32 n «qp_prime» «bit_depth» «extended_precision» (now (levels .entry))) (now (out .entry))) ⌝ }
 {
-    let answer = list_table::dequantize_transform_skip_by_number_i32(
+    let answer = list_blocks::dequantize_transform_skip_by_number_i32(
         table,
         stream,
         number,
@@ -147,7 +148,7 @@ pub extern "C" fn residual_dequantize_transform_skip_by_number_i16(
 ) -> Answered
     ensures { λ r. ⌜ Writes r (now (out .exit)) (scaleAnswer (short (now (table .entry))) stream (streamOf (now (table .entry)) stream) number (block residuals bits16 n «qp_prime» «bit_depth» «extended_precision» (now (levels .entry))) (now (out .entry))) ⌝ }
 {
-    let answer = list_table::dequantize_transform_skip_by_number_i16(
+    let answer = list_blocks::dequantize_transform_skip_by_number_i16(
         table,
         stream,
         number,

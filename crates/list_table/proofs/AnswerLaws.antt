@@ -1,15 +1,13 @@
 -- The contracts of the calls on a table, rung by rung.
 --   store-length, -short, -stream, -full, -done   a store
---   number-short, -missing, -held                 the refusals of a number
 --   drop-short, -missing, -done                   a drop
 --   find-short, -narrow, -missing, -done          a look at a number
-use mathlib.Core.Path.{_≡_, refl, sym, ap, ap₂, _∙_}
-use mathlib.Core.Bool.{Bool, true, false, not, _||_, cond}
+use mathlib.Core.Path.{_≡_, refl, sym, ap, _∙_}
+use mathlib.Core.Bool.{true, false, not}
 use mathlib.Core.List.{List, _∷_}
 use Prim.Native.Nat.{ℕ, _+_, _*_, _≤_, _<_}
-use native.Mathlib.Omega.{arith}
 use borrow.Author.Tests.{lt-ltb, le-ltb, le-leb, lt-leb, eq-eqb, ne-eqb}
-use lib.Dec.{eqb, ltb, leb}
+use lib.Dec.{leb}
 use lib.ListN.{length, getD, set}
 use lib.Seq.{paste}
 use Rattle.integers.specs.Lists.{overwrite}
@@ -17,22 +15,14 @@ use Rattle.integers.proofs.ListsLaws.{tabulate-getD, overwrite-cong}
 use Rattle.refusal.specs.declared.Answer.the-variants.{Done, Refused}
 use Rattle.refusal.specs.declared.Refusal.the-variants.{ListLengthInvalid, OutputTooShort, StreamFull, ListMissing}
 use Rattle.refusal.specs.Condition.{listRefused}
-use Rattle.refusal.specs.Outcome.{accepted, refused}
 use Rattle.list_table.specs.declared.StoreAnswer.the-variants.{Stored, Refused as NotStored}
 use Rattle.list_table.specs.declared.ListAnswer.the-variants.{Dc, Refused as NotFound}
-use Rattle.list_table.specs.Stream.{Place, Stream, Found, numbered, foundAt, streamRefused, missing, full, lowestFree, storeLadder, numberLadder, storeAnswer, numberAnswer, findAnswer}
-use Rattle.list_table.specs.Stream.Place.{held}
-use Rattle.list_table.specs.Table.{entriesAt, streamOf, short, storedTable, droppedTable}
+use Rattle.list_places.specs.Stream.{Place, streamRefused, missing, full, lowestFree, numberLadder}
+use Rattle.list_places.specs.Stream.Place.{held}
+use Rattle.list_places.specs.Table.{entriesAt, streamOf, short}
+use Rattle.list_table.specs.Calls.{foundAt, storeLadder, storeAnswer, findAnswer, storedTable, droppedTable}
 use Rattle.list_table.specs.Answers.{Stores, Drops, Finds}
-use Rattle.list_table.proofs.TableLaws.{held-place}
-
-table-short : (table : List ℕ) → length table < 1584 → short table ≡ true
-unfolding short
-table-short table h = lt-ltb (length table) 1584 h
-
-pub table-long : (table : List ℕ) → 1584 ≤ length table → short table ≡ false
-unfolding short
-table-long table h = le-ltb (length table) 1584 h
+use Rattle.list_places.proofs.TableLaws.{held-place, table-short, table-long, number-short, number-missing, number-held}
 
 list-whole : (list : List ℕ) → length list ≡ 64 → listRefused (length list) ≡ false
 unfolding listRefused
@@ -81,32 +71,20 @@ module _ (table : List ℕ) (d : ℕ) (list : List ℕ) (dc : ℕ) where
             table-is = rw (list-whole list whole, table-long table room, le-ltb 1 d h, f, p, a, e);
           }
 
--- ---- a number, and a drop
+-- ---- a drop
 module _ (table : List ℕ) (d i : ℕ) where
-  pub number-short : length table < 1584 → refused tt OutputTooShort ≡ numberAnswer (short table) d (streamOf table d) i
-  unfolding numberAnswer numberLadder
-  number-short h = rw (table-short table h)
-
   pub drop-short : length table < 1584 → Drops (Refused OutputTooShort) table table d i
   unfolding droppedTable numberLadder
-  drop-short h = record { answered = number-short h; table-is = rw (table-short table h) }
+  drop-short h = record { answered = number-short table d i h; table-is = rw (table-short table h) }
 
   module _ (room : 1584 ≤ length table) where
-    pub number-missing : missing d (streamOf table d) i ≡ true → refused tt ListMissing ≡ numberAnswer (short table) d (streamOf table d) i
-    unfolding numberAnswer numberLadder
-    number-missing h = rw (table-long table room, h)
-
-    pub number-held : missing d (streamOf table d) i ≡ false → accepted tt ≡ numberAnswer (short table) d (streamOf table d) i
-    unfolding numberAnswer numberLadder
-    number-held h = rw (table-long table room, h)
-
     pub drop-missing : missing d (streamOf table d) i ≡ true → Drops (Refused ListMissing) table table d i
     unfolding droppedTable numberLadder
-    drop-missing h = record { answered = number-missing h; table-is = rw (table-long table room, h) }
+    drop-missing h = record { answered = number-missing table d i room h; table-is = rw (table-long table room, h) }
 
     pub drop-done : (at : ℕ) → missing d (streamOf table d) i ≡ false → at ≡ 66 * (12 * d + i) → Drops Done (set table at 0) table d i
     unfolding droppedTable numberLadder
-    drop-done at h a = record { answered = number-held h; table-is = rw (table-long table room, h, a) }
+    drop-done at h a = record { answered = number-held table d i room h; table-is = rw (table-long table room, h, a) }
 
 -- ---- a look at a number
 module _ (table : List ℕ) (d i : ℕ) (out : List ℕ) where

@@ -1,18 +1,18 @@
 -- Examples of the definitions, as one list of cases under one statement: numbers of one stream given out lowest first and again after a drop, every
 -- refusal of a store, and two streams that store by turns on one table.
-use mathlib.Core.Bool.{Bool, true, false, _&&_, _||_, cond}
+use mathlib.Core.Bool.{Bool, true, false, _&&_}
 use mathlib.Core.List.{List, [], _∷_, _++_}
 use Prim.Native.Nat.{ℕ}
 use lib.Dec.{T, eqb}
-use lib.ListN.{length, getD, replicate}
+use lib.ListN.{getD, replicate}
 use Rattle.integers.specs.Lists.{tabulate, tabulateFrom, overwrite}
 use Rattle.integers.specs.Search.{firstWhere}
 use Rattle.refusal.specs.Condition.{listRefused}
-use Rattle.refusal.specs.Outcome.{Outcome}
-use Rattle.list_table.specs.Stream.{Found, emptyStream, lowestFree, streamRefused, missing, full, storeLadder, numberLadder, storeAnswer, numberAnswer, findAnswer}
-use Rattle.list_table.specs.Table.{entriesAt, placeAt, streamOf, short, storedTable, droppedTable}
+use Rattle.list_places.specs.Stream.{emptyStream, lowestFree, streamRefused, missing, full, numberLadder, numberAnswer}
+use Rattle.list_places.specs.Table.{entriesAt, placeAt, streamOf, short}
+use Rattle.list_table.specs.Calls.{storeLadder, storeAnswer, findAnswer, storedTable, droppedTable}
 use Rattle.list_table.specs.Run.{Call, Reply, StreamCall, streamAfter, historyReplies, tableAfter, repliesFor}
-use Rattle.list_table.specs.Run.Call.{store, drop, find, scale}
+use Rattle.list_table.specs.Run.Call.{store, drop, find}
 use Rattle.list_table.specs.Run.Reply.{stored, dropped, found, scaled}
 
 -- what a definition gives, and what is right
@@ -35,7 +35,7 @@ unfolding equal
 agree [] = true
 agree (c ∷ cs) = equal (c .found) (c .expected) && agree cs
 
--- a reply as numbers: the refusal's, then the number of a store, or DC with the first two and the last elements of the lent list
+-- a reply as numbers: the refusal's, then the number of a store, or DC and the elements 0, 63 and 64 of the lent list
 told : Reply → List ℕ
 told (stored o) = o .number ∷ o .value ∷ []
 told (dropped o) = o .number ∷ []

@@ -1,7 +1,4 @@
--- Laws of places, of the streams in a table, and of lists of calls.
-pub mod PlaceLaws
-pub mod TableLaws
+-- Laws of the calls on a table, and of lists of calls.
 pub mod AnswerLaws
 pub mod RunLaws
-pub mod ScaleLaws
 pub mod Examples

@@ -10,22 +10,22 @@ use Prim.Native.Nat.{ℕ, _+_, _*_, _≤_, _<_}
 use native.Mathlib.Omega.{arith}
 use borrow.Author.Tests.{lt-ltb, eqb-true, eqb-false, leb-false, not-false}
 use lib.Dec.{eqb}
-use lib.ListN.{length, set, length-set, replicate}
+use lib.ListN.{length, set, length-set}
 use lib.Seq.{length-paste}
 use Rattle.integers.specs.Lists.{tabulate, tabulateFrom}
 use Rattle.integers.proofs.ListsLaws.{tabulate-cong}
 use Rattle.refusal.specs.declared.Refusal.the-variants.{ListLengthInvalid, OutputTooShort, StreamFull, ListMissing}
 use Rattle.refusal.specs.Condition.{listRefused}
-use Rattle.refusal.proofs.LadderLaws.{Rung, first-both}
+use Rattle.refusal.proofs.LadderLaws.{first-both}
 use Rattle.refusal.proofs.LadderLaws.Rung.{rung}
-use Rattle.list_table.specs.Stream.{Place, Stream, emptyStream, lowestFree, streamRefused, missing, full, storeLadder, numberLadder}
-use Rattle.list_table.specs.Stream.Place.{free, held}
-use Rattle.list_table.specs.Table.{placeAt, streamOf, short, EmptyTable, put, storedTable, droppedTable}
-use Rattle.list_table.specs.Run.{Call, Reply, StreamCall, replyTo, replyOn, streamAfter, historyReplies, historyAfter, tableAfter, repliesFor, tableAfterAll, callsOf, FollowsOwnCalls, StreamsDoNotMeet, OtherCallsChangeNothing, UnknownStreamChangesNothing}
+use Rattle.list_places.specs.Stream.{Place, Stream, emptyStream, lowestFree, streamRefused, missing, full, numberLadder}
+use Rattle.list_places.specs.Stream.Place.{free, held}
+use Rattle.list_places.specs.Table.{placeAt, streamOf, short, put}
+use Rattle.list_table.specs.Calls.{storeLadder, storedTable, droppedTable}
+use Rattle.list_table.specs.Run.{Call, EmptyTable, StreamCall, replyTo, replyOn, streamAfter, historyReplies, historyAfter, tableAfter, repliesFor, tableAfterAll, callsOf, StreamsDoNotMeet, OtherCallsChangeNothing, UnknownStreamChangesNothing}
 use Rattle.list_table.specs.Run.Call.{store, drop, find, scale}
-use Rattle.list_table.proofs.PlaceLaws.{put-same, put-other, freed-same, freed-other}
-use Rattle.list_table.proofs.TableLaws.{stream-inside, missing-stream, number-inside, streamOf-kept, streamOf-set}
-use Rattle.list_table.proofs.AnswerLaws.{table-long}
+use Rattle.list_places.proofs.PlaceLaws.{put-same, put-other, freed-same, freed-other}
+use Rattle.list_places.proofs.TableLaws.{stream-inside, missing-stream, number-inside, streamOf-kept, streamOf-set, table-long}
 
 -- after a call of stream d: its places, those of every other stream, and the length
 pub record Changed (table : List ℕ) (d : ℕ) (after : List ℕ) (s : Stream) : Type 0 where

@@ -12,8 +12,9 @@ use Rattle.list_table.specs.declared.StoreAnswer.{StoreAnswer}
 use Rattle.list_table.specs.declared.StoreAnswer.the-variants.{Stored, Refused as NotStored}
 use Rattle.list_table.specs.declared.ListAnswer.{ListAnswer}
 use Rattle.list_table.specs.declared.ListAnswer.the-variants.{Dc, Refused}
-use Rattle.list_table.specs.Stream.{Found, storeAnswer, numberAnswer, findAnswer}
-use Rattle.list_table.specs.Table.{streamOf, short, storedTable, droppedTable}
+use Rattle.list_places.specs.Stream.{numberAnswer}
+use Rattle.list_places.specs.Table.{streamOf, short}
+use Rattle.list_table.specs.Calls.{Found, storeAnswer, storedTable, droppedTable}
 
 abbrev pub storeOutcome : StoreAnswer → Outcome ℕ
 storeOutcome (Stored i) = accepted i

@@ -1,4 +1,3 @@
-pub mod Stream
-pub mod Table
+pub mod Calls
 pub mod Answers
 pub mod Run

@@ -4,8 +4,9 @@
 --   replyTo short d s c       the reply of a stream d whose places are s
 --   streamAfter d s c         its places afterwards
 --   historyReplies, historyAfter   the replies to a list of calls of stream d alone, and its places after them
+--   EmptyTable table          24 places, all of them free
 --   StreamCall                a call with the stream that it names
---   tableAfter table c        the table after a call
+--   replyOn, tableAfter table d c   the reply to a call on a table, and the table after it
 --   repliesFor d table cs     the replies to those calls of a list that name stream d
 --   tableAfterAll table cs    the table after a list of calls
 --   callsOf d cs              the calls of a list that name stream d, in their order
@@ -17,15 +18,17 @@
 use mathlib.Core.Path.{_≡_}
 use mathlib.Core.Bool.{Bool, false, cond}
 use mathlib.Core.List.{List, [], _∷_}
-use Prim.Native.Nat.{ℕ, _<_}
+use Prim.Native.Nat.{ℕ, _*_, _≤_, _<_}
 use lib.Dec.{eqb}
 use lib.IntN.{ℤ}
-use lib.ListN.{length, set}
+use lib.ListN.{length, getD, set}
 use Rattle.refusal.specs.Outcome.{Outcome}
 use Rattle.refusal.specs.Written.{Written}
-use Rattle.list_table.specs.Stream.{Place, Stream, Block, Found, emptyStream, lowestFree, storeLadder, numberLadder, storeAnswer, numberAnswer, findAnswer, scaleAnswer}
-use Rattle.list_table.specs.Stream.Place.{free, held}
-use Rattle.list_table.specs.Table.{streamOf, short, EmptyTable, storedTable, droppedTable}
+use Rattle.list_places.specs.Stream.{Stream, emptyStream, lowestFree, numberLadder, numberAnswer}
+use Rattle.list_places.specs.Stream.Place.{free, held}
+use Rattle.list_places.specs.Table.{streamOf, short}
+use Rattle.list_blocks.specs.Scale.{Block, scaleAnswer}
+use Rattle.list_table.specs.Calls.{Found, storeLadder, storeAnswer, findAnswer, storedTable, droppedTable}
 
 pub data Call : Type 0 where
   store : List ℕ → ℕ → Call
@@ -58,6 +61,10 @@ historyReplies d s (c ∷ cs) = replyTo false d s c ∷ historyReplies d (stream
 unfoldable pub historyAfter : ℕ → Stream → List Call → Stream
 historyAfter d s [] = s
 historyAfter d s (c ∷ cs) = historyAfter d (streamAfter d s c) cs
+
+pub record EmptyTable (table : List ℕ) : Type 0 where
+  pub room : 1584 ≤ length table
+  pub free-at : (p : ℕ) → p < 24 → getD table (66 * p) 0 ≡ 0
 
 pub record StreamCall : Type 0 where
   pub stream : ℕ

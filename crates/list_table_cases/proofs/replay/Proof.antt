@@ -1,5 +1,5 @@
 -- `list_table_cases::replay` ends: each turn takes one from the count of turns.
-use mathlib.Core.Path.{_≡_, refl, _∙_}
+use mathlib.Core.Path.{_≡_, refl}
 use native.Mathlib.Omega.{arith}
 use borrow.Author.Needs.{needs}
 use lib.ListN.{length}

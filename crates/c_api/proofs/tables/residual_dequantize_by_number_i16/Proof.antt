@@ -1,4 +1,4 @@
--- `c_api::tables::residual_dequantize_by_number_i16` meets its contract: the record holds what `list_table::dequantize_by_number_i16` answered, and the output is what it left.
+-- `c_api::tables::residual_dequantize_by_number_i16` meets its contract: the record holds what `list_blocks::dequantize_by_number_i16` answered, and the output is what it left.
 use borrow.Author.Needs.{needs}
 use Rattle.integers.proofs.MachineLaws.{round-trip}
 use Rattle.c_api.proofs.AnswersLaws.{writes-by}

@@ -1,6 +1,6 @@
 -- `list_table_cases::lines::put_short` meets its contract, which says nothing: the wider type holds the number.
-use Rattle.integers.proofs.MachineLaws.{sfits-widen-trip}
 use borrow.Author.Needs.{needs}
+use Rattle.integers.proofs.MachineLaws.{sfits-widen-trip}
 use Rattle.list_table_cases.proofs.lines.put_short.Statement.{statement}
 use Rattle.list_table_cases.proofs.lines.put_short.Tie as tie
 

@@ -1,0 +1,2 @@
+-- Laws of blocks by number.
+pub mod ScaleLaws

@@ -1,0 +1,3 @@
+-- Laws of places, and of the streams in a table.
+pub mod PlaceLaws
+pub mod TableLaws
