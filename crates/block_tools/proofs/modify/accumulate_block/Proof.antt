@@ -77,8 +77,8 @@ before-fits c = record { sfits = c .out2 .given }
 
 total-is : (c : tie.After-out2 Inv-loop μ-loop)
     → let t = c .before .before in let l = t .before .before .before in let a = l .before .args in
-      toZ w32 (ofZ w32 (getD (l .loop .out) (l .loop .i) (pos 0))) +ℤ toZ w32 (ofZ w32 (getD (l .loop .out) (l .loop .i - t .before .step-back .result) (pos 0)))
-      ≡ accumulated (a .accumulate) (a .n) (at (a .out .now)) (l .loop .i)
+    toZ w32 (ofZ w32 (getD (l .loop .out) (l .loop .i) (pos 0))) +ℤ toZ w32 (ofZ w32 (getD (l .loop .out) (l .loop .i - t .before .step-back .result) (pos 0)))
+    ≡ accumulated (a .accumulate) (a .n) (at (a .out .now)) (l .loop .i)
 total-is c =
     let t = c .before .before in
     let l = t .before .before .before in
@@ -117,19 +117,20 @@ loop-again c =
     let i = b .before in
     let l = i .before in
     let a = l .before .args in
-    let s = l .loop .inv .0 in
-    (⊎-elim
-      (λ w.
-        let r : tie.After-out2 Inv-loop μ-loop = record { before = record { before = record { before = b; if1 = w .0 }; out = w .1 }; out2 = w .2 } in
-        subst (λ (xs : List ℤ). Stored (accumulated (a .accumulate) (a .n) (at (a .out .now))) (a .out .now) (l .loop .i + 1) xs) (sym (w .3))
-        (stored-more s (inside i) (ap (λ (z : ℤ). toZ w32 (ofZ w32 z)) (total-is r) ∙ round-trip (total-fits i))))
-      (λ w.
-        subst (λ (xs : List ℤ). Stored (accumulated (a .accumulate) (a .n) (at (a .out .now))) (a .out .now) (l .loop .i + 1) xs) (sym (w .1))
-        (stored-kept s (inside i)
+    let s = l .loop .inv .0 in (
+      ⊎-elim
+          (λ w.
+          let r : tie.After-out2 Inv-loop μ-loop = record { before = record { before = record { before = b; if1 = w .0 }; out = w .1 }; out2 = w .2 } in
+          subst (λ (xs : List ℤ). Stored (accumulated (a .accumulate) (a .n) (at (a .out .now))) (a .out .now) (l .loop .i + 1) xs) (sym (w .3))
+          (stored-more s (inside i) (ap (λ (z : ℤ). toZ w32 (ofZ w32 z)) (total-is r) ∙ round-trip (total-fits i))))
+          (λ w.
+          subst (λ (xs : List ℤ). Stored (accumulated (a .accumulate) (a .n) (at (a .out .now))) (a .out .now) (l .loop .i + 1) xs) (sym (w .1))
+          (stored-kept s (inside i)
           (stored-rest s (l .loop .i) (omega arith)
           ∙ sym (accumulated-first (a .n) (at (a .out .now)) (a .accumulate) (l .loop .i) (positive (l .before)) (sym (b .step-back .ensures) ∙ omega (arith, w .0 .left))))))
-      (c .if1 .came),
-    omega (arith, i .loop-test .taken))
+          (c .if1 .came),
+      omega (arith, i .loop-test .taken),
+    )
 
 same-length : tie.Need-same-length Inv-loop μ-loop
 same-length c = stored-length (c .before .loop .inv .0)

@@ -40,9 +40,11 @@ accumulate-block-requires : tie.Need-accumulate-block-requires
 accumulate-block-requires c κs =
     let j = c .before in
     let s = j .before in
-    let a = s .args in
-    (s .pre .size, omega (arith, mid-length j, s .pre .room),
-      overwritten-summable (a .n * a .n) (rotated (a .rotate) (a .n) (at (a .out .now))) (a .out .now) (mid-is j) (rotated-within (a .rotate) (a .n) (at (a .out .now)) (s .pre .summable .small)))
+    let a = s .args in (
+      s .pre .size,
+      omega (arith, mid-length j, s .pre .room),
+      overwritten-summable (a .n * a .n) (rotated (a .rotate) (a .n) (at (a .out .now))) (a .out .now) (mid-is j) (rotated-within (a .rotate) (a .n) (at (a .out .now)) (s .pre .summable .small)),
+    )
 
 same-length : tie.Need-same-length
 same-length c = c .before .accumulate-block .kept .1 .1 .0 ∙ mid-length (c .before .before .before)
