@@ -3,6 +3,7 @@
 --   accumulated-later        another is added to the sum at the sample before it, `stepBack` away
 --   accumulated-within       a sum of at most 32 samples of at most 2^22 is at most 2^27
 --   rotated-index            at size 4 rotation exchanges index i and index 15 - i
+--   column-mask              the column of an index, by a mask
 --   modified-off             without rotation and accumulation values are shifted alone
 --   stored-kept, -done, -rest  a loop that leaves an element that is right as it stands; an element that it stored, and one that it has not come to
 --   accumulated-cong, rotated-cong, rotated-within   blocks that agree, and their bound
@@ -18,6 +19,7 @@ use native.Mathlib.Decide.{ℕ-discrete, decLt}
 use native.Mathlib.Omega.{arith}
 use borrow.Author.Tests.{lt-ltb, le-ltb, ne-eqb}
 use lib.Arith.{digits-div, digits-mod, digits-lt}
+use lib.Bits.{bitAnd, and-mask}
 use lib.Dec.{T, eqb}
 use lib.IntN.{ℤ, pos, _+ℤ_, +ℤ-idl, +ℤ-comm}
 use lib.ListN.{length, getD, set, length-set}
@@ -28,6 +30,8 @@ use Rattle.integers.specs.Within.{Within}
 use Rattle.integers.proofs.BoundLaws.{within-le, within-eq}
 use Rattle.integers.proofs.ListsLaws.{Stored, stored-more, overwrite-length, overwrite-cong, overwrite-getD, overwrite-getD-past, overwrite-twice}
 use Rattle.integers.proofs.SumLaws.{sum-zero, sum-suc, sum-cong, sum-bound}
+use Rattle.h265.specs.Range.{isSize}
+use Rattle.h265.proofs.RangeLaws.{size-cases}
 use Rattle.refusal.specs.Condition.{rotationRefused}
 use Rattle.refusal.proofs.ConditionLaws.{rotation-accepted}
 use Rattle.block_tools.specs.declared.Accumulate.{Accumulate}
@@ -125,6 +129,9 @@ module _ (n : ℕ) (f : ℕ → ℤ) where
       ]
 
 -- ---- size
+pub column-mask : (n i : ℕ) → T (isSize n) → bitAnd i (n - 1) ≡ i % n
+column-mask n i t = size-cases (λ m. bitAnd i (m - 1) ≡ i % m) (and-mask i 2) (and-mask i 3) (and-mask i 4) (and-mask i 5) n t
+
 pub quotient-lt : (n i : ℕ) → i < n * n → i / n < n
 quotient-lt n i h =
     elim (decLt (i / n) n) [

@@ -1,7 +1,7 @@
 // Rotation and accumulation of a block where it stands.
 ghost use mathlib.Core.Path.{_≡_};
 ghost use mathlib.Core.Bool.{true, false};
-ghost use Prim.Native.Nat.{_*_, _<_, _≤_};
+ghost use Prim.Native.Nat.{_*_, _≤_};
 ghost use lib.Dec.{T};
 ghost use lib.ListN.{length};
 ghost use Rattle.integers.specs.Lists.{overwrite};
@@ -10,15 +10,15 @@ ghost use Rattle.block_tools.specs.Modification.{rotated, accumulated};
 ghost use Rattle.block_tools.specs.Work.{stepBack, at, Summable, Block};
 use crate::Accumulate;
 
-// How far before sample i the one stands that is added to it, and 0 where there is none.
+// How far before sample i the one stands that is added to it, and 0 where there is none. Sizes are powers of two: the column needs no division.
 fn step_back(accumulate: Accumulate, n: usize, i: usize) -> usize
-    requires { ⌜ 0 < n ⌝ }
+    requires { ⌜ T (isSize n) ⌝ }
     ensures { λ r. ⌜ r ≡ stepBack accumulate n i ⌝ }
 {
     match accumulate {
         Accumulate::Off => 0,
         Accumulate::AlongRows => {
-            if i % n == 0 {
+            if (i & (n - 1)) == 0 {
                 return 0;
             }
             1

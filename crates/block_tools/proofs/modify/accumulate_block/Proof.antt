@@ -34,7 +34,7 @@ positive : (c : tie.Start Inv-loop μ-loop) → 0 < c .args .n
 positive c = omega (arith, size-bound (c .args .n) (c .pre .0) .0)
 
 step-back-requires : tie.Need-step-back-requires Inv-loop μ-loop
-step-back-requires c κs = positive (c .before .before)
+step-back-requires c κs = c .before .before .pre .0
 
 inside : (c : tie.In-loop Inv-loop μ-loop) → c .before .loop .i < length (c .before .before .args .out .now)
 inside c = omega (arith, c .before .before .pre .1, c .loop-test .taken)

@@ -69,7 +69,7 @@ loop-less c = omega arith
 loop-again : tie.Need-loop-again Inv-loop μ-loop
 loop-again c =
     let l = c .before .before .before in
-    (turned-more (l .loop .inv .0) (l .before .pre) _ _ (c .before .before .loop-test .taken) (round-trip (first-fits (c .before))) (round-trip (last-fits c)), omega arith)
+    (turned-more (l .loop .inv .0) (l .before .pre) _ _ (omega arith) (round-trip (first-fits (c .before))) (round-trip (last-fits c)), omega arith)
 
 same-length : tie.Need-same-length Inv-loop μ-loop
 same-length c = c .before .loop .inv .0 .same

@@ -1,11 +1,14 @@
 -- `block_tools::modify::step_back` meets its contract: each arm is the definition's clause, and its test the clause's.
 use mathlib.Core.Path.{_≡_, sym, ap, _∙_}
 use mathlib.Core.Bool.{cond}
-use Prim.Native.Nat.{ℕ}
+use Prim.Native.Nat.{ℕ, _%_}
+use native.Mathlib.Omega.{arith}
 use borrow.Author.Needs.{needs}
 use borrow.Author.Tests.{lt-ltb, le-ltb, ne-eqb}
 use lib.Dec.{eqb}
+use Rattle.h265.proofs.RangeLaws.{size-bound}
 use Rattle.block_tools.specs.Work.{stepBack}
+use Rattle.block_tools.proofs.ModificationLaws.{column-mask}
 use Rattle.block_tools.proofs.modify.step_back.Statement.{statement}
 use Rattle.block_tools.proofs.modify.step_back.Tie as tie
 
@@ -15,13 +18,13 @@ enum-told c = search needs
 enum-told-2 : tie.Need-enum-told-2
 enum-told-2 c = search needs
 
-rem-if1 : tie.Need-rem-if1
-rem-if1 c = search needs
+sub-if1 : tie.Need-sub-if1
+sub-if1 c = omega (arith, size-bound (c .before .before .args .n) (c .before .before .pre) .0)
 
 returns : tie.Need-returns
 returns c =
     let a = c .before .before .before .args in
-    sym (ap (λ k. stepBack k (a .n) (a .i)) (c .before .enum-told2 .given .1) ∙ ap (λ (r : ℕ). cond (eqb r 0) 0 1) (c .if1 .taken))
+    sym (ap (λ k. stepBack k (a .n) (a .i)) (c .before .enum-told2 .given .1) ∙ ap (λ (r : ℕ). cond (eqb r 0) 0 1) (sym (column-mask (a .n) (a .i) (c .before .before .before .pre)) ∙ c .if1 .taken))
 
 enum-told-3 : tie.Need-enum-told-3
 enum-told-3 c = search needs
@@ -37,7 +40,7 @@ returns-3 c = search needs
 returns-4 : tie.Need-returns-4
 returns-4 c =
     let a = c .before .before .before .args in
-    sym (ap (λ k. stepBack k (a .n) (a .i)) (c .before .enum-told2 .given .1) ∙ ap (λ t. cond t 0 1) (ne-eqb _ 0 (c .if1 .left)))
+    sym (ap (λ k. stepBack k (a .n) (a .i)) (c .before .enum-told2 .given .1) ∙ ap (λ t. cond t 0 1) (ne-eqb (a .i % a .n) 0 (λ e. c .if1 .left (column-mask (a .n) (a .i) (c .before .before .before .pre) ∙ e))))
 
 returns-5 : tie.Need-returns-5
 returns-5 c =
@@ -50,7 +53,7 @@ step-back-spec =
     (tie.spec
     enum-told
     enum-told-2
-    rem-if1
+    sub-if1
     returns
     enum-told-3
     returns-2

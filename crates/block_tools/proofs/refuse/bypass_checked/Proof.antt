@@ -93,7 +93,7 @@ first-outside-requires : tie.Need-first-outside-requires
 first-outside-requires c κs =
     let i = c .before .before in
     let s = i .before .before .before .before .before in
-    (size-accepted (s .before .before .args .n) (size-ok s), omega arith, i .if4 .left, range-most c)
+    (size-accepted (s .before .before .args .n) (size-ok s), omega arith, i .if4 .left, omega (arith, range-most c))
 
 mul-if6 : tie.Need-mul-if6
 mul-if6 c = search needs

@@ -15,9 +15,7 @@ rotation-named-requires : tie.Need-rotation-named-requires
 rotation-named-requires c κs = search needs
 
 returns : tie.Need-returns
-returns c =
-    let a = c .before .before .args in
-    skip-named (a .accumulate) (a .rotate) flat (a .n) (a .qp-prime .0) (a .bit-depth) (a .extended-precision) (a .levels .now) (a .out .now) (sym (c .before .rotation-named .ensures) ∙ c .if1 .taken)
+returns c = skip-named _ _ _ _ _ _ _ _ _ (sym (c .before .rotation-named .ensures) ∙ c .if1 .taken)
 
 not-named : (c : tie.Else1) → let a = c .before .before .args in rotationNamed (a .rotate) (a .n) (a .bit-depth) ≡ false
 not-named c = sym (c .before .rotation-named .ensures) ∙ c .if1 .left
