@@ -10,7 +10,9 @@ use Rattle.refusal.specs.Condition.{rotationRefused}
 use Rattle.refusal.proofs.ConditionLaws.{rotation-accepted}
 use Rattle.block_tools.specs.Modification.{rotated, accumulated}
 use Rattle.block_tools.specs.Work.{at}
-use Rattle.block_tools.proofs.ModificationLaws.{accumulated-cong, rotated-within, overwritten-summable, overwritten-twice, rotates, rotates-not}
+use Rattle.block_tools.proofs.AccumulationLaws.{accumulated-cong}
+use Rattle.block_tools.proofs.ModificationLaws.{overwritten-summable, overwritten-twice}
+use Rattle.block_tools.proofs.RotationLaws.{rotated-within, rotates, rotates-not}
 use Rattle.block_tools.proofs.modify.modify_block.Statement.{statement}
 use Rattle.block_tools.proofs.modify.modify_block.Tie as tie
 

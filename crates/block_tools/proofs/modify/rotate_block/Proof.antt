@@ -8,7 +8,7 @@ use lib.Seq.{lt-length-set}
 use mir.Syntax.{w32}
 use mir.Val.{SFits}
 use Rattle.integers.proofs.MachineLaws.{round-trip}
-use Rattle.block_tools.proofs.ModificationLaws.{Turned, turned-none, turned-more, turned-all}
+use Rattle.block_tools.proofs.RotationLaws.{Turned, turned-none, turned-more, turned-all}
 use Rattle.block_tools.proofs.modify.rotate_block.Statement.{statement}
 use Rattle.block_tools.proofs.modify.rotate_block.Tie as tie
 

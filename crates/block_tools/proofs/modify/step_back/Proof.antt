@@ -8,7 +8,7 @@ use borrow.Author.Tests.{lt-ltb, le-ltb, ne-eqb}
 use lib.Dec.{eqb}
 use Rattle.h265.proofs.RangeLaws.{size-bound}
 use Rattle.block_tools.specs.Work.{stepBack}
-use Rattle.block_tools.proofs.ModificationLaws.{column-mask}
+use Rattle.block_tools.proofs.AccumulationLaws.{column-mask}
 use Rattle.block_tools.proofs.modify.step_back.Statement.{statement}
 use Rattle.block_tools.proofs.modify.step_back.Tie as tie
 
