@@ -1,7 +1,7 @@
 -- `block_tools::modify::modify_block` meets its contract: the block is rotated where it is to be, and its sums are those of what then stands there.
 use mathlib.Core.Path.{_≡_, sym, ap, _∙_}
 use mathlib.Core.Logic.{⊎-elim}
-use Prim.Native.Nat.{ℕ, _*_, _≤_}
+use Prim.Native.Nat.{ℕ, _*_}
 use native.Mathlib.Omega.{arith}
 use lib.ListN.{length}
 use Rattle.integers.specs.Lists.{overwrite}

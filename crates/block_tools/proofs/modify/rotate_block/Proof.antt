@@ -1,5 +1,5 @@
 -- `block_tools::modify::rotate_block` meets its contract. The loop's invariant: the first i and the last i of 16 elements are exchanged, and the others are as lent.
-use mathlib.Core.Path.{_≡_, subst}
+use mathlib.Core.Path.{subst}
 use Prim.Native.Nat.{ℕ, _-_, _≤_}
 use native.Mathlib.Omega.{arith}
 use lib.IntN.{pos}

@@ -1,5 +1,5 @@
 -- `block_tools::modify::step_back` meets its contract: each arm is the definition's clause, and its test the clause's.
-use mathlib.Core.Path.{_≡_, sym, ap, _∙_}
+use mathlib.Core.Path.{sym, ap, _∙_}
 use mathlib.Core.Bool.{cond}
 use Prim.Native.Nat.{ℕ, _%_}
 use native.Mathlib.Omega.{arith}
