@@ -15,7 +15,6 @@ use Rattle.h265.specs.Range.{transformRange, outsideRange, coeffMin, coeffMax}
 use Rattle.h265.specs.TransformSkip.{tsResidual}
 use Rattle.refusal.specs.Condition.{sizeRefused, depthRefused, rotationRefused, blockRefused}
 use Rattle.coefficients.specs.Outside.{outsideAt, firstOutside, outsideRefusal, refusalAt}
-use Rattle.block_tools.specs.declared.Accumulate.{Accumulate}
 use Rattle.block_tools.specs.declared.Accumulate.the-variants.{Off, AlongRows, DownColumns}
 use Rattle.block_tools.specs.Modification.{rotatedIndex, rotated, accumulatedRow, accumulatedColumn, modified}
 use Rattle.block_tools.specs.Residual.{Written, bypassResidualAt, bypassLadder, bypassResidual}

@@ -1,4 +1,6 @@
 pub mod Examples
+pub mod AccumulationLaws
+pub mod RotationLaws
 pub mod ModificationLaws
 pub mod SkipLaws
 pub mod ResidualLaws

@@ -1,5 +1,5 @@
 -- Laws of calls, refused or not.
---   plain-skip                          without rotation and accumulation a transform skip is the one without the block tools
+--   plain-skip, plain-bypass            without rotation and accumulation: transform skip as it is without the block tools, and the levels
 --   skip-named, skip-refused            a transform skip that is refused, with 25 or as without the block tools
 --   Skipped, skip-done                  what is known of one that is done
 --   skip-block, skip-modified           its block can be modified, and is then what the definition says
@@ -13,7 +13,7 @@ use native.Mathlib.Nat.{div-add-mod', mod-lt}
 use native.Mathlib.Omega.{arith}
 use borrow.Author.Tests.{ltb-false}
 use lib.Dec.{T, ltb}
-use lib.IntN.{ℤ, pos}
+use lib.IntN.{ℤ}
 use lib.ListN.{length}
 use lib.Pow.{pow-mono}
 use Rattle.integers.specs.Lists.{overwrite}
@@ -42,7 +42,8 @@ use Rattle.block_tools.specs.declared.Accumulate.the-variants.{Off}
 use Rattle.block_tools.specs.Modification.{rotated, accumulated, modified}
 use Rattle.block_tools.specs.Residual.{Written, Writes, left, wrote, skipResidualAt, skipResidual, bypassResidualAt, bypassLadder, bypassResidual}
 use Rattle.block_tools.specs.Work.{rotationNamed, at, Block}
-use Rattle.block_tools.proofs.ModificationLaws.{quotient-lt, overwritten-summable, modified-twice}
+use Rattle.block_tools.proofs.AccumulationLaws.{quotient-lt}
+use Rattle.block_tools.proofs.ModificationLaws.{overwritten-summable, modified-twice}
 use Rattle.block_tools.proofs.SkipLaws.{skippedAt-within}
 
 -- ---- row 25 in a ladder
@@ -151,6 +152,10 @@ not-named false false = refl
 pub plain-skip : (list : ScalingList) (n : ℕ) (q : ℤ) (b : ℕ) (x : Bool) (levels out : List ℤ) → skipResidual Off false list n q b x levels out ≡ transformSkipped bits32 list n q b x levels out
 unfolding transformSkipped blockWritten skipResidualAt modified rotated skippedAt rotationNamed rotationRefused
 plain-skip list n q b x levels out = skip-passed Off false list n q b x levels out (not-named (sizeRefused n) (depthRefused b))
+
+pub plain-bypass : (n : ℕ) (levels : List ℤ) (i : ℕ) → bypassResidualAt Off false n levels i ≡ at levels i
+unfolding bypassResidualAt modified rotated
+plain-bypass n levels i = refl
 
 -- ---- the bypass
 abbrev bypassRungs : Bool → ℕ → ℕ → Bool → List ℤ → ℕ → List Rung

@@ -1,9 +1,9 @@
 -- What the functions below the refusals rely on and say.
---   stepBack a n i     how far before sample i the one stands that is added to it; 0 where there is none
---   at xs              a list as a block
---   Summable k xs      the first k elements are at most 2^22 in size, so that 32 bits hold the sum of 32 of them
+--   stepBack a n i       how far before sample i the one stands that is added to it; 0 where there is none
+--   at xs                a list as a block
+--   Summable k xs        the first k elements are at most 2^22 in size, so that 32 bits hold the sum of 32 of them
+--   Block t n xs         a whole block of such elements, of a size that is rotated or not
 --   rotationNamed t n b  row 25 applies, and neither row 1 nor row 2 comes before it
---   Block t n xs       a whole block of such elements, of a size that is rotated or not
 use mathlib.Core.Path.{_≡_}
 use mathlib.Core.Bool.{Bool, false, not, _&&_, cond}
 use mathlib.Core.List.{List}

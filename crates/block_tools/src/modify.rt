@@ -1,6 +1,6 @@
 // Rotation and accumulation of a block where it stands.
 ghost use mathlib.Core.Path.{_≡_};
-ghost use mathlib.Core.Bool.{true, false};
+ghost use mathlib.Core.Bool.{true};
 ghost use Prim.Native.Nat.{_*_, _≤_};
 ghost use lib.Dec.{T};
 ghost use lib.ListN.{length};

@@ -1,5 +1,4 @@
 // Transform skip with rotation and accumulation: residuals as without them, and then the block tools where they stand.
-ghost use mathlib.Core.Path.{_≡_};
 ghost use Rattle.h265.specs.ScalingFactor.ScalingList.{flat, listed};
 ghost use Rattle.block_tools.specs.Residual.{skipResidual, Writes};
 use crate::Accumulate;

@@ -1,5 +1,5 @@
 -- `block_tools::bypass::bypass_residual` meets its contract: refused where its ladder is, else the levels are copied and modified where they stand.
-use mathlib.Core.Path.{_≡_, sym, ap, _∙_}
+use mathlib.Core.Path.{sym, ap, _∙_}
 use native.Mathlib.Omega.{arith}
 use borrow.Author.Needs.{needs}
 use Rattle.h265.proofs.RangeLaws.{size-square}

@@ -1,5 +1,4 @@
 -- `block_tools::bypass::copy_levels` meets its contract. The loop's invariant: the first i places hold their levels, and the others are as lent.
-use mathlib.Core.Path.{_≡_, _∙_}
 use Prim.Native.Nat.{_-_, _≤_}
 use native.Mathlib.Omega.{arith}
 use borrow.Author.Needs.{needs}

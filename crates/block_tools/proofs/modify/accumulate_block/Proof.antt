@@ -14,7 +14,7 @@ use Rattle.integers.proofs.ListsLaws.{Stored, stored-none, stored-more, stored-
 use Rattle.h265.proofs.RangeLaws.{size-bound, size-square}
 use Rattle.block_tools.specs.Modification.{accumulated}
 use Rattle.block_tools.specs.Work.{at}
-use Rattle.block_tools.proofs.ModificationLaws.{Follows, accumulated-first, accumulated-later, accumulated-within, stored-kept, stored-done, stored-rest}
+use Rattle.block_tools.proofs.AccumulationLaws.{Follows, accumulated-first, accumulated-later, accumulated-within, stored-kept, stored-done, stored-rest}
 use Rattle.block_tools.proofs.modify.accumulate_block.Statement.{statement}
 use Rattle.block_tools.proofs.modify.accumulate_block.Tie as tie
 

@@ -1,7 +1,7 @@
 -- `block_tools::modify::modify_block` meets its contract: the block is rotated where it is to be, and its sums are those of what then stands there.
 use mathlib.Core.Path.{_≡_, sym, ap, _∙_}
 use mathlib.Core.Logic.{⊎-elim}
-use Prim.Native.Nat.{ℕ, _*_, _≤_}
+use Prim.Native.Nat.{ℕ, _*_}
 use native.Mathlib.Omega.{arith}
 use lib.ListN.{length}
 use Rattle.integers.specs.Lists.{overwrite}
@@ -10,7 +10,9 @@ use Rattle.refusal.specs.Condition.{rotationRefused}
 use Rattle.refusal.proofs.ConditionLaws.{rotation-accepted}
 use Rattle.block_tools.specs.Modification.{rotated, accumulated}
 use Rattle.block_tools.specs.Work.{at}
-use Rattle.block_tools.proofs.ModificationLaws.{accumulated-cong, rotated-within, overwritten-summable, overwritten-twice, rotates, rotates-not}
+use Rattle.block_tools.proofs.AccumulationLaws.{accumulated-cong}
+use Rattle.block_tools.proofs.ModificationLaws.{overwritten-summable, overwritten-twice}
+use Rattle.block_tools.proofs.RotationLaws.{rotated-within, rotates, rotates-not}
 use Rattle.block_tools.proofs.modify.modify_block.Statement.{statement}
 use Rattle.block_tools.proofs.modify.modify_block.Tie as tie
 

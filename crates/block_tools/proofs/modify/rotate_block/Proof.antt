@@ -1,5 +1,5 @@
 -- `block_tools::modify::rotate_block` meets its contract. The loop's invariant: the first i and the last i of 16 elements are exchanged, and the others are as lent.
-use mathlib.Core.Path.{_≡_, subst}
+use mathlib.Core.Path.{subst}
 use Prim.Native.Nat.{ℕ, _-_, _≤_}
 use native.Mathlib.Omega.{arith}
 use lib.IntN.{pos}
@@ -8,7 +8,7 @@ use lib.Seq.{lt-length-set}
 use mir.Syntax.{w32}
 use mir.Val.{SFits}
 use Rattle.integers.proofs.MachineLaws.{round-trip}
-use Rattle.block_tools.proofs.ModificationLaws.{Turned, turned-none, turned-more, turned-all}
+use Rattle.block_tools.proofs.RotationLaws.{Turned, turned-none, turned-more, turned-all}
 use Rattle.block_tools.proofs.modify.rotate_block.Statement.{statement}
 use Rattle.block_tools.proofs.modify.rotate_block.Tie as tie
 

@@ -1,5 +1,5 @@
 -- `block_tools::modify::step_back` meets its contract: each arm is the definition's clause, and its test the clause's.
-use mathlib.Core.Path.{_≡_, sym, ap, _∙_}
+use mathlib.Core.Path.{sym, ap, _∙_}
 use mathlib.Core.Bool.{cond}
 use Prim.Native.Nat.{ℕ, _%_}
 use native.Mathlib.Omega.{arith}
@@ -8,7 +8,7 @@ use borrow.Author.Tests.{lt-ltb, le-ltb, ne-eqb}
 use lib.Dec.{eqb}
 use Rattle.h265.proofs.RangeLaws.{size-bound}
 use Rattle.block_tools.specs.Work.{stepBack}
-use Rattle.block_tools.proofs.ModificationLaws.{column-mask}
+use Rattle.block_tools.proofs.AccumulationLaws.{column-mask}
 use Rattle.block_tools.proofs.modify.step_back.Statement.{statement}
 use Rattle.block_tools.proofs.modify.step_back.Tie as tie
 

@@ -1,6 +1,5 @@
 -- `block_tools::refuse::rotation_named` meets its contract: the tests are the definition's, in its order.
-use mathlib.Core.Path.{_≡_, sym, _∙_}
-use mathlib.Core.Bool.{not, _&&_}
+use mathlib.Core.Path.{sym, _∙_}
 use borrow.Author.Needs.{needs}
 use Rattle.block_tools.specs.Work.{rotationNamed}
 use Rattle.block_tools.proofs.refuse.rotation_named.Statement.{statement}
