@@ -38,6 +38,10 @@ fn put_answer(answer: Answer) {
     io::write_all(STDOUT_FILENO, b";");
 }
 
+fn wide(n: u32) -> u64 {
+    n as u64
+}
+
 // The first eighteen elements, and the sum of the sizes of all.
 fn put_levels(levels: &[i32]) {
     let mut sum: u32 = 0;
@@ -50,7 +54,7 @@ fn put_levels(levels: &[i32]) {
         i += 1;
     }
     io::write_all(STDOUT_FILENO, b";");
-    put(sum as u64);
+    put(wide(sum));
     io::write_all(STDOUT_FILENO, b"\n");
 }
 

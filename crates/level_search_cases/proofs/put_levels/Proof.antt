@@ -1,90 +1,70 @@
+-- `level_search_cases::put_levels` meets its contract, which says nothing: every place that the loop reads lies in the slice.
+use Prim.Native.Nat.{_-_, _≤_}
+use native.Mathlib.Omega.{arith}
+use borrow.Author.Needs.{needs}
+use lib.ListN.{length}
 use Rattle.level_search_cases.proofs.put_levels.Statement.{statement}
 use Rattle.level_search_cases.proofs.put_levels.Tie as tie
-use Rattle.level_search_cases.proofs.put_levels.Reads as reads
-use Rattle.level_search_cases.proofs.put_levels.Lts as lts
-use Rattle.integers.proofs.magnitude.Reads as magnitude-reads
-use Rattle.io.proofs.write_all.Reads as write-all-reads
-use Rattle.level_search_cases.proofs.put.Reads as put-reads
-use Rattle.level_search_cases.proofs.put_signed.Reads as put-signed-reads
-use Rattle.std.proofs.num.wrapping_add_u32.Reads as wrapping-add-u32-reads
 
 abbrev Inv-loop : tie.InvT-loop
-Inv-loop levels sum₀ i₀ t4 t5 sum i = ?
+Inv-loop levels sum₀ i₀ t4 t5 sum i = i ≤ length levels
 
 abbrev μ-loop : tie.MeasureT-loop
-μ-loop levels sum₀ i₀ t4 t5 sum i = ?
+μ-loop levels sum₀ i₀ t4 t5 sum i = length levels - i
 
--- src/main.rt:45:5
 loop-holds : tie.Need-loop-holds Inv-loop μ-loop
-loop-holds c = ?
+loop-holds c = omega arith
 
--- src/main.rt:47:24
 mul-put-signed : tie.Need-mul-put-signed Inv-loop μ-loop
-mul-put-signed c = ?
+mul-put-signed c = search needs
 
--- src/main.rt:47:24
 shared-slice-copy-out-put-signed : tie.Need-shared-slice-copy-out-put-signed Inv-loop μ-loop
-shared-slice-copy-out-put-signed c = ?
+shared-slice-copy-out-put-signed c = omega arith
 
--- src/main.rt:47:13
 put-signed-requires : tie.Need-put-signed-requires Inv-loop μ-loop
-put-signed-requires c κs = ?
+put-signed-requires c κs = search needs
 
--- src/main.rt:49:67
 mul-magnitude : tie.Need-mul-magnitude Inv-loop μ-loop
-mul-magnitude c = ?
+mul-magnitude c = search needs
 
--- src/main.rt:49:67
 shared-slice-copy-out-magnitude : tie.Need-shared-slice-copy-out-magnitude Inv-loop μ-loop
-shared-slice-copy-out-magnitude c = ?
+shared-slice-copy-out-magnitude c = omega arith
 
--- src/main.rt:49:47
 magnitude-requires : tie.Need-magnitude-requires Inv-loop μ-loop
-magnitude-requires c κs = ?
+magnitude-requires c κs = search needs
 
--- src/main.rt:49:9
 wrapping-add-u32-requires : tie.Need-wrapping-add-u32-requires Inv-loop μ-loop
-wrapping-add-u32-requires c κs = ?
+wrapping-add-u32-requires c κs = search needs
 
--- src/main.rt:50:9
 add-i : tie.Need-add-i Inv-loop μ-loop
-add-i c = ?
+add-i c = omega arith
 
--- src/main.rt:45:5
 loop-less : tie.Need-loop-less Inv-loop μ-loop
-loop-less c = ?
+loop-less c = omega arith
 
--- src/main.rt:45:5
 loop-again : tie.Need-loop-again Inv-loop μ-loop
-loop-again c = ?
+loop-again c = omega arith
 
--- src/main.rt:52:34
 slice-aggregate-write-all : tie.Need-slice-aggregate-write-all Inv-loop μ-loop
-slice-aggregate-write-all c = ?
+slice-aggregate-write-all c = search needs
 
--- src/main.rt:52:5
 write-all-requires : tie.Need-write-all-requires Inv-loop μ-loop
-write-all-requires c κs = ?
+write-all-requires c κs = search needs
 
--- src/main.rt:53:9
-cast-put : tie.Need-cast-put Inv-loop μ-loop
-cast-put c = ?
+wide-requires : tie.Need-wide-requires Inv-loop μ-loop
+wide-requires c κs = search needs
 
--- src/main.rt:53:5
 put-requires : tie.Need-put-requires Inv-loop μ-loop
-put-requires c κs = ?
+put-requires c κs = search needs
 
--- src/main.rt:54:34
 slice-aggregate-write-all-2 : tie.Need-slice-aggregate-write-all-2 Inv-loop μ-loop
-slice-aggregate-write-all-2 c = ?
+slice-aggregate-write-all-2 c = search needs
 
--- src/main.rt:54:5
 write-all-requires-2 : tie.Need-write-all-requires-2 Inv-loop μ-loop
-write-all-requires-2 c κs = ?
+write-all-requires-2 c κs = search needs
 
--- src/main.rt:42:1
 returns : tie.Need-returns Inv-loop μ-loop
-returns c = ?
+returns c = search needs
 
 pub put-levels-spec : {M : Type 1} → statement M
 put-levels-spec =
@@ -105,7 +85,7 @@ put-levels-spec =
     loop-again
     slice-aggregate-write-all
     write-all-requires
-    cast-put
+    wide-requires
     put-requires
     slice-aggregate-write-all-2
     write-all-requires-2
