@@ -113,7 +113,7 @@ module _ (f : ℤ → ℤ) (r : ℕ) (x : ℤ) where
 
       by-sign : (t : Bool) → gives f r x (pos (leastSize f r x)) ≡ t
           → LeastLevel f r x (cond t (pos (leastSize f r x)) (negℤ (pos (leastSize f r x))))
-      by-sign true d = record { gives = gives-sound (pos (leastSize f r x)) d; least = leastSize-bound }
+      by-sign true d = record { gives = gives-sound (pos (leastSize f r x)) d; least = λ w g. omega (arith, leastSize-bound w g) }
       by-sign false d =
           record {
             gives = gives-sound (negℤ (pos (leastSize f r x))) (rw d at found);

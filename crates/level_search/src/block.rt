@@ -80,7 +80,9 @@ fn missing_at(n: usize, index: usize) -> Refusal
     requires { ⌜ index < n * n ⌝ }
     ensures { λ r. ⌜ r ≡ LevelMissing (index / n) (index % n) ⌝ }
 {
-    Refusal::LevelMissing((index / n) as u8, (index % n) as u8)
+    let row = (index / n) as u8;
+    let column = (index % n) as u8;
+    Refusal::LevelMissing(row, column)
 }
 
 // The levels of a block, or row 11.

@@ -55,5 +55,14 @@ pub fn find_levels(
     ensures { λ r. ⌜ Writes r (now (levels .exit)) (levelsFound flat n («qp_prime» .0) «bit_depth» «extended_precision» (now (coeff .entry)) (now (levels .entry))) ⌝ }
 {
     let sixteens = [16u8; 64];
-    find_levels_scaled(coeff, n, qp_prime, bit_depth, extended_precision, &sixteens, 16, levels)
+    find_levels_scaled(
+        coeff,
+        n,
+        qp_prime,
+        bit_depth,
+        extended_precision,
+        &sixteens,
+        16,
+        levels,
+    )
 }

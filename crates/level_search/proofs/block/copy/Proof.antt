@@ -10,8 +10,6 @@ use Rattle.integers.proofs.MachineLaws.{round-trip}
 use Rattle.integers.proofs.ListsLaws.{Stored, stored-none, stored-more, stored-length, stored-all}
 use Rattle.level_search.proofs.block.copy.Statement.{statement}
 use Rattle.level_search.proofs.block.copy.Tie as tie
-use Rattle.level_search.proofs.block.copy.Reads as reads
-use Rattle.level_search.proofs.block.copy.Lts as lts
 
 abbrev Inv-loop : tie.InvT-loop
 Inv-loop found count levels₀ i₀ levels i = Stored (λ k. getD found k (pos 0)) levels₀ i levels × (i ≤ count)

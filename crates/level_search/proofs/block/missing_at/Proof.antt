@@ -6,20 +6,20 @@ use Rattle.level_search.proofs.BlockLaws.{row-fits, column-fits}
 use Rattle.level_search.proofs.block.missing_at.Statement.{statement}
 use Rattle.level_search.proofs.block.missing_at.Tie as tie
 
-div-t3 : tie.Need-div-t3
-div-t3 c = omega (arith, size-bound (c .args .n) (c .pre .0))
+div-row : tie.Need-div-row
+div-row c = omega (arith, size-bound (c .args .n) (c .pre .0))
 
-cast-t4 : tie.Need-cast-t4
-cast-t4 c = omega (arith, row-fits (c .args .n) (c .args .index) (c .pre .0) (c .pre .1))
+cast-row : tie.Need-cast-row
+cast-row c = omega (arith, row-fits (c .args .n) (c .args .index) (c .pre .0) (c .pre .1))
 
-rem-t5 : tie.Need-rem-t5
-rem-t5 c = omega (arith, size-bound (c .args .n) (c .pre .0))
+rem-column : tie.Need-rem-column
+rem-column c = omega (arith, size-bound (c .args .n) (c .pre .0))
 
-cast-t6 : tie.Need-cast-t6
-cast-t6 c = omega (arith, column-fits (c .args .n) (c .args .index) (c .pre .0))
+cast-column : tie.Need-cast-column
+cast-column c = omega (arith, column-fits (c .args .n) (c .args .index) (c .pre .0))
 
 returns : tie.Need-returns
 returns c = search needs
 
 pub missing-at-spec : {M : Type 1} → statement M
-missing-at-spec = tie.close (tie.spec div-t3 cast-t4 rem-t5 cast-t6 returns)
+missing-at-spec = tie.close (tie.spec div-row cast-row rem-column cast-column returns)

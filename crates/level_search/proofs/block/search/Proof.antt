@@ -16,11 +16,6 @@ use Rattle.h265.proofs.RangeLaws.{size-square}
 use Rattle.level_search.specs.Work.{factorAt, nearestAt, missesAt, firstMiss}
 use Rattle.level_search.proofs.block.search.Statement.{statement}
 use Rattle.level_search.proofs.block.search.Tie as tie
-use Rattle.level_search.proofs.block.search.Reads as reads
-use Rattle.level_search.proofs.block.search.Lts as lts
-use Rattle.level_search.proofs.block.factor_at.Reads as factor-at-reads
-use Rattle.level_search.proofs.nearest.nearest.Reads as nearest-reads
-use Rattle.level_search.proofs.nearest.scales_to.Reads as scales-to-reads
 
 abbrev Inv-loop : tie.InvT-loop
 Inv-loop coeff n by list dc found₀ count i₀ found i =
@@ -105,9 +100,12 @@ loop-less c = omega arith
 loop-again : tie.Need-loop-again Inv-loop μ-loop
 loop-again c =
     let l = c .before .before .before .before .before .before .before in
-    let s = l .before .before in
-    (omega arith, l .loop .inv .1, none-suc (l .loop .inv .2) (sym (miss-is (c .before)) ∙ c .if1 .left),
-      stored-more (l .loop .inv .3) (omega (arith, size-square (s .args .n) (s .pre .1 .0 .size), s .pre .1 .1 .1)) (round-trip (sfits-of (c .before .before .before .nearest .ok)) ∙ level-is (c .before .before .before)))
+    let s = l .before .before in (
+      omega arith,
+      l .loop .inv .1,
+      none-suc (l .loop .inv .2) (sym (miss-is (c .before)) ∙ c .if1 .left),
+      stored-more (l .loop .inv .3) (omega (arith, size-square (s .args .n) (s .pre .1 .0 .size), s .pre .1 .1 .1)) (round-trip (sfits-of (c .before .before .before .nearest .ok)) ∙ level-is (c .before .before .before)),
+    )
 
 returns-2 : tie.Need-returns-2 Inv-loop μ-loop
 unfolding firstMiss

@@ -13,10 +13,6 @@ use Rattle.level_search.proofs.SideLaws.{reaches-below}
 use Rattle.level_search.proofs.NearestLaws.{sideEnd-bound, halved}
 use Rattle.level_search.proofs.nearest.nearest_size.Statement.{statement}
 use Rattle.level_search.proofs.nearest.nearest_size.Tie as tie
-use Rattle.level_search.proofs.nearest.nearest_size.Reads as reads
-use Rattle.level_search.proofs.nearest.nearest_size.Lts as lts
-use Rattle.level_search.proofs.nearest.reaches.Reads as reaches-reads
-use Rattle.level_search.proofs.nearest.side_end.Reads as side-end-reads
 
 abbrev Inv-loop : tie.InvT-loop
 Inv-loop x m by low₀ high₀ low high =
@@ -61,10 +57,12 @@ loop-less-2 c = omega arith
 loop-again-2 : tie.Need-loop-again-2 Inv-loop μ-loop
 loop-again-2 c =
     let l = c .before .before .before in
-    let s = l .before .before in
-    (omega arith, l .loop .inv .1,
+    let s = l .before .before in (
+      omega arith,
+      l .loop .inv .1,
       record { at = λ i h. reaches-below (listedLevel (s .args .by) (s .args .m)) (s .pre .scales (s .args .m)) _ i _ (omega arith) (sym (c .before .reaches .ensures) ∙ c .if1 .left) },
-      l .loop .inv .3)
+      l .loop .inv .3,
+    )
 
 returns : tie.Need-returns Inv-loop μ-loop
 unfolding nearestSize
