@@ -20,7 +20,7 @@ same-length c = search needs
 returns : tie.Need-returns
 returns c =
     writes-by (c .answered .ensures)
-    (rw (round-trip (c .before .before .before .before .before .before .fits .qp-prime), c .before .before .before .before .before .accumulate-of .ensures) at (c .before .before .transform-skip-scaled-residual .ensures))
+    (rw (round-trip (c .before .before .before .before .before .before .fits .qp-prime), c .before .before .before .before .accumulate-of .ensures) at (c .before .before .transform-skip-scaled-residual .ensures))
 
 pub residual-transform-skip-scaled-residual-spec : {M : Type 1} → statement M
 residual-transform-skip-scaled-residual-spec =
