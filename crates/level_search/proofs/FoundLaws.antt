@@ -1,5 +1,7 @@
 -- Laws of a call: what the functions below the refusals leave is what the definition says.
 --   dequantOf-invertible   the numbers of every block can be searched
+--   scalingAt-scales       scaling at an index keeps the order and takes 0 to 0
+--   ready-invertible       the numbers of a call that is not refused
 --   levels-found           what was written below the refusals is what the definition says
 --   levels-refused         a call whose numbers are refused hands back that refusal and the buffer as lent
 --   levelsFound-flat       a block without a list is one with a list of sixteens
@@ -69,6 +71,12 @@ unfolding dequantOf
 dequantOf-ranged l q b x = record { least = refl; most = refl }
 
 -- ---- one index
+pub scalingAt-scales : (list : ScalingList) (n : ℕ) (q : ℤ) (b : ℕ) (x : Bool) → KnownSize (log2Size n) b → (i : ℕ) → Scales (scalingAt list n b x q i)
+unfolding scalingAt
+scalingAt-scales list n q b x k i =
+    let r : ℕ = transformRange b x in
+    scaleLevel-scales r (bdShift b (log2Size n) r) (natAbs (clipQpPrime b q)) (scalingFactor list n i) (shift-least (log2Size n) b x k)
+
 module _ (list : ScalingList) (n : ℕ) (q : ℤ) (b : ℕ) (x : Bool) (k : KnownSize (log2Size n) b) (coeff : List ℤ) where
   abbrev numbers : DequantParams
   numbers = dequantOf (log2Size n) q b x

@@ -1,4 +1,5 @@
--- What a search for levels hands back, beside scaling.
+-- What a search for levels hands back, beside scaling: the statements of specs/Inverse.antt.
+--   least-level-is-unique              two levels of least size that give one coefficient are equal
 --   refuses-where-a-level-is-missing   past the checks up to 7, a call refuses exactly where some coefficient has no level
 --   levels-scale-back                  the block that is scaled from the levels found is the block that was given
 use mathlib.Core.Path.{_≡_, refl, sym, ap, _∙_}
@@ -8,33 +9,39 @@ use mathlib.Core.List.{List, [], _∷_}
 use Prim.Native.Nat.{ℕ, _*_, _/_, _%_, _≤_, _<_}
 use native.Mathlib.Omega.{arith}
 use borrow.Author.Tests.{ltb-true, ltb-false, lt-ltb}
-use lib.Dec.{ltb}
+use lib.Dec.{T, ltb}
 use lib.IntN.{ℤ, pos}
 use lib.ListN.{length, getD}
 use lib.Seq.{ext-getD}
 use Rattle.integers.specs.Lists.{overwrite}
 use Rattle.integers.proofs.ListsLaws.{overwrite-length, overwrite-getD, overwrite-getD-past}
 use Rattle.integers.proofs.SearchLaws.{First, firstWhere-first}
-use Rattle.h265.specs.Range.{transformRange}
+use Rattle.h265.specs.Range.{isSize, log2Size, transformRange}
+use Rattle.h265.proofs.RangeLaws.{log2Size-bound}
 use Rattle.h265.specs.Scaling.{scaledAt}
 use Rattle.h265.specs.ScalingFactor.{ScalingList}
 use Rattle.refusal.specs.declared.Refusal.{Refusal}
 use Rattle.refusal.specs.declared.Refusal.the-variants.{LevelMissing}
 use Rattle.refusal.specs.Condition.{blockRefused}
+use Rattle.refusal.specs.Refusal.{number}
 use Rattle.refusal.specs.Written.{Written, left, wrote}
 use Rattle.refusal.proofs.RefusalLaws.{number-least}
 use Rattle.refusal.proofs.LadderLaws.{Rung, Passed, first, first-passed}
 use Rattle.refusal.proofs.LadderLaws.Rung.{rung}
+use Rattle.parameters.specs.Parameters.{KnownSize}
 use Rattle.scaling_blocks.specs.Blocks.{bits32, entriesOf, blockLadder, blockWritten, dequantized}
 use Rattle.scaling_blocks.proofs.BlockLaws.{rungs}
 use Rattle.level_search.specs.Found.{scalingAt, missingAt, firstMissing, leastAt, blockFound, levelsFound, Missing}
-use Rattle.level_search.proofs.LevelLaws.{clash, missing-none, missing-all, leastLevel-found}
+use Rattle.level_search.specs.Inverse.{checked, LeastLevelIsUnique, RefusesWhereALevelIsMissing, LevelsScaleBack}
+use Rattle.level_search.proofs.LevelLaws.{clash, missing-none, missing-all, leastLevel-found, leastLevel-unique}
+use Rattle.level_search.proofs.FoundLaws.{scalingAt-scales}
 
--- a ladder that wrote has passed every rung
-first-wrote : (out after : List ℤ) (done : Written) (rs : List Rung) → first (left out) done rs ≡ wrote after → Passed rs × (done ≡ wrote after)
-first-wrote out after done [] h = (tt, h)
-first-wrote out after done (rung true e ∷ rs) h = absurd (omega (arith, number-least e, ap (λ (w : Written). w .answer .number) h))
-first-wrote out after done (rung false e ∷ rs) h = let r = first-wrote out after done rs h in ((refl, r .0), r .1)
+-- a ladder whose number is 0 has passed every rung
+first-zero : {A : Type 0} (stop : Refusal → A) (done : A) (n : A → ℕ) → ((e : Refusal) → 1 ≤ n (stop e))
+    → (rs : List Rung) → n (first stop done rs) ≡ 0 → Passed rs
+first-zero stop done n l [] h = tt
+first-zero stop done n l (rung true e ∷ rs) h = absurd (omega (arith, l e, h))
+first-zero stop done n l (rung false e ∷ rs) h = (refl, first-zero stop done n l rs h)
 
 overwrite-same : (k : ℕ) (f : ℕ → ℤ) (xs : List ℤ) → k ≤ length xs → ((i : ℕ) → i < k → f i ≡ getD xs i (pos 0)) → overwrite k f xs ≡ xs
 overwrite-same k f xs h e = ext-getD (pos 0) (overwrite k f xs) xs (overwrite-length k f xs h) (λ i l. by-place i (ltb i k) refl)
@@ -54,15 +61,13 @@ module _ (n first : ℕ) (at : ℕ → ℤ) (out : List ℤ) where
   found-number true e = rw e
   found-number false e = rw e
 
-  found-wrote : (after : List ℤ) → blockFound n first at out ≡ wrote after → (n * n ≤ first) × (after ≡ overwrite (n * n) at out)
+  found-wrote : blockFound n first at out .answer .number ≡ 0 → (n * n ≤ first) × (blockFound n first at out .out ≡ overwrite (n * n) at out)
   unfolding blockFound
-  found-wrote after = by-test (ltb first (n * n)) refl
+  found-wrote h = by-test (ltb first (n * n)) refl
     where
-      by-test : (t : Bool) → ltb first (n * n) ≡ t
-          → cond t (left out (LevelMissing (first / n) (first % n))) (wrote (overwrite (n * n) at out)) ≡ wrote after
-          → (n * n ≤ first) × (after ≡ overwrite (n * n) at out)
-      by-test true e h = absurd (let z : 11 ≡ 0 = ap (λ (w : Written). w .answer .number) h in let y : ⊥ = omega arith in y)
-      by-test false e h = (ltb-false first (n * n) e, sym (ap (λ (w : Written). w .out) h))
+      by-test : (t : Bool) → ltb first (n * n) ≡ t → (n * n ≤ first) × (blockFound n first at out .out ≡ overwrite (n * n) at out)
+      by-test true e = absurd (let y : ⊥ = omega (arith, h, found-number true e) in y)
+      by-test false e = (ltb-false first (n * n) e, rw e)
 
 module _ (list : ScalingList) (n : ℕ) (q : ℤ) (b : ℕ) (x : Bool) (coeff out : List ℤ) where
   abbrev checks : List Rung
@@ -96,8 +101,8 @@ module _ (list : ScalingList) (n : ℕ) (q : ℤ) (b : ℕ) (x : Bool) (coeff ou
   unfolding levelsFound blockLadder
   past p = first-passed (left out) _ checks p
 
-  pub refuses-where-a-level-is-missing : Passed checks → (levelsFound list n q b x coeff out .answer .number ≡ 0 → ⊥) ↔ Missing list n b x q coeff
-  refuses-where-a-level-is-missing p = (to (ltb k (n * n)) refl, from)
+  refuses : Passed checks → (levelsFound list n q b x coeff out .answer .number ≡ 0 → ⊥) ↔ Missing list n b x q coeff
+  refuses p = (to (ltb k (n * n)) refl, from)
     where
       k : ℕ
       k = firstMissing list n b x q coeff
@@ -113,13 +118,19 @@ module _ (list : ScalingList) (n : ℕ) (q : ℤ) (b : ℕ) (x : Bool) (coeff ou
       from m h = omega (arith, h, number-is true (lt-ltb k (n * n) (index-missing m)))
 
   -- ---- scaling the levels that were found
-  module _ (after : List ℤ) (w : levelsFound list n q b x coeff out ≡ wrote after) where
-    passed : Passed checks × (blockFound n (firstMissing list n b x q coeff) (leastAt list n b x q coeff) out ≡ wrote after)
+  module _ (z : levelsFound list n q b x coeff out .answer .number ≡ 0) where
+    passed : Passed checks
     unfolding levelsFound blockLadder
-    passed = first-wrote out after _ checks w
+    passed = first-zero (left out) (blockFound n (firstMissing list n b x q coeff) (leastAt list n b x q coeff) out) (λ (w : Written). w .answer .number) number-least checks z
+
+    abbrev after : List ℤ
+    after = levelsFound list n q b x coeff out .out
 
     written : (n * n ≤ firstMissing list n b x q coeff) × (after ≡ overwrite (n * n) (leastAt list n b x q coeff) out)
-    written = found-wrote n (firstMissing list n b x q coeff) (leastAt list n b x q coeff) out after (passed .1)
+    written =
+        let e = past passed in
+        let w = found-wrote n (firstMissing list n b x q coeff) (leastAt list n b x q coeff) out (sym (ap (λ (w : Written). w .answer .number) e) ∙ z) in
+        (w .0, ap (λ (w : Written). w .out) e ∙ w .1)
 
     scales-at : (i : ℕ) → i < n * n → scalingAt list n b x q i (leastAt list n b x q coeff i) ≡ getD coeff i (pos 0)
     unfolding missingAt leastAt
@@ -134,12 +145,28 @@ module _ (list : ScalingList) (n : ℕ) (q : ℤ) (b : ℕ) (x : Bool) (coeff ou
 
     after-length : length after ≡ length out
     after-length =
-        ap length (written .1) ∙ overwrite-length (n * n) (leastAt list n b x q coeff) out (room n (length out) (passed .0 .1 .1 .1 .1 .1 .0))
+        ap length (written .1) ∙ overwrite-length (n * n) (leastAt list n b x q coeff) out (room n (length out) (passed .1 .1 .1 .1 .1 .0))
 
-    pub levels-scale-back : dequantized bits32 list n q b x after coeff ≡ wrote coeff
+    scale-back : dequantized bits32 list n q b x after coeff ≡ wrote coeff
     unfolding dequantized blockWritten blockLadder
-    levels-scale-back =
-        let p = passed .0 in
+    scale-back =
+        let p = passed in
         first-passed (left coeff) (wrote (overwrite (n * n) (scaledAt list n b x q after) coeff)) (rungs bits32 n b x (entriesOf list) (length after) (length coeff))
         (p .0, (p .1 .0, (p .1 .1 .0, (p .1 .1 .1 .0, (ap (blockRefused n) after-length ∙ p .1 .1 .1 .1 .1 .0, (p .1 .1 .1 .1 .0, tt))))))
         ∙ ap wrote (overwrite-same (n * n) (scaledAt list n b x q after) coeff (room n (length coeff) (p .1 .1 .1 .1 .0)) scaled-back)
+
+-- ---- the statements
+known-size : (n b : ℕ) → T (isSize n) → (8 ≤ b) × (b ≤ 16) → KnownSize (log2Size n) b
+known-size n b t d = let l = log2Size-bound n t in record { least = l .0; most = l .1; deep = d .0; shallow = d .1 }
+
+pub least-level-is-unique : LeastLevelIsUnique
+least-level-is-unique list n b x q i t d z v w l k =
+    leastLevel-unique (scalingAt list n b x q i) (transformRange b x) z (scalingAt-scales list n q b x (known-size n b t d) i) v w l k
+
+pub refuses-where-a-level-is-missing : RefusesWhereALevelIsMissing
+unfolding checked blockLadder
+refuses-where-a-level-is-missing list n q b x coeff out h =
+    refuses list n q b x coeff out (first-zero number 0 (λ (k : ℕ). k) number-least (rungs bits32 n b x (entriesOf list) (length coeff) (length out)) h)
+
+pub levels-scale-back : LevelsScaleBack
+levels-scale-back list n q b x coeff out z = scale-back list n q b x coeff out z

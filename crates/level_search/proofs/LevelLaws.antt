@@ -4,7 +4,7 @@
 --   gives-sound, gives-complete     the test of a level is what it stands for
 --   missing-none, missing-some      `levelMissing` says that no level of the range gives the coefficient, both ways
 --   leastLevel-found                where one does, `leastLevel` gives it and is of least size
---   least-level-is-unique           two levels of least size that give one coefficient are equal
+--   leastLevel-unique               two levels of least size that give one coefficient are equal
 --   leastLevel-eq                   so that a level which is one is `leastLevel`
 use mathlib.Core.Path.{_≡_, refl, sym, ap, subst, _∙_}
 use mathlib.Core.Bool.{Bool, true, false, not, _&&_, _||_, cond}
@@ -142,13 +142,13 @@ module _ (f : ℤ → ℤ) (r : ℕ) (x : ℤ) where
         let z = zero-between (negsuc b) (pos a) (le-out (negsuc b) (pos 0) (omega arith)) (le-out (pos 0) (pos a) (omega arith)) (k .gives .scales) (l .gives .scales) in
         omega (arith, k .least (pos 0) z)
 
-    pub least-level-is-unique : (v w : ℤ) → LeastLevel f r x v → LeastLevel f r x w → v ≡ w
-    least-level-is-unique (pos a) (pos b) l k =
+    pub leastLevel-unique : (v w : ℤ) → LeastLevel f r x v → LeastLevel f r x w → v ≡ w
+    leastLevel-unique (pos a) (pos b) l k =
         ap pos (omega (arith, l .least (pos b) (k .gives), k .least (pos a) (l .gives)))
-    least-level-is-unique (pos a) (negsuc b) l k = absurd (opposite a b l k)
-    least-level-is-unique (negsuc a) (pos b) l k = absurd (opposite b a k l)
-    least-level-is-unique (negsuc a) (negsuc b) l k =
+    leastLevel-unique (pos a) (negsuc b) l k = absurd (opposite a b l k)
+    leastLevel-unique (negsuc a) (pos b) l k = absurd (opposite b a k l)
+    leastLevel-unique (negsuc a) (negsuc b) l k =
         ap negsuc (omega (arith, l .least (negsuc b) (k .gives), k .least (negsuc a) (l .gives)))
 
     pub leastLevel-eq : (v : ℤ) → LeastLevel f r x v → leastLevel f r x ≡ v
-    leastLevel-eq v l = least-level-is-unique (leastLevel f r x) v (leastLevel-found (missing-some v (l .gives))) l
+    leastLevel-eq v l = leastLevel-unique (leastLevel f r x) v (leastLevel-found (missing-some v (l .gives))) l

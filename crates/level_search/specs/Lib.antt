@@ -1,3 +1,4 @@
 pub mod Level
 pub mod Found
 pub mod Work
+pub mod Inverse
