@@ -4,7 +4,7 @@
 --   block-missing, block-found    what a call hands back, by what the search left
 --   copied                        levels that were found and then copied
 --   firstMiss-bound               the search ends at n²
-use mathlib.Core.Path.{_≡_, refl, sym, ap, _∙_}
+use mathlib.Core.Path.{_≡_, refl, ap, _∙_}
 use mathlib.Core.Bool.{false}
 use mathlib.Core.List.{List}
 use Prim.Native.Nat.{ℕ, _*_, _/_, _%_, _≤_, _<_}

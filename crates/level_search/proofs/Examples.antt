@@ -4,7 +4,7 @@
 use mathlib.Core.Bool.{Bool, true, false, _&&_, cond}
 use mathlib.Core.List.{List, [], _∷_}
 use Prim.Native.Nat.{ℕ}
-use lib.Dec.{T, eqb}
+use lib.Dec.{T}
 use lib.IntN.{ℤ, pos, negsuc}
 use Rattle.integers.specs.Clip.{clip3}
 use Rattle.integers.specs.Search.{firstWhere}

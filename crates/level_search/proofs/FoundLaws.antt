@@ -4,7 +4,7 @@
 --   ready-invertible       the numbers of a call that is not refused
 --   levels-found           what was written below the refusals is what the definition says
 --   levels-refused         a call whose numbers are refused hands back that refusal and the buffer as lent
---   levelsFound-flat       a block without a list is one with a list of sixteens
+--   sixteens, levelsFound-flat   a block without a list is one with a list of sixteens
 use mathlib.Core.Path.{_≡_, refl, sym, ap, ap₂, subst, fun-ext, _∙_}
 use mathlib.Core.Bool.{Bool, true, false, not, cond}
 use mathlib.Core.List.{List}
@@ -16,7 +16,6 @@ use lib.Dec.{T, ltb}
 use lib.IntN.{ℤ, pos, natAbs}
 use lib.ListN.{length, getD, replicate, getD-replicate}
 use Rattle.integers.specs.Lists.{overwrite}
-use Rattle.integers.specs.Search.{firstWhere}
 use Rattle.integers.proofs.ListsLaws.{overwrite-cong}
 use Rattle.integers.proofs.SearchLaws.{firstWhere-first, firstWhere-cong}
 use Rattle.h265.specs.Range.{isSize, log2Size, transformRange}
@@ -30,7 +29,7 @@ use Rattle.refusal.specs.declared.Answer.the-variants.{Refused}
 use Rattle.refusal.specs.declared.Refusal.{Refusal}
 use Rattle.refusal.specs.declared.Refusal.the-variants.{LevelMissing}
 use Rattle.refusal.specs.Condition.{sizeRefused}
-use Rattle.refusal.specs.Outcome.{accepted, refused}
+use Rattle.refusal.specs.Outcome.{refused}
 use Rattle.refusal.specs.Written.{Written, Writes, left, wrote}
 use Rattle.refusal.proofs.ConditionLaws.{size-accepted}
 use Rattle.refusal.proofs.LadderLaws.{first-passed, first-refused, with-value}
@@ -44,7 +43,7 @@ use Rattle.scaling_blocks.specs.Blocks.{bits32, entriesOf, blockLadder, blockPa
 use Rattle.scaling_blocks.proofs.BlockLaws.{rungs, Ready}
 use Rattle.level_search.specs.Level.{LeastLevel, equal, levelMissing, leastLevel, Scales}
 use Rattle.level_search.specs.Found.{scalingAt, missingAt, firstMissing, leastAt, blockFound, levelsFound}
-use Rattle.level_search.specs.Work.{nearest, factorAt, nearestAt, missesAt, firstMiss, Invertible}
+use Rattle.level_search.specs.Work.{nearest, scalingBy, nearestAt, missesAt, firstMiss, Invertible}
 use Rattle.level_search.proofs.LevelLaws.{clash, equal-sound, equal-refl, zero-inside, missing-some, leastLevel-eq}
 use Rattle.level_search.proofs.ScalesLaws.{scaleLevel-scales, scales-cong}
 use Rattle.level_search.proofs.SideLaws.{Ranged, nearest-least, nearest-missing}
@@ -81,17 +80,17 @@ module _ (list : ScalingList) (n : ℕ) (q : ℤ) (b : ℕ) (x : Bool) (k : Know
   abbrev numbers : DequantParams
   numbers = dequantOf (log2Size n) q b x
 
-  scaling-is : (i : ℕ) → factorAt numbers list n i ≡ scalingAt list n b x q i
-  unfolding factorAt scalingAt
+  scaling-is : (i : ℕ) → scalingBy numbers list n i ≡ scalingAt list n b x q i
+  unfolding scalingBy scalingAt
   scaling-is i = fun-ext (λ v. listedLevel-eq (log2Size n) q b x (scalingFactor list n i) v)
 
-  scales-at : (i : ℕ) → Scales (factorAt numbers list n i)
-  unfolding factorAt
+  scales-at : (i : ℕ) → Scales (scalingBy numbers list n i)
+  unfolding scalingBy
   scales-at i = dequantOf-invertible (log2Size n) q b x k .scales (scalingFactor list n i)
 
   module _ (i : ℕ) where
     abbrev f : ℤ → ℤ
-    f = factorAt numbers list n i
+    f = scalingBy numbers list n i
 
     abbrev r : ℕ
     r = transformRange b x

@@ -6,7 +6,7 @@ use mathlib.Core.Path.{_≡_, refl, sym, ap, _∙_}
 use mathlib.Core.Logic.{_↔_}
 use mathlib.Core.Bool.{Bool, true, false, cond}
 use mathlib.Core.List.{List, [], _∷_}
-use Prim.Native.Nat.{ℕ, _*_, _/_, _%_, _≤_, _<_}
+use Prim.Native.Nat.{ℕ, _*_, _≤_, _<_}
 use native.Mathlib.Omega.{arith}
 use borrow.Author.Tests.{ltb-true, ltb-false, lt-ltb}
 use lib.Dec.{T, ltb}
@@ -21,7 +21,6 @@ use Rattle.h265.proofs.RangeLaws.{log2Size-bound}
 use Rattle.h265.specs.Scaling.{scaledAt}
 use Rattle.h265.specs.ScalingFactor.{ScalingList}
 use Rattle.refusal.specs.declared.Refusal.{Refusal}
-use Rattle.refusal.specs.declared.Refusal.the-variants.{LevelMissing}
 use Rattle.refusal.specs.Condition.{blockRefused}
 use Rattle.refusal.specs.Refusal.{number}
 use Rattle.refusal.specs.Written.{Written, left, wrote}

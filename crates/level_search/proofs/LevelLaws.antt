@@ -1,21 +1,22 @@
 -- Laws of the level that gives a coefficient, whatever the scaling.
 --   clash                           a test is not both
 --   equal-sound, equal-refl         the test for equality
+--   inside-range, inside-size       a number between the ends lies in the range, and is at most 2^R in size
+--   zero-inside                     0 lies in every range
 --   gives-sound, gives-complete     the test of a level is what it stands for
---   missing-none, missing-some      `levelMissing` says that no level of the range gives the coefficient, both ways
+--   missing-none, -some, -all       `levelMissing` says that no level of the range gives the coefficient, both ways
 --   leastLevel-found                where one does, `leastLevel` gives it and is of least size
 --   leastLevel-unique               two levels of least size that give one coefficient are equal
 --   leastLevel-eq                   so that a level which is one is `leastLevel`
 use mathlib.Core.Path.{_≡_, refl, sym, ap, subst, _∙_}
 use mathlib.Core.Bool.{Bool, true, false, not, _&&_, _||_, cond}
-use Prim.Native.Nat.{ℕ, suc, _^_, _≤_, _<_}
+use Prim.Native.Nat.{ℕ, suc, _^_, _≤_}
 use native.Mathlib.Omega.{arith}
-use borrow.Author.Tests.{eqb-true, eq-eqb, ltb-true, ltb-false, lt-ltb, le-ltb, not-true, not-false}
+use borrow.Author.Tests.{eqb-true, eq-eqb, ltb-true, ltb-false, lt-ltb, not-true, not-false}
 use lib.Dec.{T, ltb}
 use lib.Pow.{pow-pos}
 use lib.IntN.{ℤ, pos, negsuc, negℤ, natAbs}
 use lib.Signed.{_≤ℤ_}
-use Rattle.integers.specs.Search.{firstWhere}
 use Rattle.integers.proofs.LinearLaws.{parts-add, parts-neg, le-in, le-out}
 use Rattle.integers.proofs.OrderLaws.{≤ℤ-antisym}
 use Rattle.integers.proofs.MachineLaws.{abs-neg, ltZ-of-le}

@@ -4,12 +4,12 @@
 --   scaledValue-mono    before the limit: over m, factor and shift
 --   scaleLevel-scales   one level, for every m, QP′ and range
 --   scales-cong         of what agrees with it
-use mathlib.Core.Path.{_≡_, refl, sym, ap, _∙_}
-use Prim.Native.Nat.{ℕ, suc, _-_, _/_, _^_, _≤_, _<_}
+use mathlib.Core.Path.{_≡_, ap, _∙_}
+use Prim.Native.Nat.{ℕ, _-_, _≤_}
 use native.Mathlib.Nat.{div-eq-of-lt}
 use native.Mathlib.Omega.{arith}
 use lib.Pow.{pow-lt}
-use lib.IntN.{ℤ, pos, _+ℤ_, _*ℤ_, *ℤ-comm, zero-*ℤ}
+use lib.IntN.{ℤ, pos, _*ℤ_, *ℤ-comm, zero-*ℤ}
 use lib.Signed.{_≤ℤ_}
 use Rattle.integers.specs.Shift.{shiftRight, roundShift}
 use Rattle.integers.proofs.OrderLaws.{*ℤ-mono}

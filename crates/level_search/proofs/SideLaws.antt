@@ -1,11 +1,11 @@
 -- The search over the sizes on the coefficient's side of zero finds what the definition asks over all levels.
 --   first-hit          the first of a rising test is at most any hit, and is one
---   reaches-mono       a larger size reaches where a smaller one does
+--   reaches-mono, reaches-below   a larger size reaches where a smaller one does, and a smaller one fails where a larger one does
 --   Ranged p r         the numbers' ends are those of the range
 --   nearest-given      where a level gives x, the nearest does and is no larger
 --   nearest-least      where the nearest scales to x, it is the level of least size
 --   nearest-missing    where it does not, there is none
-use mathlib.Core.Path.{_≡_, refl, sym, ap, subst, _∙_}
+use mathlib.Core.Path.{_≡_, refl, ap, subst}
 use mathlib.Core.Bool.{Bool, true, false, not, cond}
 use Prim.Native.Nat.{ℕ, suc, _+_, _^_, _≤_, _<_}
 use native.Mathlib.Omega.{arith}
@@ -13,12 +13,12 @@ use borrow.Author.Tests.{ltb-true, ltb-false, not-true}
 use lib.Dec.{ltb}
 use lib.Pow.{pow-pos}
 use lib.IntN.{ℤ, pos, negsuc, negℤ, natAbs}
-use lib.Signed.{ltZ, _≤ℤ_, _<ℤ_, ≤ℤ-refl, clashℤ}
+use lib.Signed.{ltZ, _≤ℤ_, ≤ℤ-refl, clashℤ}
 use Rattle.integers.specs.Search.{firstWhere}
 use Rattle.integers.proofs.LinearLaws.{posPart, negPart, parts-add, parts-neg, le-in, le-out}
-use Rattle.integers.proofs.OrderLaws.{≤ℤ-antisym, ≤ℤ-trans, negℤ-anti}
-use Rattle.integers.proofs.MachineLaws.{abs-neg, abs-parts, ltZ-true, ltZ-false, ltZ-of-le}
-use Rattle.integers.proofs.SearchLaws.{First, firstWhere-first}
+use Rattle.integers.proofs.OrderLaws.{≤ℤ-antisym, ≤ℤ-trans}
+use Rattle.integers.proofs.MachineLaws.{abs-neg, ltZ-true, ltZ-false, ltZ-of-le}
+use Rattle.integers.proofs.SearchLaws.{firstWhere-first}
 use Rattle.h265.specs.Range.{coeffMin, coeffMax, outsideRange}
 use Rattle.h265.proofs.RangeLaws.{outsideRange-false}
 use Rattle.parameters.specs.declared.DequantParams.{DequantParams}

@@ -1,11 +1,12 @@
 -- The search by the machine's numbers, as the functions below the refusals have it; proofs/SideLaws.antt takes it to the definition.
--- A level that gives x of least size stands on the side of zero where x does, so that its size is searched there.
+-- The level of least size that gives x stands on the side of zero where x does, so that its size is searched there.
 --   sided x k              the level of size k on x's side
 --   sideEnd p x            the largest size on x's side
 --   reaches f x k          the level of size k on x's side scales to x or past it
---   nearest p f x          the level of the least size that reaches x, and the end of x's side where none does
---   factorAt, nearestAt    scaling, and that level, at an index of a block
---   misses, firstMiss      it does not scale to the coefficient there; the first such index
+--   nearestSize p f x      the least size that reaches x, and the end of x's side where none does
+--   nearest p f x          the level of that size
+--   scalingBy, nearestAt   scaling, and that level, at an index of a block
+--   missesAt, firstMiss    it does not scale to the coefficient there; the first such index
 --   Invertible p           what the search relies on
 --   Searched               what a search over a block leaves: the first index without a level, and all levels where there is none
 use mathlib.Core.Path.{_≡_}
@@ -14,7 +15,7 @@ use mathlib.Core.List.{List}
 use Prim.Native.Nat.{ℕ, _*_}
 use lib.IntN.{ℤ, pos, negℤ, natAbs}
 use lib.ListN.{length, getD}
-use lib.Signed.{ltZ, leZ, _≤ℤ_}
+use lib.Signed.{ltZ, _≤ℤ_}
 use Rattle.integers.specs.Lists.{overwrite}
 use Rattle.integers.specs.Search.{firstWhere}
 use Rattle.h265.specs.ScalingFactor.{ScalingList, scalingFactor}
@@ -37,14 +38,14 @@ nearestSize p f x = firstWhere (sideEnd p x) (reaches f x)
 unfoldable pub nearest : DequantParams → (ℤ → ℤ) → ℤ → ℤ
 nearest p f x = sided x (nearestSize p f x)
 
-unfoldable pub factorAt : DequantParams → ScalingList → ℕ → ℕ → ℤ → ℤ
-factorAt p list n i level = listedLevel p (scalingFactor list n i) level
+unfoldable pub scalingBy : DequantParams → ScalingList → ℕ → ℕ → ℤ → ℤ
+scalingBy p list n i level = listedLevel p (scalingFactor list n i) level
 
 unfoldable pub nearestAt : DequantParams → ScalingList → ℕ → List ℤ → ℕ → ℤ
-nearestAt p list n coeff i = nearest p (factorAt p list n i) (getD coeff i (pos 0))
+nearestAt p list n coeff i = nearest p (scalingBy p list n i) (getD coeff i (pos 0))
 
 unfoldable pub missesAt : DequantParams → ScalingList → ℕ → List ℤ → ℕ → Bool
-missesAt p list n coeff i = not (equal (factorAt p list n i (nearestAt p list n coeff i)) (getD coeff i (pos 0)))
+missesAt p list n coeff i = not (equal (scalingBy p list n i (nearestAt p list n coeff i)) (getD coeff i (pos 0)))
 
 unfoldable pub firstMiss : DequantParams → ScalingList → ℕ → List ℤ → ℕ
 firstMiss p list n coeff = firstWhere (n * n) (missesAt p list n coeff)

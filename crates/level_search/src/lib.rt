@@ -1,5 +1,4 @@
 // Which levels give the coefficients of a block: scaling asked backwards, without a list and with one.
-ghost use mathlib.Core.Path.{_≡_};
 ghost use Rattle.h265.specs.ScalingFactor.ScalingList.{flat, listed};
 ghost use Rattle.refusal.specs.Written.{Writes};
 ghost use Rattle.level_search.specs.Found.{levelsFound};

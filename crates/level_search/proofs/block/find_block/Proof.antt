@@ -1,5 +1,5 @@
 -- `level_search::block::find_block` meets its contract: row 11 where the search stopped early, else a copy of all that it found.
-use mathlib.Core.Path.{_≡_, _∙_}
+use mathlib.Core.Path.{_∙_}
 use Prim.Native.Nat.{_*_}
 use native.Mathlib.Omega.{arith}
 use borrow.Author.Needs.{needs}

@@ -1,6 +1,6 @@
 -- `level_search::block::search` meets its contract. The loop's invariant: every coefficient before i has a level, and the first i places hold them.
 use mathlib.Core.Path.{_≡_, refl, sym, ap, _∙_}
-use mathlib.Core.Bool.{true, false, not}
+use mathlib.Core.Bool.{not}
 use Prim.Native.Nat.{_*_, _-_, _≤_}
 use native.Mathlib.Omega.{arith}
 use borrow.Author.Needs.{needs, sfits-of}
@@ -13,7 +13,7 @@ use Rattle.integers.proofs.ListsLaws.{Stored, stored-none, stored-more, stored-
 use Rattle.integers.proofs.SearchLaws.{None, none-zero, none-suc, firstWhere-none, firstWhere-found}
 use Rattle.h265.specs.ScalingFactor.ScalingList.{listed}
 use Rattle.h265.proofs.RangeLaws.{size-square}
-use Rattle.level_search.specs.Work.{factorAt, nearestAt, missesAt, firstMiss}
+use Rattle.level_search.specs.Work.{scalingBy, nearestAt, missesAt, firstMiss}
 use Rattle.level_search.proofs.block.search.Statement.{statement}
 use Rattle.level_search.proofs.block.search.Tie as tie
 
@@ -61,13 +61,13 @@ read-fits c = record { sfits = c .nearest-arg .given }
 level-is : (c : tie.After-nearest Inv-loop μ-loop)
     → let l = c .before .before .before .before in let a = l .before .before .args in
     c .nearest .result ≡ nearestAt (a .by) (listed (a .list .now) (a .dc)) (a .n) (a .coeff .now) (l .loop .i)
-unfolding nearestAt factorAt
+unfolding nearestAt scalingBy
 level-is c = rw (round-trip (read-fits (c .before)), c .before .before .factor-at .ensures) at (c .nearest .ensures)
 
 miss-is : (c : tie.After-scales-to Inv-loop μ-loop)
     → let l = c .before .before .before .before .before .before in let a = l .before .before .args in
     not (c .scales-to .result) ≡ missesAt (a .by) (listed (a .list .now) (a .dc)) (a .n) (a .coeff .now) (l .loop .i)
-unfolding missesAt factorAt
+unfolding missesAt scalingBy
 miss-is c =
     let d = c .before .before in
     ap not (rw (round-trip (sfits-of (d .nearest .ok)), round-trip (read-fits (d .before)), d .before .before .factor-at .ensures, level-is d) at (c .scales-to .ensures))

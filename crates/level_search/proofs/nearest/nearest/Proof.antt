@@ -1,6 +1,5 @@
 -- `level_search::nearest::nearest` meets its contract: the level of the size that was found.
 use mathlib.Core.Path.{ap, _∙_}
-use native.Mathlib.Omega.{arith}
 use borrow.Author.Needs.{needs}
 use mir.Syntax.{w32}
 use Rattle.integers.proofs.MachineLaws.{round-trip, round-trip-ok}

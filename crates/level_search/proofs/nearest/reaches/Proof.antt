@@ -1,7 +1,6 @@
 -- `level_search::nearest::reaches` meets its contract: the level of the size is scaled, and the test is the side's.
 use mathlib.Core.Path.{_≡_}
 use borrow.Author.Needs.{needs}
-use lib.IntN.{ℤ}
 use mir.Syntax.{w32}
 use mir.Val.{SFits}
 use Rattle.integers.proofs.MachineLaws.{round-trip}
