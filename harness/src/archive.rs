@@ -145,14 +145,29 @@ pub mod scaling {
 pub mod transform {
     use super::*;
 
+    /// An exported inverse transform; a call goes straight to it, as for `scaling::Blocks`.
+    pub enum Inverse<E: 'static> {
+        Dct(unsafe extern "C" fn(*const E, usize, usize, u8, usize, *mut E, usize) -> Answered),
+        Dst(unsafe extern "C" fn(*const E, usize, u8, *mut E, usize) -> Answered),
+    }
+
+    impl<E> Inverse<E> {
+        #[inline(always)]
+        pub fn call(&self, coeff: &[E], n: usize, bit_depth: u8, nx: usize, out: &mut [E]) -> Answered {
+            match self {
+                Inverse::Dct(linked) => unsafe { linked(coeff.as_ptr(), coeff.len(), n, bit_depth, nx, out.as_mut_ptr(), out.len()) },
+                Inverse::Dst(linked) => unsafe { linked(coeff.as_ptr(), coeff.len(), bit_depth, out.as_mut_ptr(), out.len()) },
+            }
+        }
+    }
+
     macro_rules! dct {
         ($name:ident, $linked:ident, $element:ty) => {
             unsafe extern "C" {
                 fn $linked(coeff: *const $element, coeff_len: usize, n: usize, bit_depth: u8, nx: usize, out: *mut $element, out_len: usize) -> Answered;
             }
-            pub fn $name(coeff: &[$element], n: usize, bit_depth: u8, nx: usize, out: &mut [$element]) -> Answered {
-                unsafe { $linked(coeff.as_ptr(), coeff.len(), n, bit_depth, nx, out.as_mut_ptr(), out.len()) }
-            }
+            #[allow(non_upper_case_globals)]
+            pub const $name: Inverse<$element> = Inverse::Dct($linked);
         };
     }
 
@@ -161,9 +176,8 @@ pub mod transform {
             unsafe extern "C" {
                 fn $linked(coeff: *const $element, coeff_len: usize, bit_depth: u8, out: *mut $element, out_len: usize) -> Answered;
             }
-            pub fn $name(coeff: &[$element], _n: usize, bit_depth: u8, _nx: usize, out: &mut [$element]) -> Answered {
-                unsafe { $linked(coeff.as_ptr(), coeff.len(), bit_depth, out.as_mut_ptr(), out.len()) }
-            }
+            #[allow(non_upper_case_globals)]
+            pub const $name: Inverse<$element> = Inverse::Dst($linked);
         };
     }
 

@@ -55,9 +55,9 @@ fn blocks(tally: &mut Tally, seed: u64, cases: usize) {
         let coeff: Vec<i32> = (0..n * n).map(|_| random.between(-most, most) as i32).collect();
         let mut out = vec![0i32; n * n];
         let answer = if extended_precision {
-            archive::transform::inv_transform_into_scalar_extended(&coeff, n, bit_depth, n, &mut out)
+            archive::transform::inv_transform_into_scalar_extended.call(&coeff, n, bit_depth, n, &mut out)
         } else {
-            archive::transform::inv_transform_into_scalar(&coeff, n, bit_depth, n, &mut out)
+            archive::transform::inv_transform_into_scalar.call(&coeff, n, bit_depth, n, &mut out)
         };
         let Some(worst) = distance(&coeff, &out, n, bit_depth, r) else { continue };
         let most = bound(false, n, bit_depth, extended_precision);

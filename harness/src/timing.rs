@@ -123,7 +123,7 @@ fn transforms<E: Element>(list: &mut Vec<Work>, transform: &'static transform::T
             list.push(Work {
                 label,
                 ours: Box::new(move || {
-                    black_box((transform.ours)(black_box(&mine), n, bit_depth, nx, black_box(&mut out)));
+                    black_box(transform.ours.call(black_box(&mine), n, bit_depth, nx, black_box(&mut out)));
                 }),
                 rust: Box::new(move || {
                     (transform.oracle)(black_box(&theirs), n, bit_depth, nx, black_box(&mut kept));

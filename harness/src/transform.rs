@@ -6,7 +6,6 @@ use crate::reference::{self, Block};
 use crate::tally::Tally;
 use std::panic::{AssertUnwindSafe, catch_unwind};
 
-type Ours<E> = fn(&[E], usize, u8, usize, &mut [E]) -> Answered;
 type Oracles<E> = fn(&[E], usize, u8, usize, &mut [E]);
 
 /// A transform on both sides; `checked` is the oracle's build that panics where a sum overflows.
@@ -14,7 +13,7 @@ pub struct Transform<E: Element> {
     pub name: &'static str,
     pub dst: bool,
     pub extended: bool,
-    pub ours: Ours<E>,
+    pub ours: archive::transform::Inverse<E>,
     pub oracle: Oracles<E>,
     pub checked: Oracles<E>,
 }
@@ -190,7 +189,7 @@ fn compare_call<E: Element>(tally: &mut Tally, transform: &Transform<E>, matrix:
     let mut ours = Lent::<E>::filled(random, call.out_len);
     let mut expected = ours.copy();
     let coeff = call.coeff.clone();
-    let answered = (transform.ours)(&call.coeff, call.n, call.bit_depth, call.nx, ours.lend());
+    let answered = transform.ours.call(&call.coeff, call.n, call.bit_depth, call.nx, ours.lend());
     let mut oracle_agrees = true;
     if expected_answer.number == 0 {
         let square = call.n * call.n;

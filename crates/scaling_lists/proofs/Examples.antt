@@ -11,7 +11,7 @@ use Rattle.integers.specs.Search.{firstWhere}
 use Rattle.refusal.specs.declared.Refusal.the-variants.{ReferenceMissing}
 use Rattle.bits.specs.Bits.{isThere, bitAt, bitsNumber}
 use Rattle.bits.specs.ExpGolomb.{leadingZeros, codeOf, unsignedCode, signedNumber}
-use Rattle.scan.specs.Scan.{inside, diagonal, diagonals, upRight}
+use Rattle.diagonal.specs.Scan.{inside, diagonal, diagonals, upRight}
 use Rattle.scaling_lists.specs.Syntax.{FactorList, Defaults, matrixStep, sizeId, matrixId, listNumber, defaultFor, outsideOf, added, nextCoef, deltaCode, entriesFrom, dcCode, positions, codedEntries, codedList, referenceCode, referred, takenOver, listBy, listCode, listsFrom, scalingListData}
 use Rattle.scaling_lists.specs.Syntax.Reading.{got, stop}
 

@@ -23,7 +23,7 @@ use Rattle.integers.proofs.ListsLaws.{tabulate-length, tabulate-getD}
 use Rattle.refusal.specs.declared.Refusal.{Refusal}
 use Rattle.refusal.specs.declared.Refusal.the-variants.{BitsEnded}
 use Rattle.bits.specs.Bits.{isThere, bitAt}
-use Rattle.scan.specs.Scan.{inside, diagonal, diagonals, upRight}
+use Rattle.diagonal.specs.Scan.{inside, diagonal, diagonals, upRight}
 use Rattle.scaling_lists.specs.Syntax.{Reading, FactorList, andThen, positions, blank, entriesFrom, codedEntries, dcCode, codedList, Defaults, defaultFor, listNumber, matrixStep, none, referred, referenceCode, takenOver, sizeId, matrixId, listBy, listCode}
 use Rattle.scaling_lists.specs.Syntax.Reading.{got, stop}
 use Rattle.scaling_lists.specs.Work.{Positions, heldAt, held}

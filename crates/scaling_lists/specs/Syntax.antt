@@ -32,7 +32,7 @@ use Rattle.bits.specs.declared.Code.{Code}
 use Rattle.bits.specs.declared.Code.the-variants.{Number, TooLong, Ended}
 use Rattle.bits.specs.Bits.{isThere, bitAt}
 use Rattle.bits.specs.ExpGolomb.{unsignedCode, signedNumber}
-use Rattle.scan.specs.Scan.{upRight}
+use Rattle.diagonal.specs.Scan.{upRight}
 
 pub data Reading (A : Type 0) : Type 0 where
   got : A → ℕ → Reading A

@@ -13,10 +13,10 @@ fn scanned(bytes: &[u8], size_id: usize, next: u8, at: usize, entries: &mut [u8]
     ensures { λ r. ⌜ (filled (now (entries .exit)) r ≡ entriesFrom (now (bytes .entry)) (positions «size_id») next at blank) × (partEnd r ≤ at + 4160) ⌝ }
 {
     if size_id == 0 {
-        let four = scan::up_right_4();
+        let four = diagonal::up_right_4();
         return lists::entries_from(bytes, &four, next, at, entries);
     }
-    let eight = scan::up_right_8();
+    let eight = diagonal::up_right_8();
     lists::entries_from(bytes, &eight, next, at, entries)
 }
 

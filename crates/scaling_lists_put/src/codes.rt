@@ -70,10 +70,10 @@ fn put_scanned(lists: &[u8], j: usize, next: u8, bits: &mut [u8], at: usize) -> 
     ensures { λ r. ⌜ WroteUpTo (now (bits .entry)) at (deltaBits (positions (sizeId j)) next (tabulate 64 (λ i. getD (now (lists .entry)) (64 * j + i) 0))) (now (bits .exit)) r (at + 1088) ⌝ }
 {
     if j / 6 == 0 {
-        let four = scan::up_right_4();
+        let four = diagonal::up_right_4();
         return put_entries(lists, 64 * j, &four, next, bits, at);
     }
-    let eight = scan::up_right_8();
+    let eight = diagonal::up_right_8();
     put_entries(lists, 64 * j, &eight, next, bits, at)
 }
 

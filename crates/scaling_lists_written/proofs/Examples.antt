@@ -16,7 +16,7 @@ use Rattle.bits.specs.Bits.{isThere, bitAt, bitsNumber}
 use Rattle.bits.specs.ExpGolomb.{leadingZeros, codeOf, unsignedCode, signedNumber}
 use Rattle.bits_written.specs.Codes.{bitsOf, zerosOf, unsignedBits, codeNumber, signedBits}
 use Rattle.bits_written.specs.Bytes.{bitsValue, byteCount, byteOf, bytesOf}
-use Rattle.scan.specs.Scan.{inside, diagonal, diagonals, upRight}
+use Rattle.diagonal.specs.Scan.{inside, diagonal, diagonals, upRight}
 use Rattle.scaling_lists.specs.Syntax.{FactorList, Defaults, matrixStep, sizeId, matrixId, listNumber, defaultFor, outsideOf, added, nextCoef, deltaCode, entriesFrom, dcCode, positions, codedEntries, codedList, referenceCode, referred, takenOver, listBy, listCode, listsFrom, scalingListData}
 use Rattle.scaling_lists.specs.Syntax.Reading.{got}
 use Rattle.scaling_lists_written.specs.Same.{every, hasDc, usedCount, sameList}

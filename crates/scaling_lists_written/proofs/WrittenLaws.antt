@@ -16,7 +16,7 @@ use Rattle.bits_written.specs.Codes.{signedBits}
 use Rattle.bits_written.specs.Bytes.{bytesOf, Binary, Begins}
 use Rattle.bits_written.proofs.BytesLaws.{binary-none, binary-more, binary-append, begins-first, begins-second, begins-own}
 use Rattle.bits_written.proofs.CodesLaws.{unsigned-binary}
-use Rattle.scan.specs.Scan.{inside, diagonal, diagonals, upRight}
+use Rattle.diagonal.specs.Scan.{inside, diagonal, diagonals, upRight}
 use Rattle.scaling_lists.specs.Syntax.{FactorList, Defaults, none, sizeId, matrixId, positions, listsFrom, scalingListData}
 use Rattle.scaling_lists.specs.Syntax.Reading.{got}
 use Rattle.scaling_lists_written.specs.Same.{hasDc, usedCount, entry, usedList, listAt, usedLists, Writable}

@@ -58,11 +58,11 @@ pub fn dct_8(coeff: &[i32], nx: usize, s: u32, out: &mut [i32])
     requires { ⌜ BlockAsk 8 s nx (now coeff) (length (now out)) ⌝ }
     ensures { λ _. ⌜ now (out .exit) ≡ overwrite (8 * 8) (rowOrder 8 (shiftedResidual (transMatrix 8) 8 s nx (now (coeff .entry)))) (now (out .entry)) ⌝ }
 {
-    let t = lanes_8();
-    let mut a = [0i16; 64];
-    let mut d = [0i16; 64];
     let ny = rows_used(coeff, 8, nx, 4);
+    let mut a = [0i16; 64];
     narrow(coeff, ny * 8, &mut a[..]);
+    let t = lanes_8();
+    let mut d = [0i16; 64];
     columns_8(&t[..], &a[..], nx, (ny + 3) / 4, &mut d[..]);
     rows_8(&t[..], &d[..], (nx + 3) / 4, s, out);
 }
@@ -72,11 +72,11 @@ pub fn dct_16(coeff: &[i32], nx: usize, s: u32, out: &mut [i32])
     requires { ⌜ BlockAsk 16 s nx (now coeff) (length (now out)) ⌝ }
     ensures { λ _. ⌜ now (out .exit) ≡ overwrite (16 * 16) (rowOrder 16 (shiftedResidual (transMatrix 16) 16 s nx (now (coeff .entry)))) (now (out .entry)) ⌝ }
 {
-    let t = lanes_16();
-    let mut a = [0i16; 256];
-    let mut d = [0i16; 256];
     let ny = rows_used(coeff, 16, nx, 4);
+    let mut a = [0i16; 256];
     narrow(coeff, ny * 16, &mut a[..]);
+    let t = lanes_16();
+    let mut d = [0i16; 256];
     columns_16(&t[..], &a[..], nx, (ny + 3) / 4, &mut d[..]);
     rows_16(&t[..], &d[..], (nx + 3) / 4, s, out);
 }
@@ -86,11 +86,11 @@ pub fn dct_32(coeff: &[i32], nx: usize, s: u32, out: &mut [i32])
     requires { ⌜ BlockAsk 32 s nx (now coeff) (length (now out)) ⌝ }
     ensures { λ _. ⌜ now (out .exit) ≡ overwrite (32 * 32) (rowOrder 32 (shiftedResidual (transMatrix 32) 32 s nx (now (coeff .entry)))) (now (out .entry)) ⌝ }
 {
-    let t = lanes_32();
-    let mut a = [0i16; 1024];
-    let mut d = [0i16; 1024];
     let ny = rows_used(coeff, 32, nx, 4);
+    let mut a = [0i16; 1024];
     narrow(coeff, ny * 32, &mut a[..]);
+    let t = lanes_32();
+    let mut d = [0i16; 1024];
     columns_32(&t[..], &a[..], nx, (ny + 3) / 4, &mut d[..]);
     rows_32(&t[..], &d[..], (nx + 3) / 4, s, out);
 }

@@ -1,6 +1,6 @@
 // The up-right diagonal order, as tables. Internal: the crates above walk blocks by them.
 ghost use mathlib.Core.Path.{_≡_};
-ghost use Rattle.scan.specs.Scan.{upRight};
+ghost use Rattle.diagonal.specs.Scan.{upRight};
 
 #[rattlefmt::skip]
 const UP_RIGHT_4: [u8; 16] = [
