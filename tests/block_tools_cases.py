@@ -7,6 +7,8 @@ own loop, one sample after the other in place, where the definitions have sums.
 import pathlib
 import sys
 
+from rules import coefficient_range, factor, scaled, skipped
+
 WAYS = ("off", "rows", "columns")
 LIST = [16] * 64
 LIST[0], LIST[1], LIST[5], LIST[15] = 40, 3, 99, 1
@@ -14,40 +16,6 @@ DC = 77
 
 
 # ---- the rules
-def coefficient_range(b, x):
-    return max(15, b + 6) if x else 15
-
-
-def clip(lo, hi, z):
-    return min(max(z, lo), hi)
-
-
-def factor(entries, dc, n, i):
-    """m at an index, with a list or without one."""
-    if entries is None:
-        return 16
-    if n <= 8:
-        return entries[i]
-    if i == 0:
-        return dc
-    row, column = divmod(i, n)
-    return entries[row * 8 // n * 8 + column * 8 // n]
-
-
-def scaled(level, m, n, b, x, qp):
-    r = coefficient_range(b, x)
-    lo, hi = -(2**r), 2**r - 1
-    qp = clip(0, 51 + 6 * (b - 8), qp)
-    shift = b + n.bit_length() - 1 + 10 - r
-    scale = (40, 45, 51, 57, 64, 72)[qp % 6] << (qp // 6)
-    return clip(lo, hi, (clip(lo, hi, level) * m * scale + 2 ** (shift - 1)) >> shift)
-
-
-def shifted(z, n, b, x):
-    t = coefficient_range(b, x) - b - (n.bit_length() - 1)
-    return (z + 2 ** (t - 1)) >> t if t > 0 else z << -t
-
-
 def rotated(block, n):
     return [block[(n - 1 - i // n) * n + n - 1 - i % n] for i in range(n * n)]
 
@@ -80,9 +48,9 @@ def skip(levels, n, qp, b, x, entries, dc, t, way, out):
     number = early(n, b, t) or (5 if entries is not None and len(entries) != 64 else 0) or lengths(n, levels, out)
     if number:
         return (number, 0, 0, 0), out
-    block = [scaled(levels[i], factor(entries, dc, n, i), n, b, x, qp) for i in range(n * n)]
+    block = [scaled(levels[i], factor(entries, dc, n, i), n, qp, b, x) for i in range(n * n)]
     block = rotated(block, n) if t else block
-    return (0, 0, 0, 0), accumulated([shifted(z, n, b, x) for z in block], n, way) + out[n * n :]
+    return (0, 0, 0, 0), accumulated([skipped(z, n, b, x) for z in block], n, way) + out[n * n :]
 
 
 def bypass(levels, n, b, x, t, way, out):

@@ -7,7 +7,8 @@ first) and the bytes of a feed; stdout holds for each file its name, and for eac
 import pathlib
 import sys
 
-SCALE = (40, 45, 51, 57, 64, 72)
+from rules import clip, coefficient_range, scaled, skipped
+
 F = [0] + [int(x) for x in "90 90 90 89 88 87 85 83 82 80 78 75 73 70 67 64 61 57 54 50 46 43 38 36 31 25 22 18 13 9 4".split()]
 DST = ((29, 55, 74, 84), (74, 74, 0, -74), (84, -29, -74, 55), (55, -84, 74, -29))
 SIZES = {4: 4, 5: 8, 6: 16, 7: 32}
@@ -27,14 +28,6 @@ def dct(n):
     return [[entry(k * (32 // n), m) for m in range(n)] for k in range(n)]
 
 
-def clip(low, high, x):
-    return max(low, min(high, x))
-
-
-def coeff_range(depth, extended):
-    return max(15, depth + 6) if extended else 15
-
-
 def source(listed, mode, n, i):
     """m, the reason and the position in the list."""
     if listed is None:
@@ -51,24 +44,8 @@ def source(listed, mode, n, i):
     return entries[at], "repeat", at
 
 
-def scaled(levels, n, depth, extended, qp, mode, listed):
-    r = coeff_range(depth, extended)
-    low, high = -(1 << r), (1 << r) - 1
-    s = depth + (n.bit_length() - 1) + 10 - r
-    q = clip(0, 51 + 6 * (depth - 8), qp)
-    step = SCALE[q % 6] << (q // 6)
-    return [clip(low, high, (clip(low, high, v) * source(listed, mode, n, i)[0] * step + (1 << (s - 1))) >> s) for i, v in enumerate(levels)]
-
-
-def skipped(coeff, n, depth, extended):
-    t = coeff_range(depth, extended) - depth - (n.bit_length() - 1)
-    if t > 0:
-        return [(c + (1 << (t - 1))) >> t for c in coeff]
-    return [c << -t for c in coeff]
-
-
 def transformed(coeff, n, depth, extended, matrix):
-    r = coeff_range(depth, extended)
+    r = coefficient_range(depth, extended)
     low, high = -(1 << r), (1 << r) - 1
     middle = [[clip(low, high, (sum(matrix[k][m] * coeff[k * n + c] for k in range(n)) + 64) >> 7) for c in range(n)] for m in range(n)]
     s2 = r + 5 - depth
@@ -77,9 +54,9 @@ def transformed(coeff, n, depth, extended, matrix):
 
 def residual(levels, n, parameters, listed):
     depth, extended, qp, mode = parameters
-    coeff = scaled(levels, n, depth, extended, qp, mode, listed)
+    coeff = [scaled(v, source(listed, mode, n, i)[0], n, qp, depth, extended) for i, v in enumerate(levels)]
     if mode == 2:
-        return skipped(coeff, n, depth, extended)
+        return [skipped(z, n, depth, extended) for z in coeff]
     return transformed(coeff, n, depth, extended, DST if mode == 1 else dct(n))
 
 

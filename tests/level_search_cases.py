@@ -1,32 +1,11 @@
 #!/usr/bin/env python3
 """The text that crates/level_search_cases must write, by rules written apart from the code: every level of the range is asked."""
 
-LEVEL_SCALE = [40, 45, 51, 57, 64, 72]
-
-
-def scaled(level, m, n, qp, depth, extended):
-    r = max(15, depth + 6) if extended else 15
-    shift = depth + n.bit_length() - 1 + 10 - r
-    qp = min(max(qp, 0), 51 + 6 * (depth - 8))
-
-    def limited(z):
-        return min(max(z, -(2**r)), 2**r - 1)
-
-    return limited((limited(level) * m * (LEVEL_SCALE[qp % 6] << (qp // 6)) + (1 << (shift - 1))) >> shift)
-
-
-def factor(entries, dc, n, i):
-    if entries is None:
-        return 16
-    if n <= 8:
-        return entries[i]
-    if i == 0:
-        return dc
-    return entries[i // n * 8 // n * 8 + i % n * 8 // n]
+from rules import coefficient_range, factor, scaled
 
 
 def least_levels(m, n, qp, depth, extended):
-    r = max(15, depth + 6) if extended else 15
+    r = coefficient_range(depth, extended)
     least = {}
     for size in range(2**r + 1):
         for level in (size, -size):

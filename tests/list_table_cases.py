@@ -9,9 +9,10 @@ import pathlib
 import random
 import sys
 
+from rules import factor, scaled, skipped
+
 BYTES = [(37 * i + i // 7 + 1) % 256 for i in range(512)]
 LEVELS = [1, -1, 0, 3, -7, 40, -300, 1000, -2500, 32767, -32768, 2147483647, -2147483648]
-SCALE = (40, 45, 51, 57, 64, 72)
 STORE, DROP, LOOK, WIDE, WIDE_SKIP, NARROW, NARROW_SKIP = range(7)
 WHOLE, SHORT_TABLE, SHORT_LEVELS, SHORT_OUT = range(4)
 
@@ -70,35 +71,6 @@ def look(stream, number, long=64, amiss=WHOLE):
     return say(0, 0, dc, *entries, *lent[64:])
 
 
-# ---- clause 8.6
-def clip(low, high, x):
-    return max(low, min(high, x))
-
-
-def factor(entries, dc, n, i):
-    if n <= 8:
-        return entries[i]
-    if i == 0:
-        return dc
-    return entries[8 * (8 * (i // n) // n) + 8 * (i % n) // n]
-
-
-def scaled(entries, dc, n, qp, depth, extended, skip):
-    r = max(15, depth + 6) if extended else 15
-    size = n.bit_length() - 1
-    low, high = -(1 << r), (1 << r) - 1
-    s, t = depth + size + 10 - r, r - depth - size
-    q = clip(0, 51 + 6 * (depth - 8), qp)
-    values = []
-    for i in range(n * n):
-        level = clip(low, high, LEVELS[i % 13])
-        value = clip(low, high, (level * factor(entries, dc, n, i) * (SCALE[q % 6] << q // 6) + (1 << s - 1)) >> s)
-        if skip:
-            value = (value + (1 << t - 1)) >> t if t > 0 else value << -t
-        values.append(value)
-    return values
-
-
 def scale(which, stream, number, n=4, amiss=WHOLE, qp=20, depth=8, extended=0):
     call(which, stream, number, 0, 0, n, amiss, qp, depth, extended)
     lent = [7] * (15 if amiss == SHORT_OUT else {8: 65, 16: 257, 32: 1025}.get(n, 17))
@@ -115,7 +87,10 @@ def scale(which, stream, number, n=4, amiss=WHOLE, qp=20, depth=8, extended=0):
     if missing(stream, number):
         return say(18, 0, *lent)
     entries, dc = held[stream][number]
-    return say(0, 0, *scaled(entries, dc, n, qp, depth, extended, which in (WIDE_SKIP, NARROW_SKIP)), 7)
+    values = [scaled(LEVELS[i % 13], factor(entries, dc, n, i), n, qp, depth, extended) for i in range(n * n)]
+    if which in (WIDE_SKIP, NARROW_SKIP):
+        values = [skipped(z, n, depth, extended) for z in values]
+    return say(0, 0, *values, 7)
 
 
 # ---- every refusal at its border
