@@ -66,6 +66,22 @@ def crate_rules():
                     say("an entry point with fewer than two must-fail edits", f"{source}: {name}")
 
 
+def edit_rules():
+    """An edit's old text is once in its file, else the gate's last part says so after an hour."""
+    for edit in sorted(pathlib.Path("crates").glob("*/must-fail/*.edit")):
+        texts, file = {}, None
+        for line in edit.read_text().split("\n"):
+            if line.startswith("file: "):
+                file = edit.parent.parent / line[6:]
+                texts.setdefault(file, file.read_text() if file.is_file() else "")
+            elif line.startswith("old: "):
+                old = line[5:]
+                if texts.get(file, "").count(old) != 1:
+                    say("an edit whose old text is not once in its file", f"{edit}: {old.strip()}")
+            elif line.startswith("new:") and file in texts:
+                texts[file] = texts[file].replace(old, line[4:].removeprefix(" "))
+
+
 def text_rules(files):
     for path in files:
         try:
@@ -89,6 +105,7 @@ def text_rules(files):
 
 
 crate_rules()
+edit_rules()
 text_rules(tracked())
 for line in found:
     print(line)
