@@ -1,7 +1,7 @@
-// Why a call was refused: a variant for each row of document 01's table, with the place where the row names one.
+// Why a call was refused: a variant for each row of the table of refusals, with the place where the row names one.
 ghost use mathlib.Core.Path.{_≡_};
 ghost use Rattle.refusal.specs.Condition.{sizeRefused, depthRefused, widthRefused, rotationRefused};
-ghost use Rattle.refusal.specs.Refusal.{number, place, row, column};
+ghost use Rattle.refusal.specs.Refusal.{parts, number, place, row, column};
 
 pub enum Refusal {
     SizeInvalid,
@@ -13,6 +13,7 @@ pub enum Refusal {
     OutputTooShort,
     PlaceOutside,
     CoefficientAbove(u8, u8),
+    WayMismatched,
     LevelMissing(u8, u8),
     SampleOutside(usize),
     PictureInvalid,
@@ -26,6 +27,7 @@ pub enum Refusal {
     BodyTooShort,
     LevelsBeforeParameters,
     ParameterInvalid,
+    BlockMissing,
     RotationSizeInvalid,
 }
 
@@ -35,128 +37,79 @@ pub enum Answer {
     Refused(Refusal),
 }
 
-// The refusal's number in document 01's table.
+// A refusal's number in the table, and the place that it names: one number (an index or an offset), or the row and column of a
+// coefficient; 0 where it names none.
+pub struct RefusalParts {
+    number: u8,
+    place: usize,
+    row: u8,
+    column: u8,
+}
+
+// The table of refusals.
+#[rattlefmt::skip]
+pub fn parts(refusal: Refusal) -> RefusalParts
+    ensures { λ r. ⌜ r ≡ parts refusal ⌝ }
+{
+    match refusal {
+        Refusal::SizeInvalid => RefusalParts { number: 1, place: 0, row: 0, column: 0 },
+        Refusal::DepthInvalid => RefusalParts { number: 2, place: 0, row: 0, column: 0 },
+        Refusal::WidthTooNarrow => RefusalParts { number: 3, place: 0, row: 0, column: 0 },
+        Refusal::DstSizeInvalid => RefusalParts { number: 4, place: 0, row: 0, column: 0 },
+        Refusal::ListLengthInvalid => RefusalParts { number: 5, place: 0, row: 0, column: 0 },
+        Refusal::InputTooShort => RefusalParts { number: 6, place: 0, row: 0, column: 0 },
+        Refusal::OutputTooShort => RefusalParts { number: 7, place: 0, row: 0, column: 0 },
+        Refusal::PlaceOutside => RefusalParts { number: 8, place: 0, row: 0, column: 0 },
+        Refusal::CoefficientAbove(row, column) => RefusalParts { number: 9, place: 0, row: row, column: column },
+        Refusal::WayMismatched => RefusalParts { number: 10, place: 0, row: 0, column: 0 },
+        Refusal::LevelMissing(row, column) => RefusalParts { number: 11, place: 0, row: row, column: column },
+        Refusal::SampleOutside(at) => RefusalParts { number: 12, place: at, row: 0, column: 0 },
+        Refusal::PictureInvalid => RefusalParts { number: 13, place: 0, row: 0, column: 0 },
+        Refusal::BitsEnded(at) => RefusalParts { number: 14, place: at, row: 0, column: 0 },
+        Refusal::ReferenceMissing(at) => RefusalParts { number: 15, place: at, row: 0, column: 0 },
+        Refusal::ListValueInvalid(at) => RefusalParts { number: 16, place: at, row: 0, column: 0 },
+        Refusal::StreamFull => RefusalParts { number: 17, place: 0, row: 0, column: 0 },
+        Refusal::ListMissing => RefusalParts { number: 18, place: 0, row: 0, column: 0 },
+        Refusal::CoefficientBelow(row, column) => RefusalParts { number: 19, place: 0, row: row, column: column },
+        Refusal::KindUnknown => RefusalParts { number: 20, place: 0, row: 0, column: 0 },
+        Refusal::BodyTooShort => RefusalParts { number: 21, place: 0, row: 0, column: 0 },
+        Refusal::LevelsBeforeParameters => RefusalParts { number: 22, place: 0, row: 0, column: 0 },
+        Refusal::ParameterInvalid => RefusalParts { number: 23, place: 0, row: 0, column: 0 },
+        Refusal::BlockMissing => RefusalParts { number: 24, place: 0, row: 0, column: 0 },
+        Refusal::RotationSizeInvalid => RefusalParts { number: 25, place: 0, row: 0, column: 0 },
+    }
+}
+
+// The refusal's number in the table.
 pub fn number(refusal: Refusal) -> u8
     ensures { λ r. ⌜ r ≡ number refusal ⌝ }
 {
-    match refusal {
-        Refusal::SizeInvalid => 1,
-        Refusal::DepthInvalid => 2,
-        Refusal::WidthTooNarrow => 3,
-        Refusal::DstSizeInvalid => 4,
-        Refusal::ListLengthInvalid => 5,
-        Refusal::InputTooShort => 6,
-        Refusal::OutputTooShort => 7,
-        Refusal::PlaceOutside => 8,
-        Refusal::CoefficientAbove(_, _) => 9,
-        Refusal::LevelMissing(_, _) => 11,
-        Refusal::SampleOutside(_) => 12,
-        Refusal::PictureInvalid => 13,
-        Refusal::BitsEnded(_) => 14,
-        Refusal::ReferenceMissing(_) => 15,
-        Refusal::ListValueInvalid(_) => 16,
-        Refusal::StreamFull => 17,
-        Refusal::ListMissing => 18,
-        Refusal::CoefficientBelow(_, _) => 19,
-        Refusal::KindUnknown => 20,
-        Refusal::BodyTooShort => 21,
-        Refusal::LevelsBeforeParameters => 22,
-        Refusal::ParameterInvalid => 23,
-        Refusal::RotationSizeInvalid => 25,
-    }
+    let of = parts(refusal);
+    of.number
 }
 
 // The place that the refusal names by one number, and 0 where it names none.
 pub fn place(refusal: Refusal) -> usize
     ensures { λ r. ⌜ r ≡ place refusal ⌝ }
 {
-    match refusal {
-        Refusal::SizeInvalid => 0,
-        Refusal::DepthInvalid => 0,
-        Refusal::WidthTooNarrow => 0,
-        Refusal::DstSizeInvalid => 0,
-        Refusal::ListLengthInvalid => 0,
-        Refusal::InputTooShort => 0,
-        Refusal::OutputTooShort => 0,
-        Refusal::PlaceOutside => 0,
-        Refusal::CoefficientAbove(_, _) => 0,
-        Refusal::LevelMissing(_, _) => 0,
-        Refusal::SampleOutside(at) => at,
-        Refusal::PictureInvalid => 0,
-        Refusal::BitsEnded(at) => at,
-        Refusal::ReferenceMissing(at) => at,
-        Refusal::ListValueInvalid(at) => at,
-        Refusal::StreamFull => 0,
-        Refusal::ListMissing => 0,
-        Refusal::CoefficientBelow(_, _) => 0,
-        Refusal::KindUnknown => 0,
-        Refusal::BodyTooShort => 0,
-        Refusal::LevelsBeforeParameters => 0,
-        Refusal::ParameterInvalid => 0,
-        Refusal::RotationSizeInvalid => 0,
-    }
+    let of = parts(refusal);
+    of.place
 }
 
 // The row of the coefficient that the refusal names, and 0 where it names none.
 pub fn row(refusal: Refusal) -> u8
     ensures { λ r. ⌜ r ≡ row refusal ⌝ }
 {
-    match refusal {
-        Refusal::SizeInvalid => 0,
-        Refusal::DepthInvalid => 0,
-        Refusal::WidthTooNarrow => 0,
-        Refusal::DstSizeInvalid => 0,
-        Refusal::ListLengthInvalid => 0,
-        Refusal::InputTooShort => 0,
-        Refusal::OutputTooShort => 0,
-        Refusal::PlaceOutside => 0,
-        Refusal::CoefficientAbove(at, _) => at,
-        Refusal::LevelMissing(at, _) => at,
-        Refusal::SampleOutside(_) => 0,
-        Refusal::PictureInvalid => 0,
-        Refusal::BitsEnded(_) => 0,
-        Refusal::ReferenceMissing(_) => 0,
-        Refusal::ListValueInvalid(_) => 0,
-        Refusal::StreamFull => 0,
-        Refusal::ListMissing => 0,
-        Refusal::CoefficientBelow(at, _) => at,
-        Refusal::KindUnknown => 0,
-        Refusal::BodyTooShort => 0,
-        Refusal::LevelsBeforeParameters => 0,
-        Refusal::ParameterInvalid => 0,
-        Refusal::RotationSizeInvalid => 0,
-    }
+    let of = parts(refusal);
+    of.row
 }
 
 // Its column.
 pub fn column(refusal: Refusal) -> u8
     ensures { λ r. ⌜ r ≡ column refusal ⌝ }
 {
-    match refusal {
-        Refusal::SizeInvalid => 0,
-        Refusal::DepthInvalid => 0,
-        Refusal::WidthTooNarrow => 0,
-        Refusal::DstSizeInvalid => 0,
-        Refusal::ListLengthInvalid => 0,
-        Refusal::InputTooShort => 0,
-        Refusal::OutputTooShort => 0,
-        Refusal::PlaceOutside => 0,
-        Refusal::CoefficientAbove(_, at) => at,
-        Refusal::LevelMissing(_, at) => at,
-        Refusal::SampleOutside(_) => 0,
-        Refusal::PictureInvalid => 0,
-        Refusal::BitsEnded(_) => 0,
-        Refusal::ReferenceMissing(_) => 0,
-        Refusal::ListValueInvalid(_) => 0,
-        Refusal::StreamFull => 0,
-        Refusal::ListMissing => 0,
-        Refusal::CoefficientBelow(_, at) => at,
-        Refusal::KindUnknown => 0,
-        Refusal::BodyTooShort => 0,
-        Refusal::LevelsBeforeParameters => 0,
-        Refusal::ParameterInvalid => 0,
-        Refusal::RotationSizeInvalid => 0,
-    }
+    let of = parts(refusal);
+    of.column
 }
 
 // Row 1: the size is none of 4, 8, 16, 32.
