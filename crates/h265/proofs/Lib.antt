@@ -2,4 +2,4 @@
 pub mod RangeLaws
 pub mod QuantizationLaws
 pub mod TransformLaws
-pub mod Examples
+pub mod ExamplesLaws

@@ -2,6 +2,8 @@ pub mod Range
 pub mod Quantization
 pub mod ScalingFactor
 pub mod Scaling
+pub mod Limited
 pub mod TransformSkip
 pub mod Matrix
 pub mod Transform
+pub mod Examples
