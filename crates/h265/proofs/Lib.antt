@@ -2,4 +2,5 @@
 pub mod RangeLaws
 pub mod QuantizationLaws
 pub mod TransformLaws
+pub mod TransformSkipLaws
 pub mod ExamplesLaws

@@ -126,7 +126,7 @@ examples =
     ∷ (limited flat (pos 4) (replicate 16 (pos 1023)) gives one (pos 0))
     ∷ (limited flat (pos 4) (pos 1024 ∷ pos 1023 ∷ negℤ (pos 32769) ∷ pos 40000 ∷ replicate 12 (pos 0)) gives one (pos 3))
     ∷ (limited flat (pos 4) (replicate 16 (pos 1024)) gives one (pos 16))
-    ∷ (limited (listed (0 ∷ replicate 63 16) 16) (pos 4) (pos 32767 ∷ pos 1024 ∷ replicate 14 (pos 0)) gives one (pos 1))
+    ∷ (limited (listed (0 ∷ replicate 63 16) 16) (pos 4) (pos 32768 ∷ pos 1024 ∷ replicate 14 (pos 0)) gives one (pos 2))
     -- m
     ∷ (factor 16 0 gives one (pos 30))
     ∷ (factor 16 1 gives one (pos 20))

@@ -1,4 +1,4 @@
--- The transform matrices. Document 01, "Inverse transforms"; H.265, clause 8.6.4.3, equations for transMatrix.
+-- The transform matrices. docs/RULES.md, "Inverse transforms"; H.265, clause 8.6.4.2, equations for transMatrix.
 --   foldingValues        F[1..31]
 --   transMatrix32 k m    entry (k, m) of the 32-point matrix, by the folding rule over F
 --   transMatrix n k m    the n-point matrix: rows k × 32/n and columns below n of the 32-point one

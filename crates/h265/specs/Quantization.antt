@@ -1,4 +1,4 @@
--- QP′ and the scaling factors. Document 01, "Quantities" and "Scaling"; H.265, clauses 8.6.1 and 8.6.4.2.
+-- QP′ and the scaling factors. docs/RULES.md, "Quantities" and "Scaling"; H.265, clauses 8.6.1 and 8.6.3.
 --   qpBdOffset b    6 × (B - 8)
 --   clipQpPrime b q  q limited to 0 .. 51 + 6 × (B - 8)
 --   qpPrime b qp    QP′ = QP + 6 × (B - 8), limited

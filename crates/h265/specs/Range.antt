@@ -1,4 +1,4 @@
--- Sizes and the range of coefficients. Document 01, "Quantities"; H.265, clause 7.4.3.2, range extensions.
+-- Sizes and the range of coefficients. docs/RULES.md, "Quantities"; H.265, clause 7.4.3.2, range extensions.
 -- Letters here and in every other file: n size, l log2 n, b depth, x extended precision, r range R.
 --   isSize n          n is 4, 8, 16 or 32
 --   log2Size n        log2 of a size

@@ -1,4 +1,4 @@
--- Scaling of levels. Document 01, "Scaling"; H.265, clause 8.6.4.2, range extensions.
+-- Scaling of levels. docs/RULES.md, "Scaling"; H.265, clause 8.6.3, range extensions.
 --   bdShift b l r              s = B + L + 10 - R
 --   scaledValue s q m level    (level × m × levelScale[QP′ mod 6] × 2^(QP′ div 6) + 2^(s-1)) >> s: before the limit
 --   scaleLevel r s q m level   one level, limited, scaled and limited again

@@ -1,4 +1,4 @@
--- The scaling factor m. Document 01, "Scaling"; H.265, clauses 7.4.5 and 8.6.4.2.
+-- The scaling factor m. docs/RULES.md, "Scaling"; H.265, clauses 7.4.5 and 8.6.3.
 -- A list has 64 entries at every size. An index counts the places of the block in row order.
 --   ScalingList             no list, or a list of entries with its DC number
 --   FactorSource            the rule that supplies m, with the position in the list where the rule has one

@@ -1,4 +1,4 @@
--- The inverse transform in two stages. Document 01, "Inverse transforms"; H.265, clauses 8.6.4.2 and 8.6.4.3.
+-- The inverse transform in two stages. docs/RULES.md, "Inverse transforms"; H.265, clauses 8.6.2 and 8.6.4.2.
 -- Further letters: t the matrix, d the coefficients and g the intermediate as functions of row and column, k row, c column,
 -- m and j the row and column of a result.
 --   transformLine t n y m   one line: sum over k of T(k, m) × y(k)

@@ -1,4 +1,5 @@
--- The conditions of document 01's table that several calls share, one definition for each row. A call tests them lowest number first.
+-- The conditions of the table of refusals (docs/RULES.md) that several calls share, one definition for each row. A call tests them lowest
+-- number first, but for row 25, which comes after 3.
 --   sizeRefused n          1: the size is not 4, 8, 16 or 32
 --   depthRefused b         2: the depth is outside 8 .. 16
 --   widthRefused b x       3: 16-bit output with depth above 9 or extended precision

@@ -1,4 +1,4 @@
--- What a call hands back, in document 01's terms: 0, or a number and a place; and the values, which are zeros on refusal. A place is one
+-- What a call hands back, in the terms of docs/RULES.md: 0, or a number and a place; and the values, which are zeros on refusal. A place is one
 -- number, or a coefficient's row and column.
 --   Outcome A     number, place, row, column and values of type A
 --   accepted v    0, no place, the values
