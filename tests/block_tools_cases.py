@@ -1,12 +1,10 @@
 #!/usr/bin/env python3
-"""block_tools_cases.py [CRATE]: write stdout of the program block_tools_cases (crates/block_tools_cases by default).
+"""block_tools_cases.py [CRATES]: write stdout of the program block_tools_cases (in crates by default).
 
 Written from the rules alone (docs/RULES.md, and clause 8.6 with the range extensions): it shares nothing with the crates. Accumulation is the clause's
 own loop, one sample after the other in place, where the definitions have sums.
 """
-import pathlib
-import sys
-
+from case_files import write_files
 from rules import coefficient_range, factor, scaled, skipped
 
 WAYS = ("off", "rows", "columns")
@@ -154,9 +152,8 @@ def borders():
 
 
 def main():
-    crate = pathlib.Path(sys.argv[1] if len(sys.argv) > 1 else "crates/block_tools_cases")
     lines = [*written(), *furthest(), *ladder(), *borders(), *sweep(4, False), *sweep(4, True), *sweep(8, False), *sweep(16, False), *sweep(32, False)]
-    (crate / "stdout").write_text("".join(line + "\n" for line in lines))
+    write_files("block_tools_cases", {"stdout": "".join(line + "\n" for line in lines)})
 
 
 main()

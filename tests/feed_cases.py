@@ -1,12 +1,10 @@
 #!/usr/bin/env python3
-"""feed_cases.py [CRATES]: write args, data/ and stdout of the program feed_cases, and stdin and stdout of scale_trace_main (in crates by default).
+"""feed_cases.py [CRATES]: write args, data/ and stdout of the program feed_cases, and stdin and stdout of feed_main and scale_trace_main (in crates by default).
 
 Written from the rules alone (docs/RULES.md): it shares nothing with the crates. A file of data/ holds cases, each four bytes of length (low byte
 first) and the bytes of a feed; stdout holds for each file its name, and for each case a line `case N` and the text of the feed.
 """
-import pathlib
-import sys
-
+from case_files import write_files
 from rules import clip, coefficient_range, scaled, skipped
 
 F = [0] + [int(x) for x in "90 90 90 89 88 87 85 83 82 80 78 75 73 70 67 64 61 57 54 50 46 43 38 36 31 25 22 18 13 9 4".split()]
@@ -273,23 +271,18 @@ def reasons():
 
 
 def main():
-    crates = pathlib.Path(sys.argv[1] if len(sys.argv) > 1 else "crates")
-    trace, crate = crates / "scale_trace_main", crates / "feed_cases"
-    trace.mkdir(parents=True, exist_ok=True)
-    (crate / "data").mkdir(parents=True, exist_ok=True)
-    (trace / "stdin").write_bytes(reasons())
-    (trace / "stdout").write_text(listing(reasons()))
-    shown, names = [], []
+    write_files("feed_main", {"stdin": WHOLE, "stdout": residuals(WHOLE)})
+    write_files("scale_trace_main", {"stdin": reasons(), "stdout": listing(reasons())})
+    shown, files = [], {}
     for name, made in (("refusals", refusals), ("plain", plain), ("blocks", blocks), ("changes", changes), ("skips", skips), ("cuts", cuts)):
-        names.append(name)
         shown.append(f"{name}\n")
         data = b""
         for number, feed in enumerate(made()):
             data += len(feed).to_bytes(4, "little") + feed
             shown.append(f"case {number}\n{residuals(feed)}")
-        (crate / "data" / name).write_bytes(data)
-    (crate / "args").write_text("".join(f"{name}\n" for name in names))
-    (crate / "stdout").write_text("".join(shown))
+        files[f"data/{name}"] = data
+    names = [name.removeprefix("data/") for name in files]
+    write_files("feed_cases", {**files, "args": "".join(f"{name}\n" for name in names), "stdout": "".join(shown)})
 
 
 main()

@@ -1,6 +1,6 @@
 #!/usr/bin/env python3
-"""The text that crates/level_search_cases must write, by rules written apart from the code: every level of the range is asked."""
-
+"""level_search_cases.py [CRATES]: write stdout of the program level_search_cases (in crates by default), by rules written apart from the code: every level of the range is asked."""
+from case_files import write_files
 from rules import coefficient_range, factor, scaled
 
 
@@ -38,9 +38,10 @@ def call(name, n, qp, depth, extended, coeff, levels, entries=None, dc=30):
             out[i] = tables[m][coeff[i]]
     levels[:] = out
     shown = "".join(f" {z}" for z in out[:18])
-    print(f"{name}: {answer[0]} {answer[1]} {answer[2]};{shown}; {sum(map(abs, out))}")
+    text.append(f"{name}: {answer[0]} {answer[1]} {answer[2]};{shown}; {sum(map(abs, out))}\n")
 
 
+text = []
 levels = [7] * 17
 call("size 12", 12, 4, 7, False, [32] * 16, levels)
 call("depth 7", 4, 4, 7, False, [32] * 16, levels)
@@ -80,3 +81,4 @@ coeff[0], coeff[1], coeff[2], coeff[4] = 15, 0, 1, -127
 call("size 16, DC 30", 16, 4, 8, False, coeff, levels, entries)
 coeff[1] = 1
 call("size 16, 1 where m is 0", 16, 4, 8, False, coeff, levels, entries)
+write_files("level_search_cases", {"stdout": "".join(text)})

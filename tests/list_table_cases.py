@@ -1,14 +1,13 @@
 #!/usr/bin/env python3
-"""list_table_cases.py [CRATE]: write stdin and stdout of the program list_table_cases (crates/list_table_cases by default).
+"""list_table_cases.py [CRATES]: write stdin and stdout of the program list_table_cases (in crates by default).
 
 Written from the rules alone (docs/RULES.md and change request R-10): it shares nothing with the crates. stdin holds 512 bytes that lists are cut from, then
 calls of ten bytes, as the program's head describes them: first every refusal at its border, then calls of both streams by turns. stdout holds a line for each
 call, and the table's bytes.
 """
-import pathlib
 import random
-import sys
 
+from case_files import write_files
 from rules import factor, scaled, skipped
 
 BYTES = [(37 * i + i // 7 + 1) % 256 for i in range(512)]
@@ -178,6 +177,4 @@ def table():
 borders()
 by_turns(600)
 say(*table())
-crate = pathlib.Path(sys.argv[1] if len(sys.argv) > 1 else "crates/list_table_cases")
-(crate / "stdin").write_bytes(calls)
-(crate / "stdout").write_text("".join(lines))
+write_files("list_table_cases", {"stdin": calls, "stdout": "".join(lines)})

@@ -1,12 +1,11 @@
 #!/usr/bin/env python3
-"""scaling_lists_cases.py [CRATE]: write args, data/ and stdout of the program scaling_lists_cases (crates/scaling_lists_cases by default).
+"""scaling_lists_cases.py [CRATES]: write args, data/ and stdout of the program scaling_lists_cases (in crates by default).
 
 Written from the rules alone (docs/RULES.md): it shares nothing with the crates, and it writes streams and never reads one. A file of data/ holds the three
 default lists, the first with a byte behind it, and then cases, each two bytes of length (low byte first), a byte that says which slice is lent too short or too long, and the
 bytes of a stream; stdout holds for each file its name, and for each case the answer, and the lists or whether the buffers are as lent.
 """
-import pathlib
-import sys
+from case_files import write_files
 
 FOUR = [16] * 16 + [99] * 48
 INTRA = [20 + i for i in range(64)]
@@ -197,9 +196,7 @@ def refused_cases():
 
 
 def main():
-    crate = pathlib.Path(sys.argv[1] if len(sys.argv) > 1 else "crates/scaling_lists_cases")
-    (crate / "data").mkdir(parents=True, exist_ok=True)
-    text = ""
+    text, data_of = "", {}
     files = {"accepted": accepted_cases, "refused": refused_cases}
     for name, cases in files.items():
         data = bytes(FOUR + [99] + INTRA + INTER)
@@ -207,9 +204,8 @@ def main():
         for number, (amiss, stream, answer) in enumerate(cases()):
             data += len(stream).to_bytes(2, "little") + bytes([amiss]) + stream
             text += f"case {number}:{answer}"
-        (crate / "data" / name).write_bytes(data)
-    (crate / "args").write_text("".join(name + "\n" for name in files))
-    (crate / "stdout").write_text(text)
+        data_of[f"data/{name}"] = data
+    write_files("scaling_lists_cases", {**data_of, "args": "".join(name + "\n" for name in files), "stdout": text})
 
 
 if __name__ == "__main__":

@@ -1,15 +1,11 @@
 #!/usr/bin/env python3
-"""scaling_lists_writer_cases.py [CRATE]: write stdin and stdout of the program scaling_lists_writer_cases (crates/scaling_lists_writer_cases by default).
+"""scaling_lists_writer_cases.py [CRATES]: write stdin and stdout of the program scaling_lists_writer_cases (in crates by default).
 
 Written from the rules alone (docs/RULES.md), over the codes of scaling_lists_cases.py: it shares nothing with the crates. stdin holds the three default
 lists, the first with a byte behind it, and then cases, each a byte that says which slice is lent too short or too long, two bytes of room (low byte first),
 and 20 lists and 20 DC numbers, each with a byte behind them; stdout holds for each case the answer, and the output buffer or whether it is as lent.
 """
-import pathlib
-import sys
-
-# so that the import leaves no folder beside the tests
-sys.dont_write_bytecode = True
+from case_files import write_files
 from scaling_lists_cases import FOUR, INTER, INTRA, ORDER, coded, default, drawn, packed, ramp, reference
 
 
@@ -118,13 +114,11 @@ def refused_cases():
 
 
 def main():
-    crate = pathlib.Path(sys.argv[1] if len(sys.argv) > 1 else "crates/scaling_lists_writer_cases")
     data, text = bytes(FOUR + [99] + INTRA + INTER), ""
     for number, (call, answer) in enumerate([*accepted_cases(), *refused_cases()]):
         data += call
         text += f"case {number}:{answer}"
-    (crate / "stdin").write_bytes(data)
-    (crate / "stdout").write_text(text)
+    write_files("scaling_lists_writer_cases", {"stdin": data, "stdout": text})
 
 
 main()

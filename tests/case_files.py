@@ -1,0 +1,12 @@
+"""Where the scripts that write cases put them, and the form in which the programs of cases read numbers."""
+import pathlib
+import sys
+
+
+def write_files(crate, files):
+    """Writes files of a crate's folder, each bytes or text by its name. The folder stands in the one that the script was given, crates by default."""
+    folder = pathlib.Path(sys.argv[1] if len(sys.argv) > 1 else "crates") / crate
+    for name, content in files.items():
+        path = folder / name
+        path.parent.mkdir(parents=True, exist_ok=True)
+        path.write_bytes(content.encode() if isinstance(content, str) else bytes(content))
