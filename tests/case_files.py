@@ -10,3 +10,29 @@ def write_files(crate, files):
         path = folder / name
         path.parent.mkdir(parents=True, exist_ok=True)
         path.write_bytes(content.encode() if isinstance(content, str) else bytes(content))
+
+
+def named(text):
+    """A text that is written as it is."""
+    return bytes([len(text.encode())]) + text.encode()
+
+
+def word(n):
+    return n.to_bytes(8, "little")
+
+
+def short(n):
+    return n.to_bytes(2, "little")
+
+
+def wide(values):
+    return b"".join(v.to_bytes(4, "little", signed=True) for v in values)
+
+
+def narrow(values):
+    return b"".join(v.to_bytes(2, "little", signed=True) for v in values)
+
+
+def shown(*values):
+    """Numbers, each after a space; a list after a bar."""
+    return "".join(" |" + shown(*v) if isinstance(v, (list, tuple)) else f" {int(v)}" for v in values)

@@ -5,27 +5,12 @@ Written from the rules alone (docs/RULES.md): it shares nothing with the crates.
 first) and the bytes of a feed; stdout holds for each file its name, and for each case a line `case N` and the text of the feed.
 """
 from case_files import write_files
-from rules import clip, coefficient_range, scaled, skipped
+from rules import matrix, scaled, skipped, stage_one, stage_two
 
-F = [0] + [int(x) for x in "90 90 90 89 88 87 85 83 82 80 78 75 73 70 67 64 61 57 54 50 46 43 38 36 31 25 22 18 13 9 4".split()]
-DST = ((29, 55, 74, 84), (74, 74, 0, -74), (84, -29, -74, 55), (55, -84, 74, -29))
 SIZES = {4: 4, 5: 8, 6: 16, 7: 32}
 
 
 # ---- clause 8.6
-def entry(k, m):
-    if k == 0:
-        return 64
-    a = k * (2 * m + 1) % 128
-    if a > 64:
-        a = 128 - a
-    return -F[64 - a] if a > 32 else F[a]
-
-
-def dct(n):
-    return [[entry(k * (32 // n), m) for m in range(n)] for k in range(n)]
-
-
 def source(listed, mode, n, i):
     """m, the reason and the position in the list."""
     if listed is None:
@@ -42,20 +27,13 @@ def source(listed, mode, n, i):
     return entries[at], "repeat", at
 
 
-def transformed(coeff, n, depth, extended, matrix):
-    r = coefficient_range(depth, extended)
-    low, high = -(1 << r), (1 << r) - 1
-    middle = [[clip(low, high, (sum(matrix[k][m] * coeff[k * n + c] for k in range(n)) + 64) >> 7) for c in range(n)] for m in range(n)]
-    s2 = r + 5 - depth
-    return [(sum(matrix[c][j] * middle[m][c] for c in range(n)) + (1 << (s2 - 1))) >> s2 for m in range(n) for j in range(n)]
-
-
 def residual(levels, n, parameters, listed):
     depth, extended, qp, mode = parameters
     coeff = [scaled(v, source(listed, mode, n, i)[0], n, qp, depth, extended) for i, v in enumerate(levels)]
     if mode == 2:
         return [skipped(z, n, depth, extended) for z in coeff]
-    return transformed(coeff, n, depth, extended, DST if mode == 1 else dct(n))
+    t = matrix(n, mode == 1)
+    return stage_two(stage_one(coeff, n, depth, extended, t, n), n, depth, extended, t)
 
 
 # ---- the feed

@@ -1,4 +1,4 @@
-"""Scaling by clause 8.6, for the scripts here that write what the programs of cases must print.
+"""Scaling and the inverse transforms by clause 8.6, for the scripts here that write what the programs of cases must print.
 
 Written from the rules alone (docs/RULES.md): it shares nothing with the crates.
 """
@@ -38,3 +38,37 @@ def skipped(z, n, depth, extended):
     """A residual by transform skip."""
     t = coefficient_range(depth, extended) - depth - (n.bit_length() - 1)
     return (z + 2 ** (t - 1)) >> t if t > 0 else z << -t
+
+
+F = [0] + [int(x) for x in "90 90 90 89 88 87 85 83 82 80 78 75 73 70 67 64 61 57 54 50 46 43 38 36 31 25 22 18 13 9 4".split()]
+DST = ((29, 55, 74, 84), (74, 74, 0, -74), (84, -29, -74, 55), (55, -84, 74, -29))
+
+
+def entry(k, m):
+    """The 32-point matrix."""
+    if k == 0:
+        return 64
+    a = k * (2 * m + 1) % 128
+    if a > 64:
+        a = 128 - a
+    return -F[64 - a] if a > 32 else F[a]
+
+
+def matrix(n, dst=False):
+    return DST if dst else tuple(tuple(entry(k * (32 // n), m) for m in range(n)) for k in range(n))
+
+
+def stage_one(coeff, n, depth, extended, t, columns):
+    """The intermediate of the first `columns` columns."""
+    r = coefficient_range(depth, extended)
+    low, high = -(2**r), 2**r - 1
+    out = [0] * (n * n)
+    for c in range(min(columns, n)):
+        for m in range(n):
+            out[m * n + c] = clip(low, high, (sum(t[k][m] * coeff[k * n + c] for k in range(n)) + 64) >> 7)
+    return out
+
+
+def stage_two(inter, n, depth, extended, t):
+    s = coefficient_range(depth, extended) + 5 - depth
+    return [(sum(t[c][j] * inter[m * n + c] for c in range(n)) + 2 ** (s - 1)) >> s for m in range(n) for j in range(n)]

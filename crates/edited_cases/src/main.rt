@@ -1,18 +1,31 @@
-// Plays random edits on blocks of every kind, size, depth and flag, and compares with a fresh computation after each; then runs every refusal of
-// openings, edits and lists of edits at its border.
+// Replays openings, edits and lists of edits from standard input, and random edits in every setting. A case is a text, which is written as it is; a byte that says
+// which; kind, size, depth and flag, of 1, 8, 1 and 1 bytes; then what `borders` or `random` says. tests/edited_cases.py writes cases and text.
+use libc::STDIN_FILENO;
+
+mod borders;
 mod compare;
-mod drawn;
-mod edits;
-mod lines;
 mod lists;
-mod openings;
-mod replay;
+mod random;
 mod settings;
-mod tally;
+
+// One case; answers whether there was one.
+fn replay() -> bool {
+    if !cases::copy_text(STDIN_FILENO) {
+        return false;
+    }
+    let which = cases::next_byte(STDIN_FILENO);
+    let setting = settings::next();
+    match which {
+        0..=2 => borders::replay(which, setting),
+        _ => random::replay(setting),
+    }
+    cases::put_end();
+    true
+}
 
 fn main() {
-    replay::every_setting();
-    openings::borders();
-    edits::borders();
-    lists::borders();
+    let mut turns = u64::MAX;
+    while turns > 0 && replay() {
+        turns -= 1;
+    }
 }

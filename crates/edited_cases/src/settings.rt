@@ -1,6 +1,7 @@
 // What an opening fixes, and blocks that are opened with it.
 use edited_block::EditedBlock;
 use edited_block::Opened;
+use libc::STDIN_FILENO;
 use transform_1d::Kind;
 
 pub struct Setting {
@@ -10,36 +11,20 @@ pub struct Setting {
     pub extended: bool,
 }
 
-pub fn dct(n: usize, bit_depth: u8, extended: bool) -> Setting {
-    Setting {
-        kind: Kind::Dct,
-        n,
-        bit_depth,
-        extended,
-    }
+fn kind_of(byte: u8) -> Kind {
+    if byte == 0 { Kind::Dct } else { Kind::Dst }
 }
 
-pub fn dst(n: usize, bit_depth: u8, extended: bool) -> Setting {
-    Setting {
-        kind: Kind::Dst,
-        n,
-        bit_depth,
-        extended,
-    }
-}
-
-// The setting of document 01's example.
-pub fn usual() -> Setting {
-    dct(4, 8, false)
-}
-
-pub fn of_record(block: EditedBlock) -> Setting {
-    let kind = block.kind;
+pub fn next() -> Setting {
+    let kind = kind_of(cases::next_byte(STDIN_FILENO));
+    let n = cases::next_word(STDIN_FILENO);
+    let bit_depth = cases::next_byte(STDIN_FILENO);
+    let extended = cases::next_byte(STDIN_FILENO) != 0;
     Setting {
         kind,
-        n: block.size,
-        bit_depth: block.depth,
-        extended: block.extended,
+        n,
+        bit_depth,
+        extended,
     }
 }
 
@@ -67,4 +52,21 @@ pub fn open(setting: Setting, coeff: &[i32], inter: &mut [i32], residual: &mut [
         inter,
         residual,
     )
+}
+
+fn put_kind(kind: Kind) {
+    match kind {
+        Kind::Dct => cases::put_flag(false),
+        Kind::Dst => cases::put_flag(true),
+    }
+}
+
+// Kind, size, depth, flag and column count.
+pub fn put_record(block: EditedBlock) {
+    let kind = block.kind;
+    put_kind(kind);
+    cases::put(block.size as u64);
+    cases::put(block.depth as u64);
+    cases::put_flag(block.extended);
+    cases::put(block.columns as u64);
 }

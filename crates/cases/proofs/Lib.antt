@@ -1,0 +1,2 @@
+-- What signed numbers put together from bytes rely on.
+pub mod SignedLaws

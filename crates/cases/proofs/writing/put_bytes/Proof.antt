@@ -1,0 +1,52 @@
+-- `cases::writing::put_bytes` meets its contract, which says nothing: every place that the loop reads lies in the slice.
+use Prim.Native.Nat.{_-_, _≤_}
+use native.Mathlib.Omega.{arith}
+use borrow.Author.Needs.{needs}
+use lib.ListN.{length}
+use Rattle.cases.proofs.writing.put_bytes.Statement.{statement}
+use Rattle.cases.proofs.writing.put_bytes.Tie as tie
+
+abbrev Inv-loop : tie.InvT-loop
+Inv-loop xs i₀ i = i ≤ length xs
+
+abbrev μ-loop : tie.MeasureT-loop
+μ-loop xs i₀ i = length xs - i
+
+put-bar-requires : tie.Need-put-bar-requires Inv-loop μ-loop
+put-bar-requires c κs = search needs
+
+loop-holds : tie.Need-loop-holds Inv-loop μ-loop
+loop-holds c = omega arith
+
+shared-slice-read-put-byte : tie.Need-shared-slice-read-put-byte Inv-loop μ-loop
+shared-slice-read-put-byte c = omega arith
+
+put-byte-requires : tie.Need-put-byte-requires Inv-loop μ-loop
+put-byte-requires c κs = search needs
+
+add-i : tie.Need-add-i Inv-loop μ-loop
+add-i c = omega arith
+
+loop-less : tie.Need-loop-less Inv-loop μ-loop
+loop-less c = omega arith
+
+loop-again : tie.Need-loop-again Inv-loop μ-loop
+loop-again c = omega arith
+
+returns : tie.Need-returns Inv-loop μ-loop
+returns c = search needs
+
+pub put-bytes-spec : {M : Type 1} → statement M
+put-bytes-spec =
+    tie.close
+    (tie.spec
+    Inv-loop
+    μ-loop
+    put-bar-requires
+    loop-holds
+    shared-slice-read-put-byte
+    put-byte-requires
+    add-i
+    loop-less
+    loop-again
+    returns)
