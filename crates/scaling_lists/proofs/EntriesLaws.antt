@@ -1,22 +1,16 @@
 -- Lists of entries in buffers.
---   overwrite-all      a list that is replaced from end to end
 --   Copied, copied-…   the invariant of a loop that puts one list into another, and its needs
 --   Entries, entries-…   the invariant of the loop over a coded list: what is left, from here, is what the whole gives; and its needs
 use mathlib.Core.Path.{_≡_, refl, sym, ap, _∙_}
-use mathlib.Core.List.{List, _++_, append-nil}
+use mathlib.Core.List.{List}
 use Prim.Native.Nat.{ℕ, suc, _+_, _*_, _≤_, _<_}
 use native.Mathlib.Numerals.{add-one}
 use native.Mathlib.Omega.{arith}
 use lib.ListN.{length, getD, set, drop, length-set, drop-of-length-le}
-use lib.Seq.{drop-cons, drop-length, paste, paste-zero, paste-suc, length-paste}
-use Rattle.integers.specs.Lists.{tabulate, overwrite}
+use lib.Seq.{drop-cons, paste, paste-zero, paste-suc, length-paste}
 use Rattle.refusal.specs.declared.Refusal.{Refusal}
 use Rattle.scaling_lists.specs.Syntax.{Reading, andThen, deltaCode, entriesFrom}
 use Rattle.scaling_lists.specs.Syntax.Reading.{got, stop}
-
-pub overwrite-all : {A : Type 0} (f : ℕ → A) (xs : List A) → overwrite (length xs) f xs ≡ tabulate (length xs) f
-unfolding overwrite
-overwrite-all {A} f xs = ap (λ (l : List A). tabulate (length xs) f ++ l) (drop-length xs) ∙ append-nil (tabulate (length xs) f)
 
 pub record Copied (from to₀ : List ℕ) (base : ℕ) (to : List ℕ) (i : ℕ) : Type 0 where
   pub is : to ≡ paste to₀ base from i

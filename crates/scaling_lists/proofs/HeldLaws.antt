@@ -1,5 +1,7 @@
 -- The lists that stand in two buffers.
 --   paste-before, paste-inside   an element before a list that was put into another, and one of its own
+--   put-list, put-keeps          a list that was put among others, and one before it
+--   gathered                     three defaults put one behind the other
 --   held-more                    the lists with one more behind them
 --   grown-got, grown-stop        the next list, read and put there
 use mathlib.Core.Path.{_≡_, sym, ap, ap₂, _∙_}
@@ -8,13 +10,13 @@ use Prim.Native.Nat.{ℕ, _+_, _*_, _≤_, _<_}
 use native.Mathlib.Numerals.{add-one}
 use native.Mathlib.Omega.{arith}
 use lib.ListN.{length, getD, set, take, drop, List·getD-append}
-use lib.Seq.{ext-getD, getD-take, getD-append-add, getD-set-same, getD-set-other, length-take-le, paste, length-paste-head}
+use lib.Seq.{ext-getD, getD-take, getD-append-add, getD-set-same, getD-set-other, length-take-le, paste, length-paste, length-paste-head}
 use Rattle.integers.specs.Lists.{tabulate}
 use Rattle.integers.proofs.ListsLaws.{tabulate-length, tabulate-getD, tabulate-cong, tabulate-suc}
 use Rattle.refusal.specs.declared.Refusal.{Refusal}
-use Rattle.scaling_lists.specs.Syntax.{Reading, FactorList, Defaults, andThen, listCode}
+use Rattle.scaling_lists.specs.Syntax.{Reading, FactorList, Defaults, defaults, andThen, listCode}
 use Rattle.scaling_lists.specs.Syntax.Reading.{got, stop}
-use Rattle.scaling_lists.specs.Work.{heldAt, held, oneMore}
+use Rattle.scaling_lists.specs.Work.{entriesAt, defaultsIn, heldAt, held, oneMore}
 
 module _ (d : List ℕ) (at : ℕ) (s : List ℕ) (n i : ℕ) (hd : at ≤ length d) (hs : n ≤ length s) where
   head : i < at + n → getD (paste d at s n) i 0 ≡ getD (take at d ++ take n s) i 0
@@ -31,6 +33,33 @@ paste-inside d at s n i hd hs h =
     ∙ getD-append-add (take at d) (take n s) i 0
     ∙ getD-take n s i 0 h
 
+pub put-list : (j : ℕ) (lists es : List ℕ) → length es ≡ 64 → 64 * j + 64 ≤ length lists → entriesAt (paste lists (64 * j) es (length es)) j ≡ es
+put-list j lists es long room =
+    ext-getD 0 (entriesAt (paste lists (64 * j) es (length es)) j) es (tabulate-length 64 _ ∙ sym long)
+    (λ i b. let b′ : i < 64 = rw tabulate-length at b in
+    tabulate-getD 64 (λ i. getD (paste lists (64 * j) es (length es)) (64 * j + i) 0) i 0 b′
+    ∙ paste-inside lists (64 * j) es (length es) i (omega arith) (omega arith) (omega arith))
+
+pub put-keeps : (j k : ℕ) (lists es : List ℕ) → k < j → 64 * j ≤ length lists → entriesAt (paste lists (64 * j) es (length es)) k ≡ entriesAt lists k
+put-keeps j k lists es h room =
+    tabulate-cong 64 (λ i. getD (paste lists (64 * j) es (length es)) (64 * k + i) 0) (λ i. getD lists (64 * k + i) 0)
+    (λ i b. paste-before lists (64 * j) es (length es) (64 * k + i) room (omega arith) (omega arith))
+
+pub gathered : (zeros four intra inter : List ℕ) {one two three : List ℕ} → length zeros ≡ 192 → length four ≡ 64 → length intra ≡ 64 → length inter ≡ 64
+    → one ≡ paste zeros 0 four (length four) → two ≡ paste one 64 intra (length intra) → three ≡ paste two 128 inter (length inter)
+    → defaultsIn three ≡ defaults four intra inter
+unfolding defaultsIn
+gathered zeros four intra inter {one} {two} {three} z f a e p q r =
+    let l1 : length one ≡ 192 = ap length p ∙ length-paste zeros 0 four (length four) (omega arith) (omega arith) ∙ z in
+    let l2 : length two ≡ 192 = ap length q ∙ length-paste one 64 intra (length intra) (omega arith) (omega arith) ∙ l1 in
+    let r0 : entriesAt three 0 ≡ entriesAt two 0 = ap (λ (l : List ℕ). entriesAt l 0) r ∙ put-keeps 2 0 two inter (omega arith) (omega arith) in
+    let q0 : entriesAt two 0 ≡ entriesAt one 0 = ap (λ (l : List ℕ). entriesAt l 0) q ∙ put-keeps 1 0 one intra (omega arith) (omega arith) in
+    let p0 : entriesAt one 0 ≡ four = ap (λ (l : List ℕ). entriesAt l 0) p ∙ put-list 0 zeros four f (omega arith) in
+    let r1 : entriesAt three 1 ≡ entriesAt two 1 = ap (λ (l : List ℕ). entriesAt l 1) r ∙ put-keeps 2 1 two inter (omega arith) (omega arith) in
+    let q1 : entriesAt two 1 ≡ intra = ap (λ (l : List ℕ). entriesAt l 1) q ∙ put-list 1 one intra a (omega arith) in
+    let r2 : entriesAt three 2 ≡ inter = ap (λ (l : List ℕ). entriesAt l 2) r ∙ put-list 2 two inter e (omega arith) in
+    rw (r0 ∙ q0 ∙ p0, r1 ∙ q1, r2)
+
 module _ (j : ℕ) (lists dcs es : List ℕ) (dc : ℕ) (long : length es ≡ 64) (room : 64 * j + 64 ≤ length lists) (dcs-room : j < length dcs) where
   lists′ : List ℕ
   lists′ = paste lists (64 * j) es (length es)
@@ -39,16 +68,14 @@ module _ (j : ℕ) (lists dcs es : List ℕ) (dc : ℕ) (long : length es ≡ 64
   unfolding lists′
   kept-at k h =
       ap₂ (λ (l : List ℕ) (n : ℕ). record { entries = l; dc = n })
-      (tabulate-cong 64 (λ i. getD lists′ (64 * k + i) 0) (λ i. getD lists (64 * k + i) 0) (λ i b. paste-before lists (64 * j) es (length es) (64 * k + i) (omega arith) (omega arith) (omega arith)))
+      (put-keeps j k lists es h (omega arith))
       (getD-set-other dcs j k dc 0 (λ e. let z : ⊥ = omega arith in z))
 
   new-at : heldAt lists′ (set dcs j dc) j ≡ record { entries = es; dc = dc }
   unfolding lists′
   new-at =
       ap₂ (λ (l : List ℕ) (n : ℕ). record { entries = l; dc = n })
-      (ext-getD 0 (tabulate 64 (λ i. getD lists′ (64 * j + i) 0)) es (tabulate-length 64 _ ∙ sym long)
-      (λ i b. tabulate-getD 64 (λ i. getD lists′ (64 * j + i) 0) i 0 (rw tabulate-length at b)
-      ∙ paste-inside lists (64 * j) es (length es) i (omega arith) (omega arith) (let b′ : i < 64 = rw tabulate-length at b in omega arith)))
+      (put-list j lists es long room)
       (getD-set-same dcs j dc 0 dcs-room)
 
   pub held-more : held (j + 1) (paste lists (64 * j) es (length es)) (set dcs j dc) ≡ held j lists dcs ++ (record { entries = es; dc = dc } ∷ [])

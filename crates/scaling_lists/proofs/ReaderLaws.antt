@@ -3,19 +3,20 @@
 --   lists-out, dcs-out   the buffers from the start on, as the lists that are held
 --   written-got, written-stop   what a call hands back
 --   lengths-accepted, room-accepted   what passes rows 5 and 7
-use mathlib.Core.Path.{_≡_, refl, sym, ap, ap₂, _∙_, subst}
-use mathlib.Core.Bool.{Bool, true, false, not, _||_}
+use mathlib.Core.Path.{_≡_, refl, sym, ap, ap₂, _∙_}
+use mathlib.Core.Bool.{false, _||_}
 use mathlib.Core.List.{List, [], _∷_, _++_}
 use Prim.Native.Nat.{ℕ, suc, _+_, _-_, _*_, _/_, _%_, _≤_, _<_}
 use native.Mathlib.Omega.{arith}
-use borrow.Author.Tests.{eqb-true, ltb-false}
-use lib.Dec.{T, eqb, ltb}
+use borrow.Author.Tests.{eqb-true, ltb-false, not-false}
+use lib.Dec.{ltb}
 use lib.ListN.{length, getD, drop}
 use lib.Seq.{ext-getD, take-length, paste}
 use Rattle.integers.specs.Lists.{tabulate, tabulateFrom, overwrite}
 use Rattle.integers.proofs.ListsLaws.{tabulate-length, tabulate-getD}
 use Rattle.refusal.specs.declared.Refusal.{Refusal}
 use Rattle.refusal.specs.Condition.{listRefused}
+use Rattle.refusal.proofs.ConditionLaws.{neither}
 use Rattle.scaling_lists.specs.declared.ReadAnswer.the-variants.{Read, Refused}
 use Rattle.scaling_lists.specs.Syntax.{Reading, FactorList, Defaults, none, andThen, listCode, listsFrom, scalingListData}
 use Rattle.scaling_lists.specs.Syntax.Reading.{got, stop}
@@ -119,24 +120,12 @@ module _ (lent : Defaults) (bytes lists dcs : List ℕ) where
       }
 
 -- ---- rows 5 and 7
-neither : (s t : Bool) → s || t ≡ false → (s ≡ false) × (t ≡ false)
-neither true t e = absurd (subst T e tt)
-neither false t e = (refl, e)
-
-length-accepted : (n : ℕ) → listRefused n ≡ false → n ≡ 64
-unfolding listRefused
-length-accepted n e = by-test (eqb n 64) refl e
-  where
-    by-test : (b : Bool) → eqb n 64 ≡ b → not b ≡ false → n ≡ 64
-    by-test true p q = eqb-true n 64 p
-    by-test false p q = absurd (subst T q tt)
-
 pub lengths-accepted : (four intra inter : ℕ) → lengthsRefused four intra inter ≡ false → (four ≡ 64) × (intra ≡ 64) × (inter ≡ 64)
-unfolding lengthsRefused
+unfolding lengthsRefused listRefused
 lengths-accepted four intra inter e =
     let a = neither (listRefused four) (listRefused intra || listRefused inter) e in
     let b = neither (listRefused intra) (listRefused inter) (a .1) in
-    (length-accepted four (a .0), length-accepted intra (b .0), length-accepted inter (b .1))
+    (eqb-true four 64 (not-false _ (a .0)), eqb-true intra 64 (not-false _ (b .0)), eqb-true inter 64 (not-false _ (b .1)))
 
 pub room-accepted : (lists dcs : ℕ) → roomRefused lists dcs ≡ false → (1280 ≤ lists) × (20 ≤ dcs)
 unfolding roomRefused

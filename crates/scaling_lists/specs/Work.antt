@@ -4,21 +4,27 @@
 --   listed es r           the same as a list, the number being its DC
 --   Positions ps len      at most 64 positions, each of them below a length
 --   partEnd, partValue r  the offset behind what was read and what it was, else 0
+--   entriesAt xs k        list k of those that stand one behind the other
+--   defaultsIn lent       the defaults that stand so: that of 4×4, intra, inter
+--   defaultNumber s m     which of the three s and m have
+--   entriesTaken          the entries that a reference from list j means, of the defaults or of the lists read
 --   held j lists dcs      the first j lists that stand in two buffers
 --   grown                 one list more, by the answer and the buffers
 --   oneMore               the lists with the next one behind them, as a reading
 --   Lent                  the buffers that reading list j relies on
 --   heldUpTo              the lists as a reading, by the answer and the buffers
 use mathlib.Core.Path.{_≡_}
+use mathlib.Core.Bool.{cond}
 use mathlib.Core.List.{List, [], _∷_, _++_}
-use Prim.Native.Nat.{ℕ, _+_, _*_, _≤_, _<_}
+use Prim.Native.Nat.{ℕ, _+_, _-_, _*_, _≤_, _<_}
+use lib.Dec.{eqb, ltb}
 use lib.ListN.{length, getD}
 use Rattle.integers.specs.Lists.{tabulate}
 use Rattle.scaling_lists.specs.declared.Part.{Part}
 use Rattle.scaling_lists.specs.declared.Part.the-variants.{Value, Refused}
 use Rattle.scaling_lists.specs.declared.ReadAnswer.{ReadAnswer}
 use Rattle.scaling_lists.specs.declared.ReadAnswer.the-variants.{Read, Refused as NotRead}
-use Rattle.scaling_lists.specs.Syntax.{Reading, FactorList, Defaults, andThen, listCode}
+use Rattle.scaling_lists.specs.Syntax.{Reading, FactorList, Defaults, defaults, andThen, matrixStep, sizeId, matrixId, listNumber, defaultFor, listCode}
 use Rattle.scaling_lists.specs.Syntax.Reading.{got, stop}
 
 abbrev pub part : Part → Reading ℕ
@@ -45,8 +51,22 @@ abbrev pub partValue : Part → ℕ
 partValue (Value v behind) = v
 partValue (Refused e) = 0
 
+abbrev pub entriesAt : List ℕ → ℕ → List ℕ
+entriesAt xs k = tabulate 64 (λ i. getD xs (64 * k + i) 0)
+
+unfoldable pub defaultsIn : List ℕ → Defaults
+defaultsIn lent = defaults (entriesAt lent 0) (entriesAt lent 1) (entriesAt lent 2)
+
+unfoldable pub defaultNumber : ℕ → ℕ → ℕ
+defaultNumber s m = cond (eqb s 0) 0 (cond (ltb m 3) 1 2)
+
+unfoldable pub entriesTaken : List ℕ → List ℕ → ℕ → ℕ → List ℕ
+entriesTaken lent lists j delta =
+    cond (eqb delta 0) (defaultFor (defaultsIn lent) (sizeId j) (matrixId j))
+    (entriesAt lists (listNumber (sizeId j) (matrixId j - delta * matrixStep (sizeId j))))
+
 abbrev pub heldAt : List ℕ → List ℕ → ℕ → FactorList
-heldAt lists dcs k = record { entries = tabulate 64 (λ i. getD lists (64 * k + i) 0); dc = getD dcs k 0 }
+heldAt lists dcs k = record { entries = entriesAt lists k; dc = getD dcs k 0 }
 
 unfoldable pub held : ℕ → List ℕ → List ℕ → List FactorList
 held j lists dcs = tabulate j (heldAt lists dcs)
@@ -62,10 +82,8 @@ grown j lists dcs (Refused e) = stop e
 abbrev pub oneMore : Defaults → List ℕ → List FactorList → ℕ → Reading (List FactorList)
 oneMore lent bytes read at = andThen (listCode lent bytes read at) (λ l behind. got (read ++ (l ∷ [])) behind)
 
-pub record Lent (j : ℕ) (four intra inter lists dcs : List ℕ) : Type 0 where
+pub record Lent (j : ℕ) (lent lists dcs : List ℕ) : Type 0 where
   pub inside : j < 20
-  pub four-long : length four ≡ 64
-  pub intra-long : length intra ≡ 64
-  pub inter-long : length inter ≡ 64
+  pub lent-long : length lent ≡ 192
   pub lists-long : length lists ≡ 1280
   pub dcs-long : length dcs ≡ 20

@@ -1,25 +1,12 @@
-// Lists of 64 entries in buffers: one filled from another, one put among others, and the entries of a coded list.
+// Lists of 64 entries in buffers: one put among others, and the entries of a coded list.
 ghost use mathlib.Core.Path.{_≡_};
 ghost use Prim.Native.Nat.{_+_, _*_, _≤_};
-ghost use lib.ListN.{length, getD};
+ghost use lib.ListN.{length};
 ghost use lib.Seq.{paste};
-ghost use Rattle.integers.specs.Lists.{tabulate};
 ghost use Rattle.scaling_lists.specs.Syntax.{entriesFrom};
 ghost use Rattle.scaling_lists.specs.Work.{Positions, filled, partEnd};
 use crate::Part;
 use crate::values;
-
-// All of `to`, from the elements of `from` from an index on.
-pub(crate) fn fill(from: &[u8], base: usize, to: &mut [u8])
-    requires { ⌜ base + length (now to) ≤ length (now from) ⌝ }
-    ensures { λ r. ⌜ now (to .exit) ≡ tabulate (length (now (to .entry))) (λ i. getD (now (from .entry)) (base + i) 0) ⌝ }
-{
-    let mut i: usize = 0;
-    while i < to.len() {
-        to[i] = from[base + i];
-        i += 1;
-    }
-}
 
 // All of `from`, put into `to` from an index on.
 pub(crate) fn put(from: &[u8], to: &mut [u8], base: usize)

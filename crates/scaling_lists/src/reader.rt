@@ -4,7 +4,7 @@ ghost use Prim.Native.Nat.{_≤_};
 ghost use lib.ListN.{length};
 ghost use Rattle.scaling_lists.specs.Syntax.{defaults, scalingListData};
 ghost use Rattle.scaling_lists.specs.Answers.{lengthsRefused, roomRefused, written, listsRead, Reads};
-ghost use Rattle.scaling_lists.specs.Work.{heldUpTo, Lent};
+ghost use Rattle.scaling_lists.specs.Work.{defaultsIn, heldUpTo, Lent};
 use crate::Part;
 use crate::ReadAnswer;
 use crate::list;
@@ -12,21 +12,14 @@ use crate::lists;
 use refusal::Refusal;
 
 // The 20 lists, one behind the other.
-fn read_all(
-    bytes: &[u8],
-    four: &[u8],
-    intra: &[u8],
-    inter: &[u8],
-    lists: &mut [u8],
-    dcs: &mut [u8],
-) -> ReadAnswer
-    requires { ⌜ Lent 0 (now four) (now intra) (now inter) (now lists) (now dcs) ⌝ }
-    ensures { λ r. ⌜ heldUpTo (now (lists .exit)) (now (dcs .exit)) r ≡ scalingListData (defaults (now (four .entry)) (now (intra .entry)) (now (inter .entry))) (now (bytes .entry)) ⌝ }
+fn read_all(bytes: &[u8], lent: &[u8], lists: &mut [u8], dcs: &mut [u8]) -> ReadAnswer
+    requires { ⌜ Lent 0 (now lent) (now lists) (now dcs) ⌝ }
+    ensures { λ r. ⌜ heldUpTo (now (lists .exit)) (now (dcs .exit)) r ≡ scalingListData (defaultsIn (now (lent .entry))) (now (bytes .entry)) ⌝ }
 {
     let mut at: usize = 0;
     let mut j: usize = 0;
     while j < 20 {
-        let read = list::read_next(bytes, at, j, four, intra, inter, lists, dcs);
+        let read = list::read_next(bytes, at, j, lent, lists, dcs);
         match read {
             Part::Refused(why) => {
                 return ReadAnswer::Refused(why);
@@ -40,7 +33,7 @@ fn read_all(
     ReadAnswer::Read(at)
 }
 
-// The same, handed out at the start of the caller's buffers.
+// The same with the three defaults in one buffer, handed out at the start of the caller's.
 fn read_within(
     bytes: &[u8],
     four: &[u8],
@@ -52,9 +45,13 @@ fn read_within(
     requires { ⌜ (length (now four) ≡ 64) × (length (now intra) ≡ 64) × (length (now inter) ≡ 64) × (1280 ≤ length (now lists)) × (20 ≤ length (now dcs)) ⌝ }
     ensures { λ r. ⌜ Reads r (now (lists .exit)) (now (dcs .exit)) (written (now (lists .entry)) (now (dcs .entry)) (scalingListData (defaults (now (four .entry)) (now (intra .entry)) (now (inter .entry))) (now (bytes .entry)))) ⌝ }
 {
+    let mut lent = [0u8; 192];
+    lists::put(four, &mut lent, 0);
+    lists::put(intra, &mut lent, 64);
+    lists::put(inter, &mut lent, 128);
     let mut held = [0u8; 1280];
     let mut held_dcs = [0u8; 20];
-    let read = read_all(bytes, four, intra, inter, &mut held, &mut held_dcs);
+    let read = read_all(bytes, &lent, &mut held, &mut held_dcs);
     match read {
         ReadAnswer::Read(bits) => {
             lists::put(&held, lists, 0);

@@ -2,7 +2,8 @@
 use mathlib.Core.Path.{sym, ap, _∙_}
 use native.Mathlib.Omega.{arith}
 use lib.ListN.{length}
-use Rattle.scaling_lists.specs.Syntax.{defaults, sizeId}
+use Rattle.scaling_lists.specs.Syntax.{sizeId}
+use Rattle.scaling_lists.specs.Work.{defaultsIn}
 use Rattle.scaling_lists.proofs.ListLaws.{list-taken, list-coded, list-ended}
 use borrow.Author.Needs.{needs}
 use Rattle.scaling_lists.proofs.list.read_list.Statement.{statement}
@@ -19,7 +20,7 @@ add-taken-over c = search needs
 
 taken-over-requires : tie.Need-taken-over-requires
 taken-over-requires c κs =
-    let a = c .before .before .before .before .before .before .before .before .before .before .before .before in
+    let a = c .before .before .before .before .before .before .before .before .before .before in
     (a .pre .0, ap length (a .pre .1), omega (arith, a .pre .2))
 
 same-length : tie.Need-same-length
@@ -27,9 +28,9 @@ same-length c = search needs
 
 returns : tie.Need-returns
 returns c =
-    let a = c .before .before .before .before .before .before .before .before .before .before .before .before .before .before .before .args in
+    let a = c .before .before .before .before .before .before .before .before .before .before .before .before .before .args in
     let t = c .before .before .taken-over in
-    (t .ensures .0 ∙ list-taken (defaults (a .four .now) (a .intra .now) (a .inter .now)) (a .bytes .now) (a .j) (a .lists .now) (a .dcs .now) (a .at) (sym (c .before .before .before .before .before .before .before .is-there .ensures) ∙ c .before .before .before .before .before .before .if1 .taken) (sym (c .before .before .before .before .before .bit .ensures) ∙ c .before .before .before .before .if2 .taken), omega (arith, t .ensures .1))
+    (t .ensures .0 ∙ list-taken (defaultsIn (a .lent .now)) (a .bytes .now) (a .j) (a .lists .now) (a .dcs .now) (a .at) (sym (c .before .before .before .before .before .before .before .is-there .ensures) ∙ c .before .before .before .before .before .before .if1 .taken) (sym (c .before .before .before .before .before .bit .ensures) ∙ c .before .before .before .before .if2 .taken), omega (arith, t .ensures .1))
 
 add-coded-list : tie.Need-add-coded-list
 add-coded-list c = search needs
@@ -43,14 +44,14 @@ same-length-2 c = search needs
 returns-2 : tie.Need-returns-2
 unfolding sizeId
 returns-2 c =
-    let a = c .before .before .before .before .before .before .before .before .before .before .before .before .before .before .before .args in
+    let a = c .before .before .before .before .before .before .before .before .before .before .before .before .before .args in
     let t = c .before .before .coded-list in
-    (t .ensures .0 ∙ list-coded (defaults (a .four .now) (a .intra .now) (a .inter .now)) (a .bytes .now) (a .j) (a .lists .now) (a .dcs .now) (a .at) (sym (c .before .before .before .before .before .before .before .is-there .ensures) ∙ c .before .before .before .before .before .before .if1 .taken) (λ e. c .before .before .before .before .if2 .left (c .before .before .before .before .before .bit .ensures ∙ e)), omega (arith, t .ensures .1))
+    (t .ensures .0 ∙ list-coded (defaultsIn (a .lent .now)) (a .bytes .now) (a .j) (a .lists .now) (a .dcs .now) (a .at) (sym (c .before .before .before .before .before .before .before .is-there .ensures) ∙ c .before .before .before .before .before .before .if1 .taken) (λ e. c .before .before .before .before .if2 .left (c .before .before .before .before .before .bit .ensures ∙ e)), omega (arith, t .ensures .1))
 
 returns-3 : tie.Need-returns-3
 returns-3 c =
-    let a = c .before .before .before .before .before .before .before .before .before .args in
-    (list-ended (defaults (a .four .now) (a .intra .now) (a .inter .now)) (a .bytes .now) (a .j) (a .lists .now) (a .dcs .now) (a .at) (sym (c .before .is-there .ensures) ∙ c .if1 .left), omega arith)
+    let a = c .before .before .before .before .before .before .before .args in
+    (list-ended (defaultsIn (a .lent .now)) (a .bytes .now) (a .j) (a .lists .now) (a .dcs .now) (a .at) (sym (c .before .is-there .ensures) ∙ c .if1 .left), omega arith)
 
 pub read-list-spec : {M : Type 1} → statement M
 read-list-spec =

@@ -1,7 +1,6 @@
 -- `scaling_lists::list::read_next` meets its contract: the list that was read stands behind the others.
 use native.Mathlib.Omega.{arith}
-use Rattle.scaling_lists.specs.Syntax.{defaults}
-use Rattle.scaling_lists.specs.Work.{held}
+use Rattle.scaling_lists.specs.Work.{defaultsIn, held}
 use Rattle.scaling_lists.proofs.HeldLaws.{grown-got, grown-stop}
 use borrow.Author.Needs.{needs}
 use Rattle.scaling_lists.proofs.list.read_next.Statement.{statement}
@@ -39,10 +38,10 @@ same-length-2 c = search needs
 
 returns : tie.Need-returns
 returns c =
-    let a = c .before .before .before .before .before .before .before .before .before .before .before .before .before .before .before .before .before .before .before in
+    let a = c .before .before .before .before .before .before .before .before .before .before .before .before .before .before .before .before .before in
     let l = c .before .before .before .before .before .before .before .before .before .read-list in
     let e = c .before .before .before .before .before .before .read .given .1 in
-    (rw (c .before .before .put .ensures) (grown-got (a .args .j) (a .args .lists .now) (a .args .dcs .now) _ _ (l .kept .1 .1 .1 .1 .1 .1 .1 .1 .0) (omega (arith, a .pre .0 .inside, a .pre .0 .lists-long)) (omega (arith, a .pre .0 .inside, a .pre .0 .dcs-long)) (defaults (a .args .four .now) (a .args .intra .now) (a .args .inter .now)) (a .args .bytes .now) (a .args .at) _ (rw e at (l .ensures .0))), rw e at (l .ensures .1))
+    (rw (c .before .before .put .ensures) (grown-got (a .args .j) (a .args .lists .now) (a .args .dcs .now) _ _ (l .kept .1 .1 .1 .1 .1 .1 .0) (omega (arith, a .pre .0 .inside, a .pre .0 .lists-long)) (omega (arith, a .pre .0 .inside, a .pre .0 .dcs-long)) (defaultsIn (a .args .lent .now)) (a .args .bytes .now) (a .args .at) _ (rw e at (l .ensures .0))), rw e at (l .ensures .1))
 
 same-length-3 : tie.Need-same-length-3
 same-length-3 c = search needs
@@ -52,8 +51,8 @@ same-length-4 c = search needs
 
 returns-2 : tie.Need-returns-2
 returns-2 c =
-    let a = c .before .before .before .before .before .before .before .before .before .before .before .before .before .before in
-    (grown-stop (defaults (a .args .four .now) (a .args .intra .now) (a .args .inter .now)) (a .args .bytes .now) (held (a .args .j) (a .args .lists .now) (a .args .dcs .now)) (a .args .at) _ (rw (c .before .read2 .given .1) at (c .before .before .before .before .read-list .ensures .0)), omega arith)
+    let a = c .before .before .before .before .before .before .before .before .before .before .before .before in
+    (grown-stop (defaultsIn (a .args .lent .now)) (a .args .bytes .now) (held (a .args .j) (a .args .lists .now) (a .args .dcs .now)) (a .args .at) _ (rw (c .before .read2 .given .1) at (c .before .before .before .before .read-list .ensures .0)), omega arith)
 
 pub read-next-spec : {M : Type 1} → statement M
 read-next-spec =
