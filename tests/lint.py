@@ -11,6 +11,9 @@ INTERNAL = {"integers", "coefficients", "scaling_values", "scaling_blocks", "lis
 # each function calls one entry point and cites its definition, so that entry point's edits stand for it too
 WRAPPERS = {"c_api"}
 
+# what the programs of cases share, no part of the library: it reads and writes, of which no contract can speak
+SUPPORT = {"cases"}
+
 # in halves, so that the rule does not find itself
 MARKS = re.compile(r"\b(" + "|".join(("TO" "DO", "FIX" "ME", "X" "XX")) + r")\b")
 
@@ -54,7 +57,7 @@ def crate_rules():
         if folder.name not in listed:
             say("a crate folder that crates.txt does not list", folder)
         edits = [e.name for e in (folder / "must-fail").glob("*.edit")] if (folder / "must-fail").exists() else []
-        if not (folder / "src" / "lib.rt").exists():
+        if not (folder / "src" / "lib.rt").exists() or folder.name in SUPPORT:
             continue
         for source in sorted((folder / "src").rglob("*.rt")):
             for name, words in heads(source.read_text()):
