@@ -34,14 +34,10 @@ use Rattle.level_search.specs.Found.{blockFound}
 use Rattle.level_search.specs.Work.{missesAt, firstMiss}
 
 -- ---- m
-size-kept : (n : ℕ) → T (isSize n) → sizeRefused n ≡ false
-unfolding sizeRefused
-size-kept n t = size-cases (λ m. sizeRefused m ≡ false) refl refl refl refl n t
-
 module _ (es : List ℕ) (d n i : ℕ) (w : WholeList (length es) n) (h : i < n * n) where
   coeff-accepted : scalingCoeff es d n i ≡ accepted (scalingFactor (listed es d) n i)
-  unfolding scalingCoeff listRefused
-  coeff-accepted = simp (size-kept n (w .size), eq-eqb (length es) 64 (w .whole), lt-leb (n * n) i h)
+  unfolding scalingCoeff sizeRefused listRefused
+  coeff-accepted = simp (size-cases (λ m. sizeRefused m ≡ false) refl refl refl refl n (w .size), eq-eqb (length es) 64 (w .whole), lt-leb (n * n) i h)
 
   pub coeff-factor : {m : ℕ} → accepted m ≡ scalingCoeff es d n i → m ≡ scalingFactor (listed es d) n i
   coeff-factor e = ap (λ (o : Outcome ℕ). o .value) (e ∙ coeff-accepted)

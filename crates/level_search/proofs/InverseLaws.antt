@@ -1,6 +1,7 @@
 -- What a search for levels hands back, beside scaling: the statements of specs/Inverse.antt.
 --   least-level-is-unique              two levels of least size that give one coefficient are equal
 --   refuses-where-a-level-is-missing   past the checks up to 7, a call refuses exactly where some coefficient has no level
+--   levels-found-are-least             what a call leaves at an index is the level of least size that gives the coefficient
 --   levels-scale-back                  the block that is scaled from the levels found is the block that was given
 use mathlib.Core.Path.{_≡_, refl, sym, ap, _∙_}
 use mathlib.Core.Logic.{_↔_}
@@ -30,8 +31,9 @@ use Rattle.refusal.proofs.LadderLaws.Rung.{rung}
 use Rattle.parameters.specs.Parameters.{KnownSize}
 use Rattle.scaling_blocks.specs.Blocks.{bits32, entriesOf, blockLadder, blockWritten, dequantized}
 use Rattle.scaling_blocks.proofs.BlockLaws.{rungs}
+use Rattle.level_search.specs.Level.{LeastLevel}
 use Rattle.level_search.specs.Found.{scalingAt, missingAt, firstMissing, leastAt, blockFound, levelsFound, Missing}
-use Rattle.level_search.specs.Inverse.{checked, LeastLevelIsUnique, RefusesWhereALevelIsMissing, LevelsScaleBack}
+use Rattle.level_search.specs.Inverse.{checked, LeastLevelIsUnique, RefusesWhereALevelIsMissing, LevelsFoundAreLeast, LevelsScaleBack}
 use Rattle.level_search.proofs.LevelLaws.{clash, missing-none, missing-all, leastLevel-found, leastLevel-unique}
 use Rattle.level_search.proofs.FoundLaws.{scalingAt-scales}
 
@@ -48,10 +50,6 @@ overwrite-same k f xs h e = ext-getD (pos 0) (overwrite k f xs) xs (overwrite-le
     by-place : (i : ℕ) (t : Bool) → ltb i k ≡ t → getD (overwrite k f xs) i (pos 0) ≡ getD xs i (pos 0)
     by-place i true d = let l : i < k = ltb-true i k d in overwrite-getD k f xs i (pos 0) l ∙ e i l
     by-place i false d = overwrite-getD-past k f xs i (pos 0) (ltb-false i k d)
-
-room : (n len : ℕ) → blockRefused n len ≡ false → n * n ≤ len
-unfolding blockRefused
-room n len e = ltb-false len (n * n) e
 
 -- ---- what stands below the checks
 module _ (n first : ℕ) (at : ℕ → ℤ) (out : List ℤ) where
@@ -131,28 +129,28 @@ module _ (list : ScalingList) (n : ℕ) (q : ℤ) (b : ℕ) (x : Bool) (coeff ou
         let w = found-wrote n (firstMissing list n b x q coeff) (leastAt list n b x q coeff) out (sym (ap (λ (w : Written). w .answer .number) e) ∙ z) in
         (w .0, ap (λ (w : Written). w .out) e ∙ w .1)
 
-    scales-at : (i : ℕ) → i < n * n → scalingAt list n b x q i (leastAt list n b x q coeff i) ≡ getD coeff i (pos 0)
+    least-at : (i : ℕ) → i < n * n → LeastLevel (scalingAt list n b x q i) (transformRange b x) (getD coeff i (pos 0)) (getD after i (pos 0))
     unfolding missingAt leastAt
-    scales-at i h =
-        leastLevel-found (scalingAt list n b x q i) (transformRange b x) (getD coeff i (pos 0)) (first-missing .before .at i (omega (arith, h, written .0))) .gives .scales
+    least-at i h =
+        rw (written .1, overwrite-getD (n * n) (leastAt list n b x q coeff) out i (pos 0) h)
+        (leastLevel-found (scalingAt list n b x q i) (transformRange b x) (getD coeff i (pos 0)) (first-missing .before .at i (omega (arith, h, written .0))))
 
     scaled-back : (i : ℕ) → i < n * n → scaledAt list n b x q after i ≡ getD coeff i (pos 0)
     unfolding scaledAt scalingAt
-    scaled-back i h =
-        ap (scalingAt list n b x q i) (ap (λ (l : List ℤ). getD l i (pos 0)) (written .1) ∙ overwrite-getD (n * n) (leastAt list n b x q coeff) out i (pos 0) h)
-        ∙ scales-at i h
+    scaled-back i h = least-at i h .gives .scales
 
     after-length : length after ≡ length out
+    unfolding blockRefused
     after-length =
-        ap length (written .1) ∙ overwrite-length (n * n) (leastAt list n b x q coeff) out (room n (length out) (passed .1 .1 .1 .1 .1 .0))
+        ap length (written .1) ∙ overwrite-length (n * n) (leastAt list n b x q coeff) out (ltb-false (length out) (n * n) (passed .1 .1 .1 .1 .1 .0))
 
     scale-back : dequantized bits32 list n q b x after coeff ≡ wrote coeff
-    unfolding dequantized blockWritten blockLadder
+    unfolding dequantized blockWritten blockLadder blockRefused
     scale-back =
         let p = passed in
         first-passed (left coeff) (wrote (overwrite (n * n) (scaledAt list n b x q after) coeff)) (rungs bits32 n b x (entriesOf list) (length after) (length coeff))
         (p .0, (p .1 .0, (p .1 .1 .0, (p .1 .1 .1 .0, (ap (blockRefused n) after-length ∙ p .1 .1 .1 .1 .1 .0, (p .1 .1 .1 .1 .0, tt))))))
-        ∙ ap wrote (overwrite-same (n * n) (scaledAt list n b x q after) coeff (room n (length coeff) (p .1 .1 .1 .1 .0)) scaled-back)
+        ∙ ap wrote (overwrite-same (n * n) (scaledAt list n b x q after) coeff (ltb-false (length coeff) (n * n) (p .1 .1 .1 .1 .0)) scaled-back)
 
 -- ---- the statements
 known-size : (n b : ℕ) → T (isSize n) → (8 ≤ b) × (b ≤ 16) → KnownSize (log2Size n) b
@@ -169,3 +167,6 @@ refuses-where-a-level-is-missing list n q b x coeff out h =
 
 pub levels-scale-back : LevelsScaleBack
 levels-scale-back list n q b x coeff out z = scale-back list n q b x coeff out z
+
+pub levels-found-are-least : LevelsFoundAreLeast
+levels-found-are-least list n q b x coeff out z = least-at list n q b x coeff out z

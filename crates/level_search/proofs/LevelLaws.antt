@@ -9,7 +9,7 @@
 --   leastLevel-unique               two levels of least size that give one coefficient are equal
 --   leastLevel-eq                   so that a level which is one is `leastLevel`
 use mathlib.Core.Path.{_≡_, refl, sym, ap, subst, _∙_}
-use mathlib.Core.Bool.{Bool, true, false, not, _&&_, _||_, cond}
+use mathlib.Core.Bool.{Bool, true, false, not, _||_, cond, and-eq-true-iff}
 use Prim.Native.Nat.{ℕ, suc, _^_, _≤_}
 use native.Mathlib.Omega.{arith}
 use borrow.Author.Tests.{eqb-true, eq-eqb, ltb-true, ltb-false, lt-ltb, not-true, not-false}
@@ -41,10 +41,6 @@ unfolding equal
 equal-refl (pos a) = eq-eqb a a refl
 equal-refl (negsuc a) = eq-eqb a a refl
 
-both : (s t : Bool) → s && t ≡ true → (s ≡ true) × (t ≡ true)
-both true t e = (refl, e)
-both false t e = clash refl e
-
 either : (s t : Bool) → t ≡ true → s || t ≡ true
 either true t e = refl
 either false t e = e
@@ -70,7 +66,7 @@ module _ (f : ℤ → ℤ) (r : ℕ) (x : ℤ) where
   pub gives-sound : (v : ℤ) → gives f r x v ≡ true → Gives f r x v
   unfolding gives
   gives-sound v e =
-      let h = both (not (outsideRange r v)) (equal (f v) x) e in
+      let h = and-eq-true-iff (not (outsideRange r v)) (equal (f v) x) .0 e in
       record { inside = not-true (outsideRange r v) (h .0); scales = equal-sound (f v) x (h .1) }
 
   pub gives-complete : (v : ℤ) → Gives f r x v → gives f r x v ≡ true

@@ -30,9 +30,6 @@ pub clipCoeff-mono : (r : ℕ) {u v : ℤ} → u ≤ℤ v → clipCoeff r u ≤�
 unfolding clipCoeff
 clipCoeff-mono r h = clip3-mono _ _ (coeffMin-≤-coeffMax r) h
 
-clipCoeff-zero : (r : ℕ) → clipCoeff r (pos 0) ≡ pos 0
-clipCoeff-zero r = let h = outsideRange-false r (pos 0) (zero-inside r) in clipCoeff-id r (pos 0) (h .0) (h .1)
-
 times-mono : {u v : ℤ} (k : ℕ) → u ≤ℤ v → (u *ℤ pos k) ≤ℤ (v *ℤ pos k)
 times-mono {u} {v} k h = rw (*ℤ-comm u (pos k), *ℤ-comm v (pos k)) (*ℤ-mono k h)
 
@@ -49,9 +46,11 @@ scaledValue-zero s q m h =
 pub scaleLevel-scales : (r s q m : ℕ) → 1 ≤ s → Scales (scaleLevel r s q m)
 unfolding scaleLevel
 scaleLevel-scales r s q m h =
+    let i = outsideRange-false r (pos 0) (zero-inside r) in
+    let z : clipCoeff r (pos 0) ≡ pos 0 = clipCoeff-id r (pos 0) (i .0) (i .1) in
     record {
       mono = λ u v k. clipCoeff-mono r (scaledValue-mono s q m (clipCoeff-mono r k));
-      zero = rw (clipCoeff-zero r, scaledValue-zero s q m h) (clipCoeff-zero r);
+      zero = rw (z, scaledValue-zero s q m h) z;
     }
 
 pub scales-cong : {f g : ℤ → ℤ} → ((v : ℤ) → f v ≡ g v) → Scales g → Scales f

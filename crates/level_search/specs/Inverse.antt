@@ -2,15 +2,16 @@
 --   checked                       the number of the first refusal up to 7 that applies to a call, and 0 where none does
 --   LeastLevelIsUnique            least-level-is-unique: at every index of a block, two levels of least size that give one coefficient are equal
 --   RefusesWhereALevelIsMissing   refuses-where-a-level-is-missing: past the checks up to 7, a call refuses exactly where some coefficient has no level
+--   LevelsFoundAreLeast           levels-found-are-least: at every index, what a call that answered 0 leaves is the level of least size that gives the coefficient
 --   LevelsScaleBack               levels-scale-back: the block scaled from the levels of a call that answered 0 is the block that was given
 use mathlib.Core.Path.{_≡_}
 use mathlib.Core.Logic.{_↔_}
 use mathlib.Core.Bool.{Bool}
 use mathlib.Core.List.{List}
-use Prim.Native.Nat.{ℕ, _≤_}
+use Prim.Native.Nat.{ℕ, _*_, _≤_, _<_}
 use lib.Dec.{T}
-use lib.IntN.{ℤ}
-use lib.ListN.{length}
+use lib.IntN.{ℤ, pos}
+use lib.ListN.{length, getD}
 use Rattle.h265.specs.Range.{isSize, transformRange}
 use Rattle.h265.specs.ScalingFactor.{ScalingList}
 use Rattle.refusal.specs.Refusal.{number}
@@ -35,6 +36,13 @@ RefusesWhereALevelIsMissing =
     (list : ScalingList) (n : ℕ) (q : ℤ) (b : ℕ) (x : Bool) (coeff out : List ℤ)
     → checked list n b x (length coeff) (length out) ≡ 0
     → (levelsFound list n q b x coeff out .answer .number ≡ 0 → ⊥) ↔ Missing list n b x q coeff
+
+abbrev pub LevelsFoundAreLeast : Type 0
+LevelsFoundAreLeast =
+    (list : ScalingList) (n : ℕ) (q : ℤ) (b : ℕ) (x : Bool) (coeff out : List ℤ)
+    → levelsFound list n q b x coeff out .answer .number ≡ 0
+    → (i : ℕ) → i < n * n
+    → LeastLevel (scalingAt list n b x q i) (transformRange b x) (getD coeff i (pos 0)) (getD (levelsFound list n q b x coeff out .out) i (pos 0))
 
 abbrev pub LevelsScaleBack : Type 0
 LevelsScaleBack =
