@@ -207,8 +207,8 @@ def a_list(name, setting, buffers, rows, columns, values, lengths):
     for i in range(edits):
         own, count, after = edited(setting, count, after, rows[i], columns[i], values[i])
         told[0][i], told[1][i], told[2][i] = own[0], own[2], own[3]
-    case = lent(buffers) + b"".join(short(len(part)) for part in (rows, columns, values))
-    case += bytes(min(r, 255) for r in rows) + bytes(min(c, 255) for c in columns) + wide(values) + b"".join(map(short, lengths))
+    eight = [(part + [0] * 8)[:8] for part in (rows, columns, values)]
+    case = lent(buffers) + bytes(eight[0]) + bytes(eight[1]) + wide(eight[2]) + b"".join(short(n) for n in (len(rows), len(columns), len(values), *lengths))
     add(f"list {setting.text()}, {name}:", LIST, setting, case, shown(*answer, *record(setting, count), edits, *told, *after))
 
 

@@ -5,7 +5,7 @@ use edited_block::EditedBlock;
 use refusal::Answer;
 use transform_1d::Kind;
 
-pub fn same(xs: &[i32], ys: &[i32]) -> bool {
+fn same(xs: &[i32], ys: &[i32]) -> bool {
     if xs.len() != ys.len() {
         return false;
     }
@@ -64,14 +64,14 @@ fn decode(setting: Setting, coeff: &[i32], out: &mut [i32]) -> Answer {
 }
 
 // Whether a residual, with the marks after it, is a fresh decode of the coefficients.
-pub fn is_decoded(setting: Setting, coeff: &[i32], residual: &[i32]) -> bool {
+fn is_decoded(setting: Setting, coeff: &[i32], residual: &[i32]) -> bool {
     let mut out = [7i32; 1040];
     let answer = decode(setting, coeff, &mut out);
     is_done(answer) && same(&out, residual)
 }
 
 // Whether record and intermediate are those of a fresh opening on the coefficients, whose own residual is to be a decode.
-pub fn is_opened(setting: Setting, block: EditedBlock, coeff: &[i32], inter: &[i32]) -> bool {
+fn is_opened(setting: Setting, block: EditedBlock, coeff: &[i32], inter: &[i32]) -> bool {
     let mut out = [7i32; 1040];
     let mut residual = [7i32; 1040];
     let opened = settings::open(setting, coeff, &mut out, &mut residual);
@@ -79,4 +79,28 @@ pub fn is_opened(setting: Setting, block: EditedBlock, coeff: &[i32], inter: &[i
     let record = same_record(opened.block, block);
     let decoded = is_decoded(setting, coeff, &residual);
     is_done(answer) && record && decoded && same(&out, inter)
+}
+
+// Whether three buffers and a record are what a fresh opening on the coefficients gives.
+pub fn is_fresh(
+    setting: Setting,
+    block: EditedBlock,
+    kept: &[i32],
+    coeff: &[i32],
+    inter: &[i32],
+    residual: &[i32],
+) -> bool {
+    let held = same(coeff, kept) && is_opened(setting, block, kept, inter);
+    held && is_decoded(setting, kept, residual)
+}
+
+pub fn same_buffers(
+    coeff: &[i32],
+    inter: &[i32],
+    residual: &[i32],
+    other_coeff: &[i32],
+    other_inter: &[i32],
+    other_residual: &[i32],
+) -> bool {
+    same(coeff, other_coeff) && same(inter, other_inter) && same(residual, other_residual)
 }

@@ -1,13 +1,21 @@
-// An opening and a list of edits in one call. A case goes on with the lengths of the three buffers, two bytes each, and what they hold; in the same way the rows,
-// columns and values of the edits, where a row or column is a byte and 255 the largest number there is; and the lengths of the slices for
-// numbers, rows and columns of the answers, which hold 77.
-// The text goes on with the opening's answer, the record handed back, how many edits were given, the answers' slices, coefficients, intermediate and residual.
+// An opening and a list of edits in one call. A case goes on with eight rows, columns and values, where a row or column is a byte and 255 the largest number there is;
+// then the lengths, two bytes each, of the slices that are lent: rows, columns and values, and numbers, rows and columns of the answers, which hold 77. The text goes
+// on with the opening's answer, the record handed back, how many edits were given, the answers' slices, coefficients, intermediate and residual.
+ghost use Prim.Native.Nat.{_≤_};
 use crate::settings;
 use crate::settings::Setting;
 use edited_list::Listed;
 use libc::STDIN_FILENO;
 
-pub fn open_and_edit(
+fn put_listed(listed: Listed) {
+    let answer = listed.answer;
+    cases::put_answer(answer);
+    settings::put_record(listed.block);
+    cases::put(listed.edits as u64);
+}
+
+// One call, with its answers.
+pub fn call(
     setting: Setting,
     coeff: &mut [i32],
     inter: &mut [i32],
@@ -18,9 +26,9 @@ pub fn open_and_edit(
     numbers: &mut [u8],
     named: &mut [u8],
     across: &mut [u8],
-) -> Listed {
+) {
     let kind = setting.kind;
-    edited_list::open_and_edit(
+    put_listed(edited_list::open_and_edit(
         kind,
         setting.n,
         setting.bit_depth,
@@ -34,19 +42,30 @@ pub fn open_and_edit(
         numbers,
         named,
         across,
-    )
-}
-
-pub fn put_listed(listed: Listed, numbers: &[u8], named: &[u8], across: &[u8]) {
-    let answer = listed.answer;
-    cases::put_answer(answer);
-    settings::put_record(listed.block);
-    cases::put(listed.edits as u64);
+    ));
     cases::put_bytes(numbers);
     cases::put_bytes(named);
     cases::put_bytes(across);
 }
 
+// A length of at most eight.
+fn next_length() -> usize
+    ensures { λ r. ⌜ r ≤ 8 ⌝ }
+{
+    let n = cases::next_short(STDIN_FILENO);
+    if n <= 8 {
+        return n;
+    }
+    8
+}
+
+fn put_buffers(coeff: &[i32], inter: &[i32], residual: &[i32]) {
+    cases::put_wide(coeff);
+    cases::put_wide(inter);
+    cases::put_wide(residual);
+}
+
+// With answers as long as the case says.
 fn answered(
     setting: Setting,
     coeff: &mut [i32],
@@ -55,80 +74,14 @@ fn answered(
     rows: &[usize],
     columns: &[usize],
     values: &[i32],
-    numbers: &mut [u8],
-    named: &mut [u8],
-    across: &mut [u8],
 ) {
-    let listed = open_and_edit(
-        setting,
-        coeff,
-        inter,
-        residual,
-        rows,
-        columns,
-        values,
-        numbers,
-        named,
-        across,
-    );
-    put_listed(listed, numbers, named, across);
-    cases::put_wide(coeff);
-    cases::put_wide(inter);
-    cases::put_wide(residual);
-}
-
-// With slices for the answers as long as the case says.
-fn cut_answers(
-    setting: Setting,
-    coeff: &mut [i32],
-    inter: &mut [i32],
-    residual: &mut [i32],
-    rows: &[usize],
-    columns: &[usize],
-    values: &[i32],
-    numbers: &mut [u8],
-    named: &mut [u8],
-    across: &mut [u8],
-) {
-    let a = cases::next_short(STDIN_FILENO);
-    let b = cases::next_short(STDIN_FILENO);
-    let c = cases::next_short(STDIN_FILENO);
-    if a <= numbers.len() {
-        if b <= named.len() {
-            if c <= across.len() {
-                answered(
-                    setting,
-                    coeff,
-                    inter,
-                    residual,
-                    rows,
-                    columns,
-                    values,
-                    &mut numbers[0..a],
-                    &mut named[0..b],
-                    &mut across[0..c],
-                );
-            }
-        }
-    }
-}
-
-fn with_edits(
-    setting: Setting,
-    coeff: &mut [i32],
-    inter: &mut [i32],
-    residual: &mut [i32],
-    rows: &mut [usize],
-    columns: &mut [usize],
-    values: &mut [i32],
-) {
-    cases::read_short(STDIN_FILENO, rows);
-    cases::read_short(STDIN_FILENO, columns);
-    cases::read_wide(STDIN_FILENO, values);
     let mut numbers = [77u8; 8];
     let mut named = [77u8; 8];
     let mut across = [77u8; 8];
-    cut_answers(
+    let a = next_length();
+    let b = next_length();
+    let c = next_length();
+    call(
         setting,
         coeff,
         inter,
@@ -136,53 +89,30 @@ fn with_edits(
         rows,
         columns,
         values,
-        &mut numbers,
-        &mut named,
-        &mut across,
+        &mut numbers[0..a],
+        &mut named[0..b],
+        &mut across[0..c],
     );
-}
-
-// With as many rows, columns and values as the case says.
-fn cut_edits(
-    setting: Setting,
-    coeff: &mut [i32],
-    inter: &mut [i32],
-    residual: &mut [i32],
-    rows: &mut [usize],
-    columns: &mut [usize],
-    values: &mut [i32],
-) {
-    let a = cases::next_short(STDIN_FILENO);
-    let b = cases::next_short(STDIN_FILENO);
-    let c = cases::next_short(STDIN_FILENO);
-    if a <= rows.len() {
-        if b <= columns.len() {
-            if c <= values.len() {
-                with_edits(
-                    setting,
-                    coeff,
-                    inter,
-                    residual,
-                    &mut rows[0..a],
-                    &mut columns[0..b],
-                    &mut values[0..c],
-                );
-            }
-        }
-    }
+    put_buffers(coeff, inter, residual);
 }
 
 pub fn list(setting: Setting, coeff: &mut [i32], inter: &mut [i32], residual: &mut [i32]) {
     let mut rows = [0usize; 8];
     let mut columns = [0usize; 8];
     let mut values = [0i32; 8];
-    cut_edits(
+    cases::read_short(STDIN_FILENO, &mut rows);
+    cases::read_short(STDIN_FILENO, &mut columns);
+    cases::read_wide(STDIN_FILENO, &mut values);
+    let a = next_length();
+    let b = next_length();
+    let c = next_length();
+    answered(
         setting,
         coeff,
         inter,
         residual,
-        &mut rows,
-        &mut columns,
-        &mut values,
+        &rows[0..a],
+        &columns[0..b],
+        &values[0..c],
     );
 }

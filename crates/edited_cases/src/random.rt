@@ -92,8 +92,7 @@ fn turn(
     cases::put_answer(answer);
     cases::put(after.columns as u64);
     keep(compare::is_done(answer), edit, kept);
-    let held = compare::same(coeff, kept) && compare::is_opened(setting, after, kept, inter);
-    let right = held && compare::is_decoded(setting, kept, residual);
+    let right = compare::is_fresh(setting, after, kept, coeff, inter, residual);
     Turned {
         block: after,
         right,
@@ -147,7 +146,7 @@ fn play_list(
     let mut across = [77u8; 100];
     let mut other_inter = [7i32; 1040];
     let mut other_residual = [7i32; 1040];
-    let listed = lists::open_and_edit(
+    lists::call(
         setting,
         begun,
         &mut other_inter,
@@ -159,9 +158,14 @@ fn play_list(
         &mut named,
         &mut across,
     );
-    lists::put_listed(listed, &numbers, &named, &across);
-    let held = compare::same(begun, coeff) && compare::same(&other_inter, inter);
-    cases::put_same(held && compare::same(&other_residual, residual));
+    cases::put_same(compare::same_buffers(
+        begun,
+        &other_inter,
+        &other_residual,
+        coeff,
+        inter,
+        residual,
+    ));
 }
 
 fn read_block(coeff: &mut [i32]) {
