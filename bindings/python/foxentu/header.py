@@ -20,18 +20,18 @@ SCALARS = {
 
 
 class Parameter:
-    """One argument: its name, its type, and whether it is a pointer to elements of that type."""
+    """One argument: its name, its type as a word of C and for ctypes, and whether it is a pointer to elements of that type."""
 
-    def __init__(self, name, kind, pointer, constant):
-        self.name, self.kind, self.pointer, self.constant = name, kind, pointer, constant
+    def __init__(self, name, word, kind, pointer, constant):
+        self.name, self.word, self.kind, self.pointer, self.constant = name, word, kind, pointer, constant
 
     def ctype(self):
         return ctypes.POINTER(self.kind) if self.pointer else self.kind
 
 
 class Function:
-    def __init__(self, name, result, parameters):
-        self.name, self.result, self.parameters = name, result, parameters
+    def __init__(self, name, word, result, parameters):
+        self.name, self.word, self.result, self.parameters = name, word, result, parameters
 
 
 class Refusal:
@@ -63,7 +63,7 @@ class Header:
         for body, name in re.findall(r"typedef struct(?:\s+\w+)?\s*\{([^{}]*)\}\s*(\w+);", text):
             self.structs[name] = self._struct(name, body, where)
         for result, name, arguments in re.findall(r"(\w+)\s+((?:residual|picture)_\w+)\(([^()]*)\);", text):
-            self.functions[name] = Function(name, self._type(result, where), [self._parameter(a, where) for a in arguments.split(",") if a.strip() not in ("", "void")])
+            self.functions[name] = Function(name, result, self._type(result, where), [self._parameter(a, where) for a in arguments.split(",") if a.strip() not in ("", "void")])
 
     def _type(self, word, where):
         kind = SCALARS.get(word) or self.structs.get(word)
@@ -72,13 +72,14 @@ class Header:
         return kind
 
     def _struct(self, name, body, where):
-        fields = []
+        fields, words = [], []
         for line in filter(None, (part.strip() for part in body.split(";"))):
             word, field, _, count = re.fullmatch(r"(\w+)\s+(\w+)(\[(\d+)\])?", line).groups()
             kind = self._type(word, where)
             fields.append((field, kind * int(count) if count else kind))
-        return type(name, (ctypes.Structure,), {"_fields_": fields})
+            words.append((field, word, int(count or 0)))
+        return type(name, (ctypes.Structure,), {"_fields_": fields, "words": words})
 
     def _parameter(self, text, where):
         constant, word, star, name = re.fullmatch(r"(const\s+)?(\w+)\s*(\*?)\s*(\w+)", text.strip()).groups()
-        return Parameter(name, self._type(word, where), bool(star), bool(constant))
+        return Parameter(name, word, self._type(word, where), bool(star), bool(constant))
