@@ -325,14 +325,16 @@ def bound(options):
         kinds = [(options.kind or "dct", options.size)]
     depths = [options.depth] if options.depth is not None else range(8, 17)
     flags = [True] if options.extended else [False] if options.depth is not None else [False, True]
-    out = Output()
-    out.line("kind size depth extended bound one-step steps")
+    lines = ["kind size depth extended bound one-step steps"]
     for kind, size in kinds:
         for depth in depths:
             for extended in flags:
                 number = residual.rounding_bound(kind == "dst", size, depth, extended)
                 step = 1 << (7 + residual.coefficient_range(depth, extended) + 5 - depth)
-                out.line(f"{kind} {size} {depth} {int(extended)} {number} {step} {-(-1000 * number // step) / 1000:.3f}")
+                lines.append(f"{kind} {size} {depth} {int(extended)} {number} {step} {-(-1000 * number // step) / 1000:.3f}")
+    out = Output()
+    for line in lines:
+        out.line(line)
     out.close()
     return DONE
 
