@@ -12,7 +12,7 @@ from . import build
 from .header import Header
 
 # the array module's letters for the element types of the headers
-LETTERS = {ctypes.c_int32: "i", ctypes.c_int16: "h", ctypes.c_uint16: "H", ctypes.c_uint8: "B", ctypes.c_size_t: "Q", ctypes.c_int64: "q"}
+LETTERS = {ctypes.c_bool: "B", ctypes.c_int32: "i", ctypes.c_int16: "h", ctypes.c_uint16: "H", ctypes.c_uint8: "B", ctypes.c_size_t: "Q", ctypes.c_int64: "q"}
 
 
 class Refused(Exception):
@@ -134,6 +134,8 @@ def call(name, *arguments):
     given, left, words = [], list(arguments), function.parameters
     index = 0
     while index < len(words):
+        if not left:
+            raise TypeError(f"{name}: {words[index].name} is missing")
         parameter, value = words[index], left.pop(0)
         if parameter.pointer:
             held = elements(value, parameter.kind, parameter.name) if parameter.constant else value
