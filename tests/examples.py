@@ -1,24 +1,36 @@
 #!/usr/bin/env python3
-"""Runs each example as README.md shows it, and compares with the text that README.md shows under it.
+"""Runs each example as README.md shows it, and compares with the text that README.md shows under it, standard error included.
 
-A block of README.md that begins with '$ python3 examples/feed.py FILE | PROGRAM' goes on with what that prints. Every file of examples/ has one.
+A block of README.md that begins with '$ ./foxentu COMMAND FILE' goes on with what that prints. Every file of examples/ has one. The programs are those of
+target/bin and the archive that of FOXENTU_ARCHIVE where it is given.
 """
+import os
 import pathlib
 import re
 import subprocess
 import sys
 
-SHOWN = re.compile(r"^    \$ (python3 examples/feed\.py (\S+) \| \S+)\n((?:    .*\n)+)", re.M)
+SHOWN = re.compile(r"^    \$ (\./foxentu \w+ (\S+))\n((?:    .*\n)+)", re.M)
+# a file that no program runs yet, and why
+AWAITED = {"examples/case.txt": "the feed program does not have edits and readings yet"}
 
-found = SHOWN.findall(pathlib.Path("README.md").read_text())
-wrong = [str(path) for path in pathlib.Path("examples").glob("*.txt") if str(path) not in {file for _, file, _ in found}]
-for name in wrong:
-    print(f"examples: README.md does not show {name}")
+if pathlib.Path("target/bin/feed_main").is_file():
+    os.environ.setdefault("FOXENTU_BIN", "target/bin")
+found = SHOWN.findall(pathlib.Path("README.md").read_text(encoding="utf-8"))
+shown = {file for _, file, _ in found}
+wrong = []
+for path in map(str, sorted(pathlib.Path("examples").glob("*.txt"))):
+    if path in AWAITED and path not in shown:
+        print(f"examples: {path} is left out: {AWAITED[path]}")
+    elif path not in shown:
+        wrong.append(path)
+        print(f"examples: README.md does not show {path}")
 for command, file, text in found:
     text = re.sub(r"^    ", "", text, flags=re.M)
-    ran = subprocess.run(["bash", "-euo", "pipefail", "-c", command], capture_output=True, text=True)
-    if ran.returncode or ran.stdout != text:
+    ran = subprocess.run(["bash", "-euo", "pipefail", "-c", command], stdout=subprocess.PIPE, stderr=subprocess.STDOUT, text=True)
+    refused = re.search(r"^refused \d+ \d+$", text, re.M) is not None
+    if ran.returncode != refused or ran.stdout != text:
         wrong.append(file)
-        print(f"examples: {file}: status {ran.returncode}, and README.md shows something else than\n{ran.stdout}{ran.stderr}")
+        print(f"examples: {file}: status {ran.returncode}, and README.md shows something else than\n{ran.stdout}")
 print(f"examples: {len(found)} run, {len(wrong)} wrong")
 sys.exit(1 if wrong or not found else 0)

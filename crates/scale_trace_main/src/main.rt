@@ -1,11 +1,12 @@
 // The listing program: reads a feed from standard input, a record at a time, and writes for each index of its blocks which m scaling
-// uses and why. At a refusal it writes the feed's line. Where a read or a write fails it ends at once.
+// uses and why. At a refusal it writes the feed's line. Where a read or a write fails it says so on standard error and ends.
 ghost use Prim.Native.Nat.{_≤_};
 ghost use lib.ListN.{length};
 ghost use Rattle.text.specs.Text.{Counts};
 use feed::Line;
 use feed::State;
 use feed::StepAnswer;
+use libc::STDERR_FILENO;
 use libc::STDIN_FILENO;
 use libc::STDOUT_FILENO;
 
@@ -21,6 +22,26 @@ fn stopped(state: State) -> Progress {
     }
 }
 
+fn read_failed(state: State) -> Progress {
+    io::write_all(
+        STDERR_FILENO,
+        b"scale_trace_main: a read of standard input failed, so this text is not whole\n",
+    );
+    stopped(state)
+}
+
+// What follows a write: nothing more where it failed.
+fn after_write(done: bool, going: bool, state: State) -> Progress {
+    if !done {
+        io::write_all(
+            STDERR_FILENO,
+            b"scale_trace_main: a write to standard output failed, so this text is not whole\n",
+        );
+        return stopped(state);
+    }
+    Progress { going, state }
+}
+
 // Reads n bytes to the start of the buffer, or fewer where the input ends or a read fails.
 fn read_body(n: usize, body: &mut [u8]) -> usize
     requires { ⌜ n ≤ length (now body) ⌝ }
@@ -29,12 +50,12 @@ fn read_body(n: usize, body: &mut [u8]) -> usize
     io::read_full(STDIN_FILENO, &mut body[..n])
 }
 
-fn write_line(line: Line)
+fn write_line(line: Line) -> bool
     requires { ⌜ Counts (line .end) (line .bytes) ⌝ }
 {
     let bytes = line.bytes;
     let end = line.end;
-    io::write_all(STDOUT_FILENO, &bytes[..end]);
+    io::write_all(STDOUT_FILENO, &bytes[..end])
 }
 
 // One record: reads it and writes its lines. A body is cut short where the input has ended; where one more read does not say so, a
@@ -43,7 +64,11 @@ fn turn(state: State) -> Progress {
     let mut byte = [0u8; 1];
     let mut body = [0u8; 4096];
     let mut out = [0u8; 20480];
-    if libc::read(STDIN_FILENO, &mut byte) <= 0 {
+    let got = libc::read(STDIN_FILENO, &mut byte);
+    if got < 0 {
+        return read_failed(state);
+    }
+    if got == 0 {
         return stopped(state);
     }
     let kind = byte[0];
@@ -51,7 +76,7 @@ fn turn(state: State) -> Progress {
     let there = read_body(n, &mut body);
     if there < n {
         if libc::read(STDIN_FILENO, &mut byte) != 0 {
-            return stopped(state);
+            return read_failed(state);
         }
     }
     let stepped = scale_trace::step(state, kind, &body[..there], &mut out);
@@ -59,13 +84,13 @@ fn turn(state: State) -> Progress {
     let end = stepped.end;
     let answer = stepped.answer;
     match answer {
-        StepAnswer::Done => Progress {
-            going: io::write_all(STDOUT_FILENO, &out[..end]),
-            state: next,
-        },
+        StepAnswer::Done => after_write(io::write_all(STDOUT_FILENO, &out[..end]), true, next),
         StepAnswer::Refused(why) => {
-            write_line(feed::refusal_line(why, next.offset));
-            stopped(next)
+            after_write(
+                write_line(feed::refusal_line(why, next.offset)),
+                false,
+                next,
+            )
         }
         StepAnswer::NoRoom => stopped(next),
     }

@@ -1,0 +1,181 @@
+"""The library's functions for Python: sequences of integers in, arrays out, and Refused where a call is refused.
+
+Blocks are stored row by row and have n * n elements. A list is 64 entries; `scaling_list` is None or a pair of entries and DC.
+"""
+import array
+
+from .library import call, elements, header
+
+
+def _zeros(letter, count):
+    return array.array(letter, bytes(array.array(letter).itemsize * count))
+
+
+def _block(n, letter="i"):
+    """Room for a block; the call itself refuses a size that is none."""
+    return _zeros(letter, n * n if 0 < n <= 32 else 0)
+
+
+def _listed(scaling_list):
+    entries, dc = scaling_list
+    return entries, dc
+
+
+# ---- quantities
+def coefficient_range(depth, extended=False):
+    """R: coefficients lie in -2^R .. 2^R - 1."""
+    return call("residual_max_log2_transform_dynamic_range", depth, extended).value
+
+
+def qp_prime(qp, depth):
+    """QP' of a QP: QP + 6 * (depth - 8), limited to 0 .. 51 + 6 * (depth - 8)."""
+    return call("residual_qp_prime", qp, depth).value
+
+
+def rounding_bound(dst, n, depth, extended=False):
+    """By how much 2^(7 + s2) times a residual may differ from the exact product of its coefficients."""
+    return call("residual_rounding_bound", dst, n, depth, extended).value
+
+
+# ---- scaling
+def scale(levels, n, qp_prime, depth, extended=False, scaling_list=None):
+    """The coefficients of a block of levels."""
+    out = _block(n)
+    if scaling_list is None:
+        call("residual_dequantize_into_scalar_i32", levels, n, qp_prime, depth, extended, out)
+    else:
+        call("residual_dequantize_scaled_into_scalar_i32", levels, n, qp_prime, depth, extended, *_listed(scaling_list), out)
+    return out
+
+
+def transform_skip(levels, n, qp_prime, depth, extended=False, scaling_list=None):
+    """The residual of a transform-skip block."""
+    out = _block(n)
+    if scaling_list is None:
+        call("residual_dequantize_transform_skip_into_scalar_i32", levels, n, qp_prime, depth, extended, out)
+    else:
+        call("residual_dequantize_transform_skip_scaled_into_scalar_i32", levels, n, qp_prime, depth, extended, *_listed(scaling_list), out)
+    return out
+
+
+def find_levels(coefficients, n, qp_prime, depth, extended=False, scaling_list=None):
+    """For each coefficient the level of least size that scales to it; refused with 11 where one has none."""
+    out = _block(n)
+    if scaling_list is None:
+        call("residual_find_levels", coefficients, n, qp_prime, depth, extended, out)
+    else:
+        call("residual_find_levels_scaled", coefficients, n, qp_prime, depth, extended, *_listed(scaling_list), out)
+    return out
+
+
+# ---- transforms
+def inverse_transform(coefficients, n, depth, extended=False, dst=False, columns=None):
+    """The residual of a block of coefficients; columns from `columns` on are read as zero."""
+    out, suffix = _block(n), "_extended" if extended else ""
+    if dst:
+        if n != 4:
+            raise ValueError("the DST has size 4")
+        call("residual_inv_transform_dst_into_scalar" + suffix, coefficients, depth, out)
+    else:
+        call("residual_inv_transform_into_scalar" + suffix, coefficients, n, depth, n if columns is None else columns, out)
+    return out
+
+
+# ---- scaling lists
+# Tables 7-5 and 7-6 of H.265, in row order
+DEFAULT_4X4 = bytes([16] * 64)
+DEFAULT_INTRA = bytes(int(word) for word in """
+    16 16 16 16 17 18 21 24  16 16 16 16 17 19 22 25  16 16 17 18 20 22 25 29  16 16 18 21 24 27 31 36
+    17 17 20 24 30 35 41 47  18 19 22 27 35 44 54 65  21 22 25 31 41 54 70 88  24 25 29 36 47 65 88 115""".split())
+DEFAULT_INTER = bytes(int(word) for word in """
+    16 16 16 16 17 18 20 24  16 16 16 17 18 20 24 25  16 16 17 18 20 24 25 28  16 17 18 20 24 25 28 33
+    17 18 20 24 25 28 33 41  18 20 24 25 28 33 41 54  20 24 25 28 33 41 54 71  24 25 28 33 41 54 71 91""".split())
+DEFAULTS = (DEFAULT_4X4, DEFAULT_INTRA, DEFAULT_INTER)
+
+# what the 20 lists are, in their order
+LISTS = [(size, matrix) for size in (4, 8, 16, 32) for matrix in range(0, 6, 3 if size == 32 else 1)]
+
+
+def read_scaling_lists(data, defaults=DEFAULTS):
+    """The 20 lists of scaling list data, each as 64 entries with its DC, and how many bits were read."""
+    lists, dcs = _zeros("B", 1280), _zeros("B", 20)
+    bits = call("residual_read_scaling_lists", data, *defaults, lists, dcs).bits
+    return [(bytes(lists[64 * i:64 * i + 64]), dcs[i]) for i in range(20)], bits
+
+
+def write_scaling_lists(lists, defaults=DEFAULTS):
+    """Scaling list data of 20 lists (64 entries and DC each), and how many of its bits are in use."""
+    entries = b"".join(bytes(e) for e, _ in lists)
+    out = _zeros("B", 2765)
+    bits = call("residual_write_scaling_lists", entries, bytes(dc for _, dc in lists), *defaults, out).bits
+    return bytes(out[:(bits + 7) // 8]), bits
+
+
+# ---- pictures
+def checksum(plane, width, height, depth, stride=None):
+    """The checksum of a plane of 16-bit samples (H.265, Annex D)."""
+    return call("picture_checksum", width, height, width if stride is None else stride, depth, plane).value
+
+
+def rebuild_block(plane, width, height, stride, x, y, n, depth, residual, prediction):
+    """Prediction plus residual put into a plane (an array of type 'H'), which is changed in place."""
+    call("picture_rebuild_block", n, depth, residual, prediction, width, height, stride, x, y, plane)
+
+
+# ---- edited blocks
+class EditedBlock:
+    """A block opened on coefficients and then changed one coefficient at a time; it owns its buffers and can undo.
+
+    After any edits intermediate and residual are what a fresh opening of the coefficients would give.
+    """
+
+    def __init__(self, coefficients, n, depth, extended=False, dst=False):
+        self.coefficients = elements(list(coefficients), header().functions["residual_open_block"].parameters[4].kind, "a coefficient")
+        self.intermediate, self.residual = _block(n), _block(n)
+        self._record = call("residual_open_block", dst, n, depth, extended, self.coefficients, self.intermediate, self.residual)
+        self.n, self.depth, self.extended, self.dst = n, depth, extended, dst
+        self._done, self._undone = [], []
+
+    @property
+    def columns(self):
+        """One past the last column that has a coefficient other than zero."""
+        return self._record.columns
+
+    def edit(self, row, column, value):
+        """Puts one coefficient. A refused edit changes nothing."""
+        at = row * self.n + column
+        before = self.coefficients[at] if 0 <= row < self.n and 0 <= column < self.n else 0
+        self._put(row, column, value)
+        self._done.append((row, column, before, value))
+        self._undone.clear()
+
+    def undo(self):
+        """Takes the last edit back; False where there is none."""
+        if not self._done:
+            return False
+        row, column, before, value = self._done.pop()
+        self._put(row, column, before)
+        self._undone.append((row, column, before, value))
+        return True
+
+    def redo(self):
+        """Makes the edit again that was taken back last; False where there is none."""
+        if not self._undone:
+            return False
+        row, column, before, value = self._undone.pop()
+        self._put(row, column, value)
+        self._done.append((row, column, before, value))
+        return True
+
+    @property
+    def edits(self):
+        """The edits made and not taken back, as row, column and value."""
+        return [(row, column, value) for row, column, _, value in self._done]
+
+    def _put(self, row, column, value):
+        r = self._record
+        self._record = call("residual_edit", r.dst, r.size, r.depth, r.extended, r.columns, self.coefficients, self.intermediate, self.residual, row, column, value)
+
+    def rows(self):
+        """The residual as rows."""
+        return [list(self.residual[self.n * k:self.n * k + self.n]) for k in range(self.n)]
