@@ -10,7 +10,7 @@ import sys
 import tempfile
 
 # recorded answers of the ported Rust, which tests/differential compares, and what has no script
-ELSEWHERE = {"oracle_cases", "edited_cases", "parameters_cases", "parameters_table", "picture_cases", "rounding_cases", "scaling_cases", "transform_cases"}
+ELSEWHERE = {"oracle_cases", "parameters_cases", "parameters_table", "picture_cases", "rounding_cases", "transform_cases"}
 
 
 def stored(crate):

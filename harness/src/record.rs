@@ -1,4 +1,4 @@
-//! Writes the recorded cases of crates/oracle_cases: files of calls with what the oracle answered, and the stdout that the program must write.
+//! Writes the recorded cases of crates/oracle_cases: calls with what the oracle answered, and the stdout that the program must write.
 //! The format stands at the head of crates/oracle_cases/src/main.rt. The list of cases is fixed: it depends on no argument.
 use crate::blocks;
 use crate::random::Random;
@@ -63,10 +63,32 @@ impl Recorder {
     /// `input_width` and `output_width` are the bytes of an element.
     fn case(&mut self, name: &str, head: Head, list: &[u8], input: &[i64], input_width: usize, answer: Answer, output_width: usize) {
         let function = NAMES.iter().position(|&n| n == name).expect("a function of the list") as u8;
+        let text = format!(
+            "{name} {} {} {} {} {} {} {}:",
+            head.n,
+            head.bit_depth,
+            u8::from(head.extended_precision),
+            head.byte,
+            head.qp,
+            head.count,
+            head.level,
+        );
+        self.file.push(text.len() as u8);
+        self.file.extend(text.as_bytes());
         self.file.extend([function, head.bit_depth, u8::from(head.extended_precision), head.byte]);
-        let numbers = [head.n as i32, head.qp, head.count as i32, head.level, list.len() as i32, input.len() as i32, answer.values.len() as i32];
-        for number in numbers {
-            self.file.extend(number.to_le_bytes());
+        self.file.extend((head.n as u16).to_le_bytes());
+        self.file.extend((head.count as u16).to_le_bytes());
+        self.file.extend(head.qp.to_le_bytes());
+        self.file.extend(head.level.to_le_bytes());
+        let lists = function == 3 || (5..13).contains(&function);
+        let blocks = function > 4;
+        let wide = (13..17).contains(&function);
+        if lists || wide {
+            self.file.extend((list.len() as u16).to_le_bytes());
+        }
+        if blocks {
+            self.file.extend((input.len() as u16).to_le_bytes());
+            self.file.extend((answer.values.len() as u16).to_le_bytes());
         }
         self.file.extend(list);
         for value in input {
@@ -75,19 +97,8 @@ impl Recorder {
         for value in &answer.values {
             self.file.extend(&value.to_le_bytes()[..output_width]);
         }
-        self.lines += &format!(
-            "{name} {} {} {} {} {} {} {} | {} {} {} | equal\n",
-            head.n,
-            head.bit_depth,
-            u8::from(head.extended_precision),
-            head.byte,
-            head.qp,
-            head.count,
-            head.level,
-            answer.number,
-            answer.row,
-            answer.column,
-        );
+        let equal = " equal".repeat(if blocks { 1 } else { answer.values.len() });
+        self.lines += &format!("{text} {} {} {}{equal}\n", answer.number, answer.row, answer.column);
         self.cases += 1;
     }
 }
@@ -361,41 +372,33 @@ fn transformed_blocks<E: blocks::Element>(to: &mut Recorder, transform: &transfo
     }
 }
 
-/// Writes data/, args and stdout of the crate folder.
+/// Writes stdin and stdout of the crate folder.
 pub fn record(folder: &Path) -> std::io::Result<()> {
     let mut random = Random::of(1, "record");
-    let mut groups: Vec<(&str, Recorder)> = Vec::new();
-    let mut group = |name, fill: &mut dyn FnMut(&mut Recorder)| {
-        let mut recorder = Recorder { file: Vec::new(), lines: String::new(), cases: 0 };
-        fill(&mut recorder);
-        println!("{name}: {} cases, {} bytes", recorder.cases, recorder.file.len());
-        groups.push((name, recorder));
-    };
-    group("parameters", &mut |to| parameters(to));
+    let mut recorder = Recorder { file: Vec::new(), lines: String::new(), cases: 0 };
+    parameters(&mut recorder);
     #[cfg(has_scaling)]
-    group("scaling", &mut |to| {
-        factors(to);
-        levels(to);
+    {
+        factors(&mut recorder);
+        levels(&mut recorder);
         for scaler in &scaling::WIDE {
-            scaled_blocks(to, scaler, &mut random);
+            scaled_blocks(&mut recorder, scaler, &mut random);
         }
         for scaler in &scaling::NARROW {
-            scaled_blocks(to, scaler, &mut random);
+            scaled_blocks(&mut recorder, scaler, &mut random);
         }
-    });
+    }
     #[cfg(has_transform)]
-    group("transform", &mut |to| {
+    {
         for transform in &transform::WIDE {
-            transformed_blocks(to, transform, &mut random);
+            transformed_blocks(&mut recorder, transform, &mut random);
         }
         for transform in &transform::NARROW {
-            transformed_blocks(to, transform, &mut random);
+            transformed_blocks(&mut recorder, transform, &mut random);
         }
-    });
-    std::fs::create_dir_all(folder.join("data"))?;
-    for (name, recorder) in &groups {
-        std::fs::write(folder.join("data").join(name), &recorder.file)?;
     }
-    std::fs::write(folder.join("args"), groups.iter().map(|(name, _)| format!("{name}\n")).collect::<String>())?;
-    std::fs::write(folder.join("stdout"), groups.iter().map(|(_, r)| r.lines.as_str()).collect::<String>())
+    println!("recorded: {} cases, {} bytes", recorder.cases, recorder.file.len());
+    std::fs::create_dir_all(folder)?;
+    std::fs::write(folder.join("stdin"), &recorder.file)?;
+    std::fs::write(folder.join("stdout"), &recorder.lines)
 }

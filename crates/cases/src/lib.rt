@@ -3,13 +3,18 @@
 mod reading;
 mod writing;
 
+pub use reading::are_next_narrow;
+pub use reading::are_next_wide;
 pub use reading::copy_text;
+pub use reading::is_next_long;
+pub use reading::is_next_wide;
 pub use reading::next_byte;
 pub use reading::next_short;
 pub use reading::next_wide;
 pub use reading::next_word;
 pub use reading::read_index;
 pub use reading::read_narrow;
+pub use reading::read_samples;
 pub use reading::read_short;
 pub use reading::read_wide;
 pub use writing::put;
@@ -20,5 +25,6 @@ pub use writing::put_flag;
 pub use writing::put_narrow;
 pub use writing::put_refusal;
 pub use writing::put_same;
+pub use writing::put_samples;
 pub use writing::put_signed;
 pub use writing::put_wide;

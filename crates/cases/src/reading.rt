@@ -66,6 +66,12 @@ fn next_narrow(fd: i32) -> i16 {
     signed_short(joined_short(two[0], two[1]))
 }
 
+fn next_sample(fd: i32) -> u16 {
+    let mut two = [0u8; 2];
+    io::read_full(fd, &mut two);
+    joined_short(two[0], two[1])
+}
+
 // Eight bytes.
 pub fn next_word(fd: i32) -> usize {
     let low = next_unsigned(fd);
@@ -85,6 +91,14 @@ pub fn read_narrow(fd: i32, xs: &mut [i16]) {
     let mut i = 0;
     while i < xs.len() {
         xs[i] = next_narrow(fd);
+        i += 1;
+    }
+}
+
+pub fn read_samples(fd: i32, xs: &mut [u16]) {
+    let mut i = 0;
+    while i < xs.len() {
+        xs[i] = next_sample(fd);
         i += 1;
     }
 }
@@ -113,6 +127,44 @@ pub fn read_index(fd: i32, xs: &mut [usize]) {
         xs[i] = next_short(fd);
         i += 1;
     }
+}
+
+fn long(z: i32) -> i64 {
+    z as i64
+}
+
+// Whether a number is the next one of four bytes.
+pub fn is_next_long(fd: i32, z: i64) -> bool {
+    long(next_wide(fd)) == z
+}
+
+pub fn is_next_wide(fd: i32, z: i32) -> bool {
+    next_wide(fd) == z
+}
+
+// Whether the elements are the next numbers; all of them are read.
+pub fn are_next_wide(fd: i32, xs: &[i32]) -> bool {
+    let mut same = true;
+    let mut i = 0;
+    while i < xs.len() {
+        if xs[i] != next_wide(fd) {
+            same = false;
+        }
+        i += 1;
+    }
+    same
+}
+
+pub fn are_next_narrow(fd: i32, xs: &[i16]) -> bool {
+    let mut same = true;
+    let mut i = 0;
+    while i < xs.len() {
+        if xs[i] != next_narrow(fd) {
+            same = false;
+        }
+        i += 1;
+    }
+    same
 }
 
 fn copy_part(fd: i32, n: usize, room: &mut [u8]) {

@@ -28,6 +28,10 @@ fn put_byte(byte: u8) {
     put(byte as u64);
 }
 
+fn put_sample(sample: u16) {
+    put(sample as u64);
+}
+
 fn put_short(z: i16) {
     put_signed(z as i32);
 }
@@ -42,6 +46,15 @@ pub fn put_bytes(xs: &[u8]) {
     let mut i = 0;
     while i < xs.len() {
         put_byte(xs[i]);
+        i += 1;
+    }
+}
+
+pub fn put_samples(xs: &[u16]) {
+    put_bar();
+    let mut i = 0;
+    while i < xs.len() {
+        put_sample(xs[i]);
         i += 1;
     }
 }

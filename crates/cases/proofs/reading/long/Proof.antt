@@ -1,8 +1,8 @@
--- `oracle_cases::long` meets its contract, which says nothing: the wider type holds the number.
+-- `cases::reading::long` meets its contract, which says nothing: the wider type holds the number.
 use borrow.Author.Needs.{needs}
 use Rattle.integers.proofs.MachineLaws.{sfits-widen-trip}
-use Rattle.oracle_cases.proofs.long.Statement.{statement}
-use Rattle.oracle_cases.proofs.long.Tie as tie
+use Rattle.cases.proofs.reading.long.Statement.{statement}
+use Rattle.cases.proofs.reading.long.Tie as tie
 
 cast-result : tie.Need-cast-result
 cast-result c = sfits-widen-trip (c .fits .z) tt
