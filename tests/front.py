@@ -69,6 +69,8 @@ def decoding():
     expect("decode, bytes", foxentu("decode", feed), 0, text, lines=0)
     expect("decode, text from standard input", foxentu("decode", "-", stdin=BLOCK.encode()), 0, text, lines=0)
     expect("decode, bytes from standard input", foxentu("decode", "-", stdin=BYTES), 0, text, lines=0)
+    expect("decode in a plain locale", foxentu("decode", write("\u00fc.txt", BLOCK), env={"LC_ALL": "C", "PYTHONUTF8": "0", "PYTHONCOERCECLOCALE": "0"}), 0, text, lines=0)
+    expect("a mistake in a plain locale", foxentu("decode", write("\u00fc.bad", "\u00fc"), env={"LC_ALL": "C", "PYTHONUTF8": "0", "PYTHONCOERCECLOCALE": "0"}), 2, "", "no record is called", 1)
     expect("decode, byte-order mark and line ends", foxentu("decode", write("mark.txt", b"\xef\xbb\xbf" + BLOCK.replace("\n", "\r\n").encode())), 0, text, lines=0)
     expect("decode from another folder", foxentu("decode", feed, cwd=room, head=str(ROOT / "foxentu")), 0, text, lines=0)
     expect("--bytes says it", foxentu("decode", "--bytes", write("ten", b"\n")), 1, "refused 20 0\n", "ten: byte 0: refused 20: feed: the kind byte is not known", 1)
@@ -129,6 +131,9 @@ def cut():
     for words in (("decode", "examples/blocks.txt"), ("trace", "examples/blocks.txt"), ("trace", "--words", "examples/blocks.txt"), ("show", "examples/blocks.txt"), ("pack", "examples/blocks.txt"), ("unpack", room / "block.feed"), ("levels", "examples/coefficients.txt"), ("bound",), ("refusals",)):
         with open("/dev/full", "wb") as full:
             expect(f"{words[0]}, a full disk", foxentu(*words, stdout=full), 2, None, "foxentu: standard output: No space left on device", 1)
+    for words, error in (("decode examples/blocks.txt >&-", "standard output is closed"), ("decode - <&-", "standard input is closed")):
+        expect(words, foxentu("-c", "./foxentu " + words, head="bash"), 2, "", error, 1)
+    expect("no standard error", foxentu("-c", "./foxentu decode examples/damaged.txt 2>&-", head="bash"), 1, ROWS + "refused 20 70\n", lines=0)
     expect("pack -o, a full disk", foxentu("pack", "examples/blocks.txt", "-o", "/dev/full"), 2, "", "/dev/full: No space left on device", 1)
     for name, body, error in (("no last line", "cat > /dev/null; echo 1 1 1 1", "did not come to its last line"), ("half a line", "cat > /dev/null; printf 'blocks'", "did not come to its last line"), ("nothing", "cat > /dev/null", "did not come to its last line"), ("a status", "exit 3", "feed_main ended with status 3"), ("a signal", "kill -9 $$", "feed_main ended with status -9")):
         folder = room / name.replace(" ", "_")

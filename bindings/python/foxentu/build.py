@@ -24,7 +24,9 @@ class BuildError(Exception):
 
 
 def note(text):
-    print(f"foxentu: {text}", file=sys.stderr, flush=True)
+    """A line on standard error, where there is one."""
+    if sys.stderr is not None:
+        print(f"foxentu: {text}", file=sys.stderr, flush=True)
 
 
 def program(name):
@@ -200,11 +202,11 @@ class Progress:
     """Crate k of N and the seconds so far: one line that moves on a terminal, a line for each crate elsewhere."""
 
     def __init__(self, count, begun):
-        self.count, self.begun, self.done, self.moving = count, begun, 0, sys.stderr.isatty()
+        self.count, self.begun, self.done, self.moving = count, begun, 0, sys.stderr is not None and sys.stderr.isatty()
 
     def line(self, text):
         found = re.match(r"rt: (\w+) (proved|NOT PROVED)", text)
-        if not found:
+        if not found or sys.stderr is None:
             return
         self.done += 1
         told = f"foxentu: crate {min(self.done, self.count)} of {self.count}: {found[1]} {found[2]}, {time.monotonic() - self.begun:.0f} s"

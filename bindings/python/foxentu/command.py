@@ -21,6 +21,8 @@ class Mistake(Exception):
 def open_input(name):
     """A file to read, with `-` for standard input; a mistake in one line where it cannot be read."""
     if name == "-":
+        if sys.stdin is None:
+            raise Mistake("standard input is closed")
         return sys.stdin.buffer
     file = open(name, "rb")
     if os.path.isdir(name):
@@ -45,8 +47,9 @@ def open_feed(options):
     first = file.read(1 << 16)
     as_text = options.text or not options.bytes and feedtext.is_text(first)
     if not as_text and regular:
-        file.seek(0)
-        return running.Input(name, file=file)
+        # opened anew: the program reads the file itself, from its start
+        file.close()
+        return running.Input(name, file=open(options.file, "rb"))
     data = first + file.read()
     if as_text:
         feed = feedtext.read(data, name)
@@ -61,6 +64,8 @@ class Output:
 
     def __init__(self, name=None, binary=False):
         if name in (None, "-"):
+            if sys.stdout is None:
+                raise Mistake("standard output is closed")
             self.name, self.file = "standard output", sys.stdout.buffer
             if binary and sys.stdout.isatty():
                 raise Mistake("the bytes of a feed are not for a terminal: give -o FILE, or a pipe")
@@ -79,7 +84,7 @@ class Output:
     def close(self):
         try:
             self.file.flush()
-            if self.file is not sys.stdout.buffer:
+            if self.name != "standard output":
                 self.file.close()
         except OSError as error:
             raise OutputError(self, error)
@@ -351,10 +356,11 @@ def refusals(options):
 
 
 def build_all(options):
-    names = options.what or ["feed_main", "scale_trace_main", "library"]
+    names, out = options.what or ["feed_main", "scale_trace_main", "library"], Output()
     for name in names:
         path = build.archive() if name == "library" else build.program(name)
-        print(f"{name} {path}")
+        out.line(f"{name} {path}")
+    out.close()
     return DONE
 
 
@@ -440,6 +446,8 @@ def main(words=None):
 
 def close_output():
     """What is left in the buffer of a standard output that is closed or full would end Python with a message of its own."""
+    if sys.stdout is None:
+        return
     try:
         sys.stdout.flush()
     except OSError:
