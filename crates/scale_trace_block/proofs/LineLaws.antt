@@ -2,11 +2,10 @@
 --   within                            a text that was written, with a bound on its length
 --   position-short, number-short      how many digits a position and an index have at most
 --   line-wrote                        a line from its parts
---   index-side                        a block with an index has a size
 --   lines-start, -more, -done         the invariant of a block's lines
 use mathlib.Core.Path.{_≡_, refl}
 use mathlib.Core.List.{List, [], _∷_, _++_, append-assoc}
-use Prim.Native.Nat.{ℕ, zero, suc, _+_, _-_, _*_, _≤_, _<_}
+use Prim.Native.Nat.{ℕ, suc, _+_, _-_, _*_, _≤_, _<_}
 use native.Mathlib.Nat.{sub-zero}
 use native.Mathlib.Numerals.{add-one}
 use native.Mathlib.Omega.{arith}
@@ -36,10 +35,6 @@ unfolding lineText
 line-wrote list mode n x ef es u v w = rw (← ef, ← es) (simp append-assoc at (wrote-more u (wrote-more v w)))
 
 -- ---- the lines of a block
-pub index-side : (n i : ℕ) → i < n * n → 0 < n
-index-side zero i h = absurd (omega arith)
-index-side (suc n) i h = omega arith
-
 pub lines-start : (l : List ℕ) (at : ℕ) (list : ScalingList) (mode : Mode) (n : ℕ) → Left l at (blockLines list mode n) l at (linesFrom list mode n 0 (n * n - 0))
 unfolding blockLines
 lines-start l at list mode n = rw (sub-zero (n * n)) (left-start l at (linesFrom list mode n 0 (n * n)))

@@ -1,16 +1,15 @@
 -- Laws of the rule that supplies m, and of m as the lookup of `scaling` gives it.
---   not-true, not-false                               what a test of the opposite says
---   source-supplies, line-explains                    m is what its rule supplies, and the one that scaling uses
+--   factor-none                                       m without a list in force
 --   source-none, -skip, -four, -eight, -dc, -repeat   each answer of `source_of`, from the tests that lead to it
 --   factor-flat, -skip, -listed                       m, from the tests of `factor_of`
 --   position-16, position-32                          the position that the code works out
 --   coeff-accepted, -factor, -refused                 the lookup refuses nothing that a line asks for, and gives m
-use mathlib.Core.Path.{_≡_, refl, sym, ap, _∙_, subst}
+use mathlib.Core.Path.{_≡_, refl, ap, _∙_}
 use mathlib.Core.Bool.{Bool, true, false, not, cond}
 use mathlib.Core.List.{List}
 use Prim.Native.Nat.{ℕ, _+_, _*_, _/_, _%_, _<_, _≤_}
 use native.Mathlib.Omega.{arith}
-use borrow.Author.Tests.{eq-eqb, ne-eqb, lt-leb}
+use borrow.Author.Tests.{eq-eqb, ne-eqb, lt-leb, not-true, not-false}
 use lib.Dec.{T}
 use lib.ListN.{length}
 use Rattle.h265.specs.Range.{isSize, log2Size}
@@ -27,36 +26,18 @@ use Rattle.feed_block.specs.declared.Mode.{Mode}
 use Rattle.feed_block.specs.Block.{listIgnored, listFor, listIn}
 use Rattle.scale_trace_block.specs.declared.Source.{Source}
 use Rattle.scale_trace_block.specs.declared.Source.the-variants.{None, Four, Eight, Dc, Repeat, Skip}
-use Rattle.scale_trace_block.specs.Block.{blockSource, sourceFactor, blockFactor, Explains}
+use Rattle.scale_trace_block.specs.Block.{blockSource, blockFactor}
 use Rattle.scale_trace_block.specs.Block.BlockSource.{rule, skip}
 use Rattle.scale_trace_block.specs.Work.{LineAsk, sourceIs, positionOf, SourceAt}
 
--- ---- tests
-pub not-true : (x : Bool) → not x ≡ true → x ≡ false
-not-true true e = absurd (subst T (sym e) tt)
-not-true false e = refl
-
-pub not-false : (x : Bool) → not x ≡ false → x ≡ true
-not-false true e = refl
-not-false false e = absurd (subst T e tt)
-
 -- ---- the rule
-source-supplies : (list : ScalingList) (mode : Mode) (n i : ℕ) → sourceFactor list (blockSource list mode n i) ≡ blockFactor list mode n i
-unfolding blockSource sourceFactor blockFactor listFor scalingFactor factorSource factorBy
-source-supplies flat mode n i = by-test (listIgnored mode n)
+pub factor-none : (mode : Mode) (n i : ℕ) → _≡_ {A = ℕ} 16 (blockFactor flat mode n i)
+unfolding blockFactor listFor scalingFactor factorSource factorBy
+factor-none mode n i = by-test (listIgnored mode n)
   where
-    by-test : (t : Bool) → factorBy flat (factorSource flat n i) ≡ factorBy (cond t flat flat) (factorSource (cond t flat flat) n i)
+    by-test : (t : Bool) → _≡_ {A = ℕ} 16 (factorBy (cond t flat flat) (factorSource (cond t flat flat) n i))
     by-test true = refl
     by-test false = refl
-source-supplies (listed es d) mode n i = by-test (listIgnored mode n)
-  where
-    by-test : (t : Bool) → sourceFactor (listed es d) (cond t skip (rule (factorSource (listed es d) n i))) ≡ factorBy (cond t flat (listed es d)) (factorSource (cond t flat (listed es d)) n i)
-    by-test true = refl
-    by-test false = refl
-
-pub line-explains : (list : ScalingList) (mode : Mode) (n i : ℕ) → Explains list mode n i (blockFactor list mode n i) (blockSource list mode n i)
-unfolding blockFactor
-line-explains list mode n i = record { used = refl; supplied = sym (source-supplies list mode n i) }
 
 pub source-none : {x : Bool} (mode : Mode) (n i : ℕ) → not x ≡ true → SourceAt x mode n i None
 unfolding blockSource factorSource
@@ -103,8 +84,7 @@ position-32 n i e = rw e refl
 -- ---- m
 module _ (x : Bool) (es : List ℕ) (d : ℕ) (mode : Mode) (n i : ℕ) where
   pub factor-flat : not x ≡ true → _≡_ {A = ℕ} 16 (blockFactor (listIn x es d) mode n i)
-  unfolding sourceFactor blockSource factorBy factorSource
-  factor-flat z = rw (not-true x z) (source-supplies flat mode n i)
+  factor-flat z = rw (not-true x z) (factor-none mode n i)
 
   pub factor-skip : not x ≡ false → listIgnored mode n ≡ true → _≡_ {A = ℕ} 16 (blockFactor (listIn x es d) mode n i)
   unfolding blockFactor listFor scalingFactor factorBy factorSource
@@ -114,13 +94,9 @@ module _ (x : Bool) (es : List ℕ) (d : ℕ) (mode : Mode) (n i : ℕ) where
   unfolding blockFactor listFor
   factor-listed z g e = rw (not-false x z, g) e
 
-size-kept : (n : ℕ) → T (isSize n) → sizeRefused n ≡ false
-unfolding sizeRefused
-size-kept n t = size-cases (λ m. sizeRefused m ≡ false) refl refl refl refl n t
-
 pub coeff-accepted : (es : List ℕ) (d n i : ℕ) → LineAsk n i (length es) → scalingCoeff es d n i ≡ accepted (scalingFactor (listed es d) n i)
-unfolding scalingCoeff listRefused
-coeff-accepted es d n i a = simp (size-kept n (a .size), eq-eqb (length es) 64 (a .whole), lt-leb (n * n) i (a .index))
+unfolding scalingCoeff sizeRefused listRefused
+coeff-accepted es d n i a = simp (size-cases (λ m. sizeRefused m ≡ false) refl refl refl refl n (a .size), eq-eqb (length es) 64 (a .whole), lt-leb (n * n) i (a .index))
 
 pub coeff-factor : {m : ℕ} (es : List ℕ) (d n i : ℕ) → LineAsk n i (length es) → accepted m ≡ scalingCoeff es d n i → m ≡ scalingFactor (listed es d) n i
 coeff-factor es d n i a e = ap (λ (o : Outcome ℕ). o .value) (e ∙ coeff-accepted es d n i a)

@@ -1,21 +1,18 @@
--- Which m scaling uses at each index of a block, and which rule supplies it. Document 02, R-1 and R-3; the rules are those of
--- document 01, "Scaling", as `h265` has them, and that of the feed, by which a block may ignore the list.
+-- Which m scaling uses at each index of a block, and which rule supplies it. Change requests R-1 and R-3; docs/RULES.md, "The listing of
+-- scaling factors". The rules are those of "Scaling" there, as `h265` has them, and that of the feed, by which a block may ignore the list.
 --   BlockSource                    the rule that supplies m: one of `h265`, or that the block ignores the list in force
 --   blockSource list mode n i      the rule for index i of a block of that mode and size
---   sourceFactor list src          what a rule supplies
 --   blockFactor list mode n i      m, by the list that the feed hands to scaling
---   Explains list mode n i m src   m is the one that scaling uses, and the rule src supplied it
 --   reasonText src                 the rule's word: none, four, eight, dc, repeat, skip
 --   positionText src               the position in the list; a hyphen where the rule has none
 --   ruleText src                   both, and the line end
 --   lineText list mode n i         index, m, reason and position of one index
 --   linesFrom list mode n i k      the lines of k indices from i on
 --   blockLines list mode n         those of a whole block, in row order
-use mathlib.Core.Path.{_≡_}
 use mathlib.Core.Bool.{cond}
 use mathlib.Core.List.{List, [], _∷_, _++_}
 use Prim.Native.Nat.{ℕ, zero, suc, _*_}
-use Rattle.h265.specs.ScalingFactor.{ScalingList, FactorSource, factorSource, factorBy, scalingFactor}
+use Rattle.h265.specs.ScalingFactor.{ScalingList, FactorSource, factorSource, scalingFactor}
 use Rattle.h265.specs.ScalingFactor.ScalingList.{flat, listed}
 use Rattle.h265.specs.ScalingFactor.FactorSource.{none, four, eight, dc, repeated}
 use Rattle.text.specs.Text.{space, lineEnd, minus, unsignedText}
@@ -32,17 +29,8 @@ unfoldable pub blockSource : ScalingList → Mode → ℕ → ℕ → BlockSourc
 blockSource flat mode n i = rule (factorSource flat n i)
 blockSource (listed entries d) mode n i = cond (listIgnored mode n) skip (rule (factorSource (listed entries d) n i))
 
-unfoldable pub sourceFactor : ScalingList → BlockSource → ℕ
-sourceFactor list (rule src) = factorBy list src
-sourceFactor list skip = 16
-
 unfoldable pub blockFactor : ScalingList → Mode → ℕ → ℕ → ℕ
 blockFactor list mode n i = scalingFactor (listFor mode n list) n i
-
--- R-1's sentence; `line-explains` proves it of every line
-pub record Explains (list : ScalingList) (mode : Mode) (n i m : ℕ) (src : BlockSource) : Type 0 where
-  pub used : m ≡ scalingFactor (listFor mode n list) n i
-  pub supplied : m ≡ sourceFactor list src
 
 -- ---- one line
 abbrev pub reasonText : BlockSource → List ℕ

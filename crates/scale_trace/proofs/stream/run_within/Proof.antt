@@ -3,7 +3,7 @@ use mathlib.Core.Path.{sym, _∙_}
 use Prim.Native.Nat.{_-_}
 use lib.ListN.{length, length-take, length-drop}
 use Rattle.text.proofs.WroteLaws.{left-last, left-done, counts}
-use Rattle.scale_trace_block.proofs.RuleLaws.{not-true, not-false}
+use borrow.Author.Tests.{not-true, not-false}
 use Rattle.feed.proofs.WalkLaws.{Going, going-start, Turn, turn, going-more, going-done}
 use Rattle.scale_trace.specs.Trace.{traceText}
 use Rattle.scale_trace.proofs.RunLaws.{listingWalk, Answered, listing-refused, listing-passed}

@@ -5,7 +5,7 @@ use lib.ListN.{length-take}
 use Rattle.feed_records.specs.Record.{recordEffect}
 use Rattle.feed_records.specs.Taken.{stateOf}
 use Rattle.scale_trace.specs.Work.{isDone}
-use Rattle.scale_trace_block.proofs.RuleLaws.{not-true, not-false}
+use borrow.Author.Tests.{not-true, not-false}
 use Rattle.scale_trace.proofs.StepLaws.{kind-side, kind-room, Fed, fed, trace-refused, trace-whole, trace-accepted}
 use borrow.Author.Needs.{needs}
 use native.Mathlib.Omega.{arith}

@@ -1,9 +1,10 @@
 -- `scale_trace_block::lines::put_lines` meets its contract: the lines from the present index on are left to write, and each took at most 20 bytes.
 use Prim.Native.Nat.{_+_, _-_, _*_, _≤_}
+use Rattle.h265.proofs.TransformLaws.{cell-row}
 use Rattle.text.proofs.WroteLaws.{Left}
 use Rattle.feed_block.specs.Block.{listIn}
 use Rattle.scale_trace_block.specs.Block.{linesFrom, blockLines}
-use Rattle.scale_trace_block.proofs.LineLaws.{index-side, lines-start, lines-more, lines-done}
+use Rattle.scale_trace_block.proofs.LineLaws.{lines-start, lines-more, lines-done}
 use native.Mathlib.Omega.{arith}
 use Rattle.scale_trace_block.proofs.lines.put_lines.Statement.{statement}
 use Rattle.scale_trace_block.proofs.lines.put_lines.Tie as tie
@@ -26,7 +27,7 @@ put-line-requires : tie.Need-put-line-requires Inv-loop μ-loop
 put-line-requires c κs =
     let s = c .before .before .before .before .before in
     let h = c .before .loop-test .taken in
-    (record { size = s .pre .0 .size (index-side (s .args .n) _ h); index = h; whole = s .pre .0 .whole }, omega (arith, c .before .before .loop .inv .2 .long))
+    (record { size = s .pre .0 .size (omega (arith, cell-row (s .args .n) _ h)); index = h; whole = s .pre .0 .whole }, omega (arith, c .before .before .loop .inv .2 .long))
 
 add-i : tie.Need-add-i Inv-loop μ-loop
 add-i c = omega arith
