@@ -1,7 +1,7 @@
 /* Rebuilt samples and the picture checksum for C: what the archive of the crate c_api defines beside include/residual.h, on x86-64.
  *
  * Answers, buffers and state are as residual.h says: a refused call changes nothing, a buffer is a pointer that is not null with its number of elements, a call
- * keeps no state, and a plane that is written overlaps no input. Row and column name a coefficient: here they are 0.
+ * keeps no state, and a plane that a call writes overlaps no other buffer of that call. Row and column name a coefficient: here they are 0.
  * The sample in column x and row y of a picture stands at y * stride + x of its plane, which has stride * height elements or more. Width and height are 1 to
  * 16,384, the stride is at least the width and at most 65,536 (row 13). A plane may hold any 16-bit numbers.
  */

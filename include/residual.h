@@ -2,12 +2,13 @@
  *
  * Answers. Every call answers a record that begins with a number and a place: zeros, or the number of a refusal (residual_refusals.h) with the place that it
  * names. The place of a coefficient is its row and column; any other is one number. A refused call changes no element of any buffer, and the values of its
- * record are zeros. Where several refusals apply, the lowest number is answered, but 13 before 12, 18 before 17, 19 where 9 stands, and 25 after 3.
+ * record are zeros. Where several refusals apply, the lowest number is answered, but 13 before 12, 18 before 17, 19 where 9 stands, and 25 after 3;
+ * scaling lists are written with 16 before 7, and read with 14 to 16 as reading meets them.
  * No argument is out of bounds for a call: each is either refused or has a result. The only duty of a caller is about memory:
  *
- * Buffers. A buffer is a pointer and its number of elements. The pointer is valid for that many and is not null, also where the number is 0; an output
- * overlaps no input and no other output. Blocks are stored row by row: row r and column c of a block of size n stand at r * n + c, so that a block has n * n
- * elements. A buffer may be longer than a call needs: elements past those that it writes are never changed.
+ * Buffers. A buffer is a pointer and its number of elements. The pointer is valid for that many and is not null, also where the number is 0; a buffer that
+ * a call writes overlaps no other buffer of that call. Blocks are stored row by row: row r and column c of a block of size n stand at r * n + c, so that a
+ * block has n * n elements. A buffer may be longer than a call needs: elements past those that it writes are never changed.
  *
  * Lengths needed, else row 5, 6 or 7: n * n for a block's buffers; 64 for a list, at every size; 1,280 and 20 for all scaling lists and their DC numbers;
  * 2,765 bytes hold any scaling lists that are written; 1,584 bytes are a table of lists.

@@ -5,6 +5,9 @@ import re
 import subprocess
 import sys
 
+import layers
+import same_laws
+
 # public only so that the crates above can call them; docs/ARCHITECTURE.md says so
 INTERNAL = {"integers", "coefficients", "scaling_values", "scaling_blocks", "list_places", "bits", "bits_written", "diagonal", "scaling_lists_put", "transform_1d", "lines_wide", "stages", "stages_wide", "transform_blocks", "text", "feed_block", "feed_records", "scale_trace_block"}
 
@@ -13,6 +16,9 @@ WRAPPERS = {"c_api"}
 
 # what the programs of cases share, no part of the library: it reads and writes, of which no contract can speak
 SUPPORT = {"cases"}
+
+# how many statements stand under two names, as tests/same_laws.py counts them: it only goes down
+SAME_LAWS = 14
 
 # in halves, so that the rule does not find itself
 MARKS = re.compile(r"\b(" + "|".join(("TO" "DO", "FIX" "ME", "X" "XX")) + r")\b")
@@ -107,8 +113,42 @@ def text_rules(files):
             say("a proof that does not begin with its function", path)
 
 
+def page_rules():
+    """What the pages say of the crates is what crates.txt says."""
+    crates = layers.crates()
+    programs = [name for name in crates if layers.program(name)]
+    order = [name for name in crates if name not in programs] + programs
+    named = [re.findall(r"`(\w+)`", row) for row in re.findall(r"(?m)^\| (`.*?) \|", pathlib.Path("README.md").read_text())]
+    if sorted(order) != sorted(sum(named, [])):
+        say("a crate that README's table has not once", sorted(set(order) ^ set(sum(named, []))))
+    elif [row[0] for row in named] != sorted((row[0] for row in named), key=order.index) or any(row != sorted(row, key=order.index) for row in named):
+        say("README's table is not in the order of crates.txt, libraries first", "README.md")
+
+    seen = set()
+    for item in re.findall(r"(?m)^\d+\. ((?:`\w+`(?:, )?)+):", pathlib.Path("docs/ARCHITECTURE.md").read_text()):
+        for name in re.findall(r"`(\w+)`", item):
+            if name in crates and not set(crates[name][0]) <= seen:
+                say("a crate of ARCHITECTURE's list that builds on one below it", f"{name}: {sorted(set(crates[name][0]) - seen)}")
+            seen.add(name)
+    if set(order) - set(programs) - SUPPORT != seen:
+        say("ARCHITECTURE's list has not every library once", sorted((set(order) - set(programs) - SUPPORT) ^ seen))
+
+    if not layers.PICTURE.exists() or layers.PICTURE.read_text() != layers.svg():
+        say("a picture that is not what tests/layers.py makes of crates.txt", layers.PICTURE)
+
+
+def law_rules():
+    stand = same_laws.repeated()
+    if len(stand) > SAME_LAWS:
+        say(f"more than {SAME_LAWS} statements stand under two names; tests/same_laws.py lists them", len(stand))
+    elif len(stand) < SAME_LAWS:
+        print(f"lint: {len(stand)} statements stand under two names: SAME_LAWS can go down to that")
+
+
 crate_rules()
 edit_rules()
+page_rules()
+law_rules()
 text_rules(tracked())
 for line in found:
     print(line)

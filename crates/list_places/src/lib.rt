@@ -1,4 +1,5 @@
-// Places of a table of lists: where one starts, whether a number is held, which is the lowest free one, and what stands there.
+// Places of a table of lists: where one starts, whether a number is held, which is the lowest free one, and what stands there. Internal: the
+// crates above call these and meet what they require.
 ghost use mathlib.Core.Path.{_≡_};
 ghost use mathlib.Core.List.{_∷_};
 ghost use Prim.Native.Nat.{_+_, _*_, _≤_, _<_};

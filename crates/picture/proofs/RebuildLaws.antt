@@ -80,20 +80,17 @@ module _ (n b : ℕ) (residual : List ℤ) (prediction : List ℕ) (width height
     rebuilt-done h =
         rw (c .size, c .depth, c .residual, c .prediction, c .picture, c .block, le-ltb (firstAbove (sampleMax b) (n * n) prediction) (n * n) h)
 
-block-room : (n len : ℕ) → blockRefused n len ≡ false → n * n ≤ len
-unfolding blockRefused
-block-room n len e = ltb-false len (n * n) e
-
 pub checked-inside : {n b residuals predictions width height stride x y places : ℕ} → Checked n b residuals predictions width height stride x y places
     → Inside n b stride x y residuals predictions places
+unfolding blockRefused
 checked-inside {n} {b} {residuals} {predictions} {width} {height} {stride} {x} {y} {places} c =
     let p = picture-accepted width height stride places (c .picture) in
     let q = block-accepted n width height x y (c .block) in
     record {
       size = size-accepted n (c .size);
       depth = depth-accepted b (c .depth) .1;
-      residual = block-room n residuals (c .residual);
-      prediction = block-room n predictions (c .prediction);
+      residual = ltb-false residuals (n * n) (c .residual);
+      prediction = ltb-false predictions (n * n) (c .prediction);
       columns = omega (arith, q .0, p .strides);
       rows = omega (arith, mul-le-mul-right stride (q .1), mul-comm height stride, p .long);
       narrow = p .strides .1;
