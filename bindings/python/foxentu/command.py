@@ -157,7 +157,10 @@ def show(options):
 
 
 def pack(options):
-    feed = feedtext.read(read_all(options.file), shown_name(options.file))
+    data = read_all(options.file)
+    if not feedtext.is_text(data):
+        raise Mistake(f"{shown_name(options.file)}: these are the bytes of a feed already; unpack makes a text of them")
+    feed = feedtext.read(data, shown_name(options.file))
     out = Output(options.output, binary=True)
     out.write(feed.bytes)
     out.close()
@@ -166,6 +169,8 @@ def pack(options):
 
 def unpack(options):
     data = read_all(options.file)
+    if data and feedtext.is_text(data) and not options.bytes:
+        raise Mistake(f"{shown_name(options.file)}: this is a text already; pack makes bytes of it (--bytes takes it for damaged bytes)")
     out = Output(options.output)
     for part in feedtext.write(data):
         out.line(part)
@@ -389,6 +394,8 @@ def parser():
         made = command(name, run, text)
         made.add_argument("file", metavar="FILE", help="- is standard input")
         made.add_argument("-o", "--output", metavar="FILE", help="where to write; standard output unless given")
+        if name == "unpack":
+            made.add_argument("--bytes", action="store_true", help="the feed is bytes, whatever its first one is")
     made = command("lists", None, "scaling lists of the bitstream (H.265, clause 7.3.4)", "Reads scaling list data as text, or writes it back. The defaults are those of Tables 7-5 and 7-6.")
     both = made.add_subparsers(dest="way", metavar="read|write", required=True)
     for name, run, text in (("read", lists_read, "the 20 lists of scaling list data, as text"), ("write", lists_write, "scaling list data of 20 lists in that text")):

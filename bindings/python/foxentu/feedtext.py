@@ -160,6 +160,10 @@ class Reader:
         head, equals, _ = word.partition(b"=")
         if equals and head.decode("ascii", "replace") in SETTINGS + ("dc",):
             self.fail(at, f"{shown(head)} stands in no record: settings follow parameters, and dc follows list")
+        if word == b"coefficients":
+            self.fail(at, "coefficients are no record of a feed; `foxentu levels` finds the levels that give them")
+        if word == b"levels":
+            self.fail(at, "levels are wanted from this text, which gives coefficients in their place")
         self.fail(at, f"no record is called {shown(word)}" + alike(word, self.known))
 
     # ---- parameters
