@@ -1,10 +1,10 @@
 #!/usr/bin/env python3
-"""block_tools_cases.py [CRATES]: write stdout of the program block_tools_cases (in crates by default).
+"""block_tools_cases.py [CRATES]: write stdin and stdout of the program block_tools_cases (in crates by default).
 
 Written from the rules alone (docs/RULES.md, and clause 8.6 with the range extensions): it shares nothing with the crates. Accumulation is the clause's
 own loop, one sample after the other in place, where the definitions have sums.
 """
-from case_files import write_files
+from case_files import named, shown, wide, word, write_files
 from rules import coefficient_range, factor, scaled, skipped
 
 WAYS = ("off", "rows", "columns")
@@ -63,9 +63,10 @@ def bypass(levels, n, b, x, t, way, out):
     return (0, 0, 0, 0), accumulated(block, n, way) + out[n * n :]
 
 
-# ---- text
-def words(numbers):
-    return "".join(f" {z}" for z in numbers)
+# ---- cases
+GIVEN, SMALL, WIDE = range(3)
+SKIP, LISTED, BYPASS = range(3)
+cases, lines = [], []
 
 
 def sums(out):
@@ -73,63 +74,63 @@ def sums(out):
     for z in out:
         first = (first + z) % 2**32
         second = (second + first) % 2**32
-    return words((first, second))
+    return shown(first, second)
 
 
-def filled(wide):
+def filled(over_16_bits):
     samples = [7919 * i % 2**16 for i in range(1024)]
-    return [s - 32768 if wide else s % 601 - 300 for s in samples]
+    return [s - 32768 if over_16_bits else s % 601 - 300 for s in samples]
 
 
-def setting(n, b, x, t, way):
-    return f" {n} {b} {int(x)} {int(t)} {way}:"
+def add(name, which, n, b, x, t, way, levels, length, entries=(), dc=0, qp=10, how=GIVEN):
+    """An output of `length` places holds 999 throughout."""
+    out = [999] * length
+    if which == BYPASS:
+        answer, after = bypass(levels, n, b, x, t, way, out)
+    else:
+        answer, after = skip(levels, n, qp, b, x, list(entries) if which == LISTED else None, dc, t, way, out)
+    name = f"{name} {('skip', 'listed', 'bypass')[which]} {n} {b} {int(x)} {int(t)} {way}:"
+    fixed = bytes([which]) + word(n) + wide([qp]) + bytes([b, x, dc, t, WAYS.index(way)])
+    made = word(len(levels)) + bytes([how]) + (wide(levels) if how == GIVEN else b"")
+    cases.append(named(name) + fixed + word(len(entries)) + bytes(entries) + made + word(length))
+    lines.append(name + shown(*answer) + sums(after) + (shown(after) if length < 100 else "") + "\n")
 
 
 def sweep(n, t):
     for b, x in ((8, False), (16, False), (10, True), (16, True)):
         for way in WAYS:
-            out = [999] * 1028
-            for name, entries in (("skip", None), ("listed", LIST)):
-                answer, after = skip(filled(False), n, 10, b, x, entries, DC, t, way, out)
-                yield name + setting(n, b, x, t, way) + words(answer) + sums(after)
-            answer, after = bypass(filled(True), n, b, x, t, way, out)
-            yield "bypass" + setting(n, b, x, t, way) + words(answer) + sums(after)
+            add("sweep", SKIP, n, b, x, t, way, filled(False), 1028, how=SMALL)
+            add("sweep", LISTED, n, b, x, t, way, filled(False), 1028, LIST, DC, how=SMALL)
+            add("sweep", BYPASS, n, b, x, t, way, filled(True), 1028, how=WIDE)
 
 
 def written():
-    levels = list(range(15)) + [-15]
     for way in WAYS:
         for t in (False, True):
-            answer, after = bypass(levels, 4, 8, False, t, way, [999] * 17)
-            yield "written" + setting(4, 8, False, t, way) + words(answer) + words(after)
+            add("written", BYPASS, 4, 8, False, t, way, list(range(15)) + [-15], 17)
 
 
 def furthest():
+    """The largest block of one level: the last sums are the furthest from 0."""
     for x, level, way in ((False, -32768, "rows"), (False, 32767, "columns"), (True, -4194304, "columns"), (True, 4194303, "rows")):
-        levels, out = [level] * 1024, [999] * 1024
-        answer, after = skip(levels, 32, 51, 16, x, None, 0, False, way, out)
-        line = f"skip furthest {way}:" + words(answer) + words(after[-1:])
-        answer, after = bypass(levels, 32, 16, x, False, way, after)
-        yield line + " bypass" + words(answer) + words(after[-1:])
+        for which in (SKIP, BYPASS):
+            add("furthest", which, 32, 16, x, False, way, [level] * 1024, 1024, qp=51)
 
 
 def ladder():
     levels, few, entries, short = [32768] * 64, [1] * 15, [16] * 64, [16] * 63
-    out, small = [999] * 64, [999] * 15
     for label, n, b, given, lent, places in (
-        ("size 12, depth 7, rotated:", 12, 7, few, short, small),
-        ("depth 7, rotated:", 8, 7, few, short, small),
-        ("depth 17, rotated:", 8, 17, few, short, small),
-        ("size 8 rotated, all short:", 8, 8, few, short, small),
-        ("size 32 rotated:", 32, 16, levels, entries, out),
-        ("63 entries, 15 levels, 15 places:", 4, 8, few, short, small),
-        ("15 levels, 15 places:", 4, 8, few, entries, small),
-        ("15 places, levels outside:", 4, 8, levels, entries, small),
+        ("size 12, depth 7, rotated", 12, 7, few, short, 15),
+        ("depth 7, rotated", 8, 7, few, short, 15),
+        ("depth 17, rotated", 8, 17, few, short, 15),
+        ("size 8 rotated, all short", 8, 8, few, short, 15),
+        ("size 32 rotated", 32, 16, levels, entries, 64),
+        ("63 entries, 15 levels, 15 places", 4, 8, few, short, 15),
+        ("15 levels, 15 places", 4, 8, few, entries, 15),
+        ("15 places, levels outside", 4, 8, levels, entries, 15),
     ):
-        first, after = skip(given, n, 10, b, False, None, 0, True, "rows", places)
-        second, after = skip(given, n, 10, b, False, lent, 16, True, "rows", after)
-        third, after = bypass(given, n, b, False, True, "rows", after)
-        yield label + words(first) + words(second) + words(third) + sums(after)
+        for which in (SKIP, LISTED, BYPASS):
+            add(label, which, n, b, False, True, "rows", given, places, lent if which == LISTED else (), 16)
 
 
 def borders():
@@ -147,13 +148,17 @@ def borders():
         levels = [7] * 64
         levels[index] = level
         levels[63] = -4194305
-        answer, after = bypass(levels, 8, b, x, False, "columns", [999] * 64)
-        yield f" {index} {level}:" + words(answer) + sums(after)
+        add(f"{level} at {index}", BYPASS, 8, b, x, False, "columns", levels, 64)
 
 
 def main():
-    lines = [*written(), *furthest(), *ladder(), *borders(), *sweep(4, False), *sweep(4, True), *sweep(8, False), *sweep(16, False), *sweep(32, False)]
-    write_files("block_tools_cases", {"stdout": "".join(line + "\n" for line in lines)})
+    written()
+    furthest()
+    ladder()
+    borders()
+    for n, t in ((4, False), (4, True), (8, False), (16, False), (32, False)):
+        sweep(n, t)
+    write_files("block_tools_cases", {"stdin": b"".join(cases), "stdout": "".join(lines)})
 
 
 main()

@@ -1,16 +1,24 @@
 #!/usr/bin/env python3
-"""level_search_cases.py [CRATES]: write stdout of the program level_search_cases (in crates by default), by rules written apart from the code: every level of the range is asked."""
-from case_files import write_files
-from rules import coefficient_range, factor, scaled
+"""level_search_cases.py [CRATES]: write stdin and stdout of the program level_search_cases (in crates by default).
+
+Written from the rules alone (docs/RULES.md): it shares nothing with the crates, and asks every level of the range.
+"""
+from case_files import named, shown, wide, word, write_files
+from rules import SCALE, clip, coefficient_range, factor
 
 
 def least_levels(m, n, qp, depth, extended):
+    """The level of least size for each coefficient that one gives, the positive one first. The formula is that of rules.scaled, with what every level shares taken out."""
     r = coefficient_range(depth, extended)
+    low, high = -(2**r), 2**r - 1
+    qp = clip(0, 51 + 6 * (depth - 8), qp)
+    shift = depth + n.bit_length() - 1 + 10 - r
+    by, half = m * (SCALE[qp % 6] << (qp // 6)), 2 ** (shift - 1)
     least = {}
     for size in range(2**r + 1):
         for level in (size, -size):
-            if -(2**r) <= level < 2**r:
-                least.setdefault(scaled(level, m, n, qp, depth, extended), level)
+            if low <= level <= high:
+                least.setdefault(clip(low, high, (level * by + half) >> shift), level)
     return least
 
 
@@ -36,12 +44,12 @@ def call(name, n, qp, depth, extended, coeff, levels, entries=None, dc=30):
                 out, answer = list(levels), (11, i // n, i % n)
                 break
             out[i] = tables[m][coeff[i]]
-    levels[:] = out
-    shown = "".join(f" {z}" for z in out[:18])
-    text.append(f"{name}: {answer[0]} {answer[1]} {answer[2]};{shown}; {sum(map(abs, out))}\n")
+    listed = entries is not None
+    cases.append(named(name + ":") + bytes([listed]) + word(n) + wide([qp]) + bytes([depth, extended, dc]) + word(len(entries or [])) + bytes(entries or []) + word(len(coeff)) + wide(coeff) + word(len(levels)))
+    lines.append(f"{name}:" + shown(answer[0], 0, *answer[1:], out) + "\n")
 
 
-text = []
+cases, lines = [], []
 levels = [7] * 17
 call("size 12", 12, 4, 7, False, [32] * 16, levels)
 call("depth 7", 4, 4, 7, False, [32] * 16, levels)
@@ -81,4 +89,4 @@ coeff[0], coeff[1], coeff[2], coeff[4] = 15, 0, 1, -127
 call("size 16, DC 30", 16, 4, 8, False, coeff, levels, entries)
 coeff[1] = 1
 call("size 16, 1 where m is 0", 16, 4, 8, False, coeff, levels, entries)
-write_files("level_search_cases", {"stdout": "".join(text)})
+write_files("level_search_cases", {"stdin": b"".join(cases), "stdout": "".join(lines)})

@@ -9,8 +9,8 @@ import subprocess
 import sys
 import tempfile
 
-# recorded answers of the ported Rust, which tests/differential compares, and what has no script
-ELSEWHERE = {"oracle_cases", "parameters_cases", "parameters_table", "picture_cases", "rounding_cases", "transform_cases"}
+# recorded answers of the ported Rust, which tests/differential compares
+ELSEWHERE = {"oracle_cases"}
 
 
 def stored(crate):

@@ -66,7 +66,7 @@ fn next_narrow(fd: i32) -> i16 {
     signed_short(joined_short(two[0], two[1]))
 }
 
-fn next_sample(fd: i32) -> u16 {
+pub fn next_sample(fd: i32) -> u16 {
     let mut two = [0u8; 2];
     io::read_full(fd, &mut two);
     joined_short(two[0], two[1])
@@ -77,6 +77,17 @@ pub fn next_word(fd: i32) -> usize {
     let low = next_unsigned(fd);
     let high = next_unsigned(fd);
     joined_long(low, high) as usize
+}
+
+// A length of eight bytes, which is at most `most`.
+pub fn next_length(fd: i32, most: usize) -> usize
+    ensures { λ r. ⌜ r ≤ most ⌝ }
+{
+    let n = next_word(fd);
+    if n <= most {
+        return n;
+    }
+    most
 }
 
 pub fn read_wide(fd: i32, xs: &mut [i32]) {
@@ -100,6 +111,31 @@ pub fn read_samples(fd: i32, xs: &mut [u16]) {
     while i < xs.len() {
         xs[i] = next_sample(fd);
         i += 1;
+    }
+}
+
+// The first elements of a slice.
+pub fn read_first_bytes(fd: i32, count: usize, xs: &mut [u8]) {
+    if count <= xs.len() {
+        io::read_full(fd, &mut xs[0..count]);
+    }
+}
+
+pub fn read_first_wide(fd: i32, count: usize, xs: &mut [i32]) {
+    if count <= xs.len() {
+        read_wide(fd, &mut xs[0..count]);
+    }
+}
+
+pub fn read_first_narrow(fd: i32, count: usize, xs: &mut [i16]) {
+    if count <= xs.len() {
+        read_narrow(fd, &mut xs[0..count]);
+    }
+}
+
+pub fn read_first_samples(fd: i32, count: usize, xs: &mut [u16]) {
+    if count <= xs.len() {
+        read_samples(fd, &mut xs[0..count]);
     }
 }
 

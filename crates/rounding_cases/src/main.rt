@@ -1,83 +1,41 @@
-// Runs the rounding bound at every kind and size, and at the border of every row. A line holds what was asked, then number, place and value.
-use libc::STDOUT_FILENO;
-use refusal::Refusal;
+// Replays the rounding bound from standard input. A case is a text, which is written as it is; the kind, 0 or 1 for DCT or DST, the size, eight bytes, depth and flag. The
+// text goes on with the answer and the bound. tests/rounding_cases.py writes cases and text.
+use libc::STDIN_FILENO;
+use refusal::Answer;
 use rounding::BoundAnswer;
 use transform_1d::Kind;
 
-fn put(n: u64) {
-    io::write_all(STDOUT_FILENO, b" ");
-    io::print_decimal(STDOUT_FILENO, n);
-}
-
-fn end() {
-    io::write_all(STDOUT_FILENO, b"\n");
-}
-
-fn accepted() {
-    io::write_all(STDOUT_FILENO, b" | 0 0");
-}
-
-fn refused(refusal: Refusal) {
-    io::write_all(STDOUT_FILENO, b" |");
-    put(refusal::number(refusal) as u64);
-    put(refusal::place(refusal) as u64);
+fn kind_of(byte: u8) -> Kind {
+    if byte == 0 { Kind::Dct } else { Kind::Dst }
 }
 
 fn show(answer: BoundAnswer) {
     match answer {
         BoundAnswer::Bound(value) => {
-            accepted();
-            put(value as u64);
+            cases::put_answer(Answer::Done);
+            cases::put(value as u64);
         }
-        BoundAnswer::Refused(refusal) => refused(refusal),
+        BoundAnswer::Refused(why) => cases::put_refusal(why),
     }
-    end();
 }
 
-fn asked(n: usize, bit_depth: u8, extended_precision: bool) {
-    put(n as u64);
-    put(bit_depth as u64);
-    put(extended_precision as u64);
-}
-
-fn dct(n: usize, bit_depth: u8, extended_precision: bool) {
-    io::write_all(STDOUT_FILENO, b"dct");
-    asked(n, bit_depth, extended_precision);
-    show(rounding::rounding_bound(Kind::Dct, n, bit_depth, extended_precision));
-}
-
-fn dst(n: usize, bit_depth: u8, extended_precision: bool) {
-    io::write_all(STDOUT_FILENO, b"dst");
-    asked(n, bit_depth, extended_precision);
-    show(rounding::rounding_bound(Kind::Dst, n, bit_depth, extended_precision));
-}
-
-fn sizes(bit_depth: u8, extended_precision: bool) {
-    dct(4, bit_depth, extended_precision);
-    dct(8, bit_depth, extended_precision);
-    dct(16, bit_depth, extended_precision);
-    dct(32, bit_depth, extended_precision);
-    dst(4, bit_depth, extended_precision);
-}
-
-fn borders() {
-    dct(0, 8, false);
-    dct(12, 7, false);
-    dct(64, 8, false);
-    dct(18446744073709551615, 255, true);
-    dct(8, 7, false);
-    dct(8, 17, true);
-    dst(8, 7, true);
-    dst(8, 8, false);
-    dst(32, 16, true);
-    dst(5, 8, false);
+// One case; answers whether there was one.
+fn replay() -> bool {
+    if !cases::copy_text(STDIN_FILENO) {
+        return false;
+    }
+    let kind = kind_of(cases::next_byte(STDIN_FILENO));
+    let n = cases::next_word(STDIN_FILENO);
+    let bit_depth = cases::next_byte(STDIN_FILENO);
+    let extended = cases::next_byte(STDIN_FILENO) != 0;
+    show(rounding::rounding_bound(kind, n, bit_depth, extended));
+    cases::put_end();
+    true
 }
 
 fn main() {
-    sizes(8, false);
-    sizes(9, true);
-    sizes(12, true);
-    sizes(16, true);
-    sizes(16, false);
-    borders();
+    let mut turns = u64::MAX;
+    while turns > 0 && replay() {
+        turns -= 1;
+    }
 }

@@ -44,9 +44,6 @@ put-sum-requires c κs = search needs
 put-sum-requires-2 : tie.Need-put-sum-requires-2 Inv-loop μ-loop
 put-sum-requires-2 c κs = search needs
 
-end-requires : tie.Need-end-requires Inv-loop μ-loop
-end-requires c κs = search needs
-
 returns : tie.Need-returns Inv-loop μ-loop
 returns c = search needs
 
@@ -67,5 +64,4 @@ put-sums-spec =
     loop-again
     put-sum-requires
     put-sum-requires-2
-    end-requires
     returns)

@@ -8,10 +8,10 @@ use Rattle.picture_cases.proofs.fill.Statement.{statement}
 use Rattle.picture_cases.proofs.fill.Tie as tie
 
 abbrev Inv-loop : tie.InvT-loop
-Inv-loop plane₀ i₀ sample₀ plane i sample = (length plane ≡ length plane₀) × (i ≤ length plane₀)
+Inv-loop first step plane₀ i₀ sample₀ plane i sample = (length plane ≡ length plane₀) × (i ≤ length plane₀)
 
 abbrev μ-loop : tie.MeasureT-loop
-μ-loop plane₀ i₀ sample₀ plane i sample = length plane₀ - i
+μ-loop first step plane₀ i₀ sample₀ plane i sample = length plane₀ - i
 
 loop-holds : tie.Need-loop-holds Inv-loop μ-loop
 loop-holds c = (refl, omega arith)
