@@ -16,7 +16,7 @@ use Rattle.integers.proofs.ListsLaws.{tabulate-length, tabulate-getD, tabulate-
 use Rattle.refusal.specs.declared.Refusal.{Refusal}
 use Rattle.scaling_lists.specs.Syntax.{Reading, FactorList, Defaults, defaults, andThen, listCode}
 use Rattle.scaling_lists.specs.Syntax.Reading.{got, stop}
-use Rattle.scaling_lists.specs.Work.{entriesAt, defaultsIn, heldAt, held, oneMore}
+use Rattle.scaling_lists.specs.Work.{listEntries, defaultsIn, heldAt, held, oneMore}
 
 module _ (d : List ℕ) (at : ℕ) (s : List ℕ) (n i : ℕ) (hd : at ≤ length d) (hs : n ≤ length s) where
   head : i < at + n → getD (paste d at s n) i 0 ≡ getD (take at d ++ take n s) i 0
@@ -33,14 +33,14 @@ paste-inside d at s n i hd hs h =
     ∙ getD-append-add (take at d) (take n s) i 0
     ∙ getD-take n s i 0 h
 
-pub put-list : (j : ℕ) (lists es : List ℕ) → length es ≡ 64 → 64 * j + 64 ≤ length lists → entriesAt (paste lists (64 * j) es (length es)) j ≡ es
+pub put-list : (j : ℕ) (lists es : List ℕ) → length es ≡ 64 → 64 * j + 64 ≤ length lists → listEntries (paste lists (64 * j) es (length es)) j ≡ es
 put-list j lists es long room =
-    ext-getD 0 (entriesAt (paste lists (64 * j) es (length es)) j) es (tabulate-length 64 _ ∙ sym long)
+    ext-getD 0 (listEntries (paste lists (64 * j) es (length es)) j) es (tabulate-length 64 _ ∙ sym long)
     (λ i b. let b′ : i < 64 = rw tabulate-length at b in
     tabulate-getD 64 (λ i. getD (paste lists (64 * j) es (length es)) (64 * j + i) 0) i 0 b′
     ∙ paste-inside lists (64 * j) es (length es) i (omega arith) (omega arith) (omega arith))
 
-pub put-keeps : (j k : ℕ) (lists es : List ℕ) → k < j → 64 * j ≤ length lists → entriesAt (paste lists (64 * j) es (length es)) k ≡ entriesAt lists k
+pub put-keeps : (j k : ℕ) (lists es : List ℕ) → k < j → 64 * j ≤ length lists → listEntries (paste lists (64 * j) es (length es)) k ≡ listEntries lists k
 put-keeps j k lists es h room =
     tabulate-cong 64 (λ i. getD (paste lists (64 * j) es (length es)) (64 * k + i) 0) (λ i. getD lists (64 * k + i) 0)
     (λ i b. paste-before lists (64 * j) es (length es) (64 * k + i) room (omega arith) (omega arith))
@@ -52,12 +52,12 @@ unfolding defaultsIn
 gathered zeros four intra inter {one} {two} {three} z f a e p q r =
     let l1 : length one ≡ 192 = ap length p ∙ length-paste zeros 0 four (length four) (omega arith) (omega arith) ∙ z in
     let l2 : length two ≡ 192 = ap length q ∙ length-paste one 64 intra (length intra) (omega arith) (omega arith) ∙ l1 in
-    let r0 : entriesAt three 0 ≡ entriesAt two 0 = ap (λ (l : List ℕ). entriesAt l 0) r ∙ put-keeps 2 0 two inter (omega arith) (omega arith) in
-    let q0 : entriesAt two 0 ≡ entriesAt one 0 = ap (λ (l : List ℕ). entriesAt l 0) q ∙ put-keeps 1 0 one intra (omega arith) (omega arith) in
-    let p0 : entriesAt one 0 ≡ four = ap (λ (l : List ℕ). entriesAt l 0) p ∙ put-list 0 zeros four f (omega arith) in
-    let r1 : entriesAt three 1 ≡ entriesAt two 1 = ap (λ (l : List ℕ). entriesAt l 1) r ∙ put-keeps 2 1 two inter (omega arith) (omega arith) in
-    let q1 : entriesAt two 1 ≡ intra = ap (λ (l : List ℕ). entriesAt l 1) q ∙ put-list 1 one intra a (omega arith) in
-    let r2 : entriesAt three 2 ≡ inter = ap (λ (l : List ℕ). entriesAt l 2) r ∙ put-list 2 two inter e (omega arith) in
+    let r0 : listEntries three 0 ≡ listEntries two 0 = ap (λ (l : List ℕ). listEntries l 0) r ∙ put-keeps 2 0 two inter (omega arith) (omega arith) in
+    let q0 : listEntries two 0 ≡ listEntries one 0 = ap (λ (l : List ℕ). listEntries l 0) q ∙ put-keeps 1 0 one intra (omega arith) (omega arith) in
+    let p0 : listEntries one 0 ≡ four = ap (λ (l : List ℕ). listEntries l 0) p ∙ put-list 0 zeros four f (omega arith) in
+    let r1 : listEntries three 1 ≡ listEntries two 1 = ap (λ (l : List ℕ). listEntries l 1) r ∙ put-keeps 2 1 two inter (omega arith) (omega arith) in
+    let q1 : listEntries two 1 ≡ intra = ap (λ (l : List ℕ). listEntries l 1) q ∙ put-list 1 one intra a (omega arith) in
+    let r2 : listEntries three 2 ≡ inter = ap (λ (l : List ℕ). listEntries l 2) r ∙ put-list 2 two inter e (omega arith) in
     rw (r0 ∙ q0 ∙ p0, r1 ∙ q1, r2)
 
 module _ (j : ℕ) (lists dcs es : List ℕ) (dc : ℕ) (long : length es ≡ 64) (room : 64 * j + 64 ≤ length lists) (dcs-room : j < length dcs) where

@@ -4,7 +4,7 @@
 --   listed es r           the same as a list, the number being its DC
 --   Positions ps len      at most 64 positions, each of them below a length
 --   partEnd, partValue r  the offset behind what was read and what it was, else 0
---   entriesAt xs k        list k of those that stand one behind the other
+--   listEntries xs k      list k of those that stand one behind the other
 --   defaultsIn lent       the defaults that stand so: that of 4×4, intra, inter
 --   defaultNumber s m     which of the three s and m have
 --   entriesTaken          the entries that a reference from list j means, of the defaults or of the lists read
@@ -51,11 +51,11 @@ abbrev pub partValue : Part → ℕ
 partValue (Value v behind) = v
 partValue (Refused e) = 0
 
-abbrev pub entriesAt : List ℕ → ℕ → List ℕ
-entriesAt xs k = tabulate 64 (λ i. getD xs (64 * k + i) 0)
+abbrev pub listEntries : List ℕ → ℕ → List ℕ
+listEntries xs k = tabulate 64 (λ i. getD xs (64 * k + i) 0)
 
 unfoldable pub defaultsIn : List ℕ → Defaults
-defaultsIn lent = defaults (entriesAt lent 0) (entriesAt lent 1) (entriesAt lent 2)
+defaultsIn lent = defaults (listEntries lent 0) (listEntries lent 1) (listEntries lent 2)
 
 unfoldable pub defaultNumber : ℕ → ℕ → ℕ
 defaultNumber s m = cond (eqb s 0) 0 (cond (ltb m 3) 1 2)
@@ -63,10 +63,10 @@ defaultNumber s m = cond (eqb s 0) 0 (cond (ltb m 3) 1 2)
 unfoldable pub entriesTaken : List ℕ → List ℕ → ℕ → ℕ → List ℕ
 entriesTaken lent lists j delta =
     cond (eqb delta 0) (defaultFor (defaultsIn lent) (sizeId j) (matrixId j))
-    (entriesAt lists (listNumber (sizeId j) (matrixId j - delta * matrixStep (sizeId j))))
+    (listEntries lists (listNumber (sizeId j) (matrixId j - delta * matrixStep (sizeId j))))
 
 abbrev pub heldAt : List ℕ → List ℕ → ℕ → FactorList
-heldAt lists dcs k = record { entries = entriesAt lists k; dc = getD dcs k 0 }
+heldAt lists dcs k = record { entries = listEntries lists k; dc = getD dcs k 0 }
 
 unfoldable pub held : ℕ → List ℕ → List ℕ → List FactorList
 held j lists dcs = tabulate j (heldAt lists dcs)

@@ -3,7 +3,7 @@ use mathlib.Core.Path.{sym, ap, _∙_}
 use native.Mathlib.Omega.{arith}
 use lib.ListN.{length}
 use Rattle.scaling_lists.specs.Syntax.{sizeId, matrixId}
-use Rattle.scaling_lists.specs.Work.{entriesAt, defaultsIn}
+use Rattle.scaling_lists.specs.Work.{listEntries, defaultsIn}
 use Rattle.scaling_lists.proofs.ListLaws.{taken-default, taken-held, taken-length, paste-whole, referred-default, referred-held}
 use borrow.Author.Needs.{needs}
 use Rattle.scaling_lists.proofs.taken.fill_referred.Statement.{statement}
@@ -47,7 +47,7 @@ returns-2 c =
     let a = l .before .before .before .before .before in
     let e = ap length (l .list-taken .ensures) ∙ taken-length (a .args .lent .now) (a .args .lists .now) (a .args .j) (a .args .delta) in
     referred-held (defaultsIn (a .args .lent .now)) (sizeId (a .args .j)) (matrixId (a .args .j)) (a .args .j) (a .args .lists .now) (a .args .dcs .now) (a .args .delta) (n .number-of .result) _ (n .before .if1 .left) (n .number-of .ensures .0) (n .number-of .ensures .1)
-    (p .put .ensures ∙ paste-whole _ _ (a .pre .1 ∙ sym e) ∙ l .list-taken .ensures ∙ taken-held (a .args .lent .now) _ (a .args .j) _ (n .before .if1 .left) ∙ ap (entriesAt (a .args .lists .now)) (sym (n .number-of .ensures .0)))
+    (p .put .ensures ∙ paste-whole _ _ (a .pre .1 ∙ sym e) ∙ l .list-taken .ensures ∙ taken-held (a .args .lent .now) _ (a .args .j) _ (n .before .if1 .left) ∙ ap (listEntries (a .args .lists .now)) (sym (n .number-of .ensures .0)))
 
 pub fill-referred-spec : {M : Type 1} → statement M
 fill-referred-spec =
