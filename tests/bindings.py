@@ -31,18 +31,21 @@ def rust_type(word, count=0):
     return f"[{one}; {count}]" if count else one
 
 
-def has_long_array(header, struct):
-    """Default is derived for arrays of up to 32 elements."""
-    return any(count > 32 or word in header.structs and has_long_array(header, header.structs[word]) for _, word, count in struct.words)
+def rust_struct(name, struct):
+    fields = "".join(f"    pub {field}: {rust_type(word, count)},\n" for field, word, count in struct.words)
+    # Default is derived for arrays of up to 32 elements
+    derived = all(count <= 32 for _, _, count in struct.words)
+    text = f"/// `{name}`\n#[repr(C)]\n#[derive(Clone, Copy, Debug, {'Default, ' if derived else ''}PartialEq, Eq)]\npub struct {rust_name(name)} {{\n{fields}}}\n"
+    if not derived:
+        values = ", ".join(f"{field}: " + (f"[0; {count}]" if count else "Default::default()") for field, word, count in struct.words)
+        text += f"\nimpl Default for {rust_name(name)} {{\n    fn default() -> Self {{\n        {rust_name(name)} {{ {values} }}\n    }}\n}}\n"
+    return text
 
 
 def ffi(header):
     parts = [HEAD]
-    for name, struct in header.structs.items():
-        default = "" if has_long_array(header, struct) else "Default, "
-        fields = "".join(f"    pub {field}: {rust_type(word, count)},\n" for field, word, count in struct.words)
-        parts.append(f"/// `{name}`\n#[repr(C)]\n#[derive(Clone, Copy, Debug, {default}PartialEq, Eq)]\npub struct {rust_name(name)} {{\n{fields}}}\n")
-    lines = ['extern "C" {']
+    parts += [rust_struct(name, struct) for name, struct in header.structs.items()]
+    lines = ['unsafe extern "C" {']
     for function in header.functions.values():
         words = [f"{p.name}: {('*const ' if p.constant else '*mut ') if p.pointer else ''}{rust_type(p.word)}" for p in function.parameters]
         line = f"    pub fn {function.name}({', '.join(words)}) -> {rust_type(function.word)};"

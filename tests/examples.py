@@ -7,6 +7,7 @@ target/bin and the archive that of FOXENTU_ARCHIVE where it is given.
 import os
 import pathlib
 import re
+import shutil
 import subprocess
 import sys
 
@@ -26,6 +27,9 @@ for path in map(str, sorted(pathlib.Path("examples").glob("*.txt"))):
         wrong.append(path)
         print(f"examples: README.md does not show {path}")
 for command, file, text in found:
+    if " levels " in command and not shutil.which(os.environ.get("CC") or "cc"):
+        print(f"examples: {file} is left out, since cc is not at hand to link the archive for Python")
+        continue
     text = re.sub(r"^    ", "", text, flags=re.M)
     ran = subprocess.run(["bash", "-euo", "pipefail", "-c", command], stdout=subprocess.PIPE, stderr=subprocess.STDOUT, text=True)
     refused = re.search(r"^refused \d+ \d+$", text, re.M) is not None

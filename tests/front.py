@@ -16,16 +16,24 @@ import time
 ROOT = pathlib.Path(__file__).resolve().parent.parent
 os.chdir(ROOT)
 room = pathlib.Path(tempfile.mkdtemp(prefix="foxentu-front-"))
-count, failed = 0, 0
+count, failed, left = 0, 0, 0
+# these commands call the archive, which a C compiler links for Python
+ARCHIVE = ("levels", "lists", "checksum", "bound")
+HAS_CC = shutil.which(os.environ.get("CC") or "cc") is not None
 
 
 def foxentu(*words, stdin=None, stdout=subprocess.PIPE, env=None, cwd=ROOT, head="./foxentu"):
+    if not HAS_CC and "--help" not in words and any(name in str(word).split() for name in ARCHIVE for word in words):
+        return None
     return subprocess.run([head, *map(str, words)], input=stdin, stdin=None if stdin is not None else subprocess.DEVNULL, stdout=stdout, stderr=subprocess.PIPE, env={**os.environ, **(env or {})}, cwd=cwd)
 
 
 def expect(name, ran, status, out=None, error=None, lines=None):
     """A run's status, its output whole, a part of its standard error, and how many lines that has."""
-    global count, failed
+    global count, failed, left
+    if ran is None:
+        left += 1
+        return ""
     count += 1
     said, wrote = ran.stderr.decode("utf-8", "replace"), (ran.stdout or b"").decode("utf-8", "replace")
     wrong = []
@@ -283,5 +291,7 @@ try:
     speed()
 finally:
     shutil.rmtree(room, ignore_errors=True)
+if left:
+    print(f"front: LEFT OUT: {left} runs of {', '.join(ARCHIVE)}, since cc is not at hand")
 print(f"front: {count} runs, {failed} not as they should be")
 sys.exit(1 if failed else 0)

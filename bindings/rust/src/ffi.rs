@@ -133,7 +133,7 @@ pub struct PictureNumberAnswered {
     pub value: u32,
 }
 
-extern "C" {
+unsafe extern "C" {
     pub fn residual_max_log2_transform_dynamic_range(bit_depth: u8, extended_precision: bool) -> NumberAnswered;
     pub fn residual_qp_bd_offset(bit_depth: u8) -> NumberAnswered;
     pub fn residual_qp_prime(qp: i32, bit_depth: u8) -> SignedAnswered;
