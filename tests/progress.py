@@ -19,6 +19,8 @@ def listed():
 
 
 def main():
+    sys.stdin.reconfigure(encoding="utf-8", errors="replace")
+    sys.stdout.reconfigure(encoding="utf-8")
     began, crates, left = time.monotonic(), listed(), listed()
     edits, tried = len(list(pathlib.Path("crates").glob("*/must-fail/*.edit"))), 0
     for line in sys.stdin:
