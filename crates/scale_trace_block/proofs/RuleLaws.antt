@@ -28,7 +28,7 @@ use Rattle.scale_trace_block.specs.declared.Source.{Source}
 use Rattle.scale_trace_block.specs.declared.Source.the-variants.{None, Four, Eight, Dc, Repeat, Skip}
 use Rattle.scale_trace_block.specs.Block.{blockSource, blockFactor}
 use Rattle.scale_trace_block.specs.Block.BlockSource.{rule, skip}
-use Rattle.scale_trace_block.specs.Work.{LineAsk, sourceIs, positionOf, SourceAt}
+use Rattle.scale_trace_block.specs.Work.{LinePrecondition, sourceIs, positionOf, SourceAt}
 
 -- ---- the rule
 pub factor-none : (mode : Mode) (n i : ℕ) → _≡_ {A = ℕ} 16 (blockFactor flat mode n i)
@@ -94,12 +94,12 @@ module _ (x : Bool) (es : List ℕ) (d : ℕ) (mode : Mode) (n i : ℕ) where
   unfolding blockFactor listFor
   factor-listed z g e = rw (not-false x z, g) e
 
-pub coeff-accepted : (es : List ℕ) (d n i : ℕ) → LineAsk n i (length es) → scalingCoeff es d n i ≡ accepted (scalingFactor (listed es d) n i)
+pub coeff-accepted : (es : List ℕ) (d n i : ℕ) → LinePrecondition n i (length es) → scalingCoeff es d n i ≡ accepted (scalingFactor (listed es d) n i)
 unfolding scalingCoeff sizeRefused listRefused
 coeff-accepted es d n i a = simp (size-cases (λ m. sizeRefused m ≡ false) refl refl refl refl n (a .size), eq-eqb (length es) 64 (a .whole), lt-leb (n * n) i (a .index))
 
-pub coeff-factor : {m : ℕ} (es : List ℕ) (d n i : ℕ) → LineAsk n i (length es) → accepted m ≡ scalingCoeff es d n i → m ≡ scalingFactor (listed es d) n i
+pub coeff-factor : {m : ℕ} (es : List ℕ) (d n i : ℕ) → LinePrecondition n i (length es) → accepted m ≡ scalingCoeff es d n i → m ≡ scalingFactor (listed es d) n i
 coeff-factor es d n i a e = ap (λ (o : Outcome ℕ). o .value) (e ∙ coeff-accepted es d n i a)
 
-pub coeff-refused : {A : Type 0} (why : Refusal) (es : List ℕ) (d n i : ℕ) → LineAsk n i (length es) → refused 0 why ≡ scalingCoeff es d n i → A
+pub coeff-refused : {A : Type 0} (why : Refusal) (es : List ℕ) (d n i : ℕ) → LinePrecondition n i (length es) → refused 0 why ≡ scalingCoeff es d n i → A
 coeff-refused why es d n i a e = absurd (omega (arith, number-least why, ap (λ (o : Outcome ℕ). o .number) (e ∙ coeff-accepted es d n i a)))

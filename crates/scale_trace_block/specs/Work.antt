@@ -1,8 +1,8 @@
 -- What the functions of a block's lines rely on and hand back.
 --   sourceIs src                   the rule that a source of the code stands for
 --   positionOf src                 its position, and 0 where the rule has none
---   LineAsk n i len                a size, an index of its block, and a whole list
---   BlockAsk n len                 a size or 0, and a whole list
+--   LinePrecondition n i len       a size, an index of its block, and a whole list
+--   LinesPrecondition n len        a size or 0, and a whole list
 --   SourceAt listed mode n i src   the source is that of index i, whatever the entries are
 use mathlib.Core.Path.{_≡_}
 use mathlib.Core.Bool.{Bool}
@@ -34,12 +34,12 @@ positionOf Dc = 0
 positionOf (Repeat p) = p
 positionOf Skip = 0
 
-pub record LineAsk (n i len : ℕ) : Type 0 where
+pub record LinePrecondition (n i len : ℕ) : Type 0 where
   pub size : T (isSize n)
   pub index : i < n * n
   pub whole : len ≡ 64
 
-pub record BlockAsk (n len : ℕ) : Type 0 where
+pub record LinesPrecondition (n len : ℕ) : Type 0 where
   pub size : 0 < n → T (isSize n)
   pub whole : len ≡ 64
 

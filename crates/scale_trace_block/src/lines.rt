@@ -5,7 +5,7 @@ ghost use lib.ListN.{length};
 ghost use Rattle.text.specs.Text.{space, unsignedText, WroteUpTo};
 ghost use Rattle.feed_block.specs.Block.{listIn};
 ghost use Rattle.scale_trace_block.specs.Block.{reasonText, positionText, ruleText, lineText, blockLines};
-ghost use Rattle.scale_trace_block.specs.Work.{sourceIs, positionOf, LineAsk, BlockAsk};
+ghost use Rattle.scale_trace_block.specs.Work.{sourceIs, positionOf, LinePrecondition, LinesPrecondition};
 use crate::Source;
 use crate::rule;
 use feed_block::Mode;
@@ -71,7 +71,7 @@ fn put_line(
     out: &mut [u8],
     at: usize,
 ) -> usize
-    requires { ⌜ LineAsk n index (length (now entries)) ⌝ }
+    requires { ⌜ LinePrecondition n index (length (now entries)) ⌝ }
     requires { ⌜ at + 20 ≤ length (now out) ⌝ }
     ensures { λ r. ⌜ WroteUpTo (now (out .entry)) at (lineText (listIn listed (now (entries .entry)) dc) mode n index) (now (out .exit)) r (at + 20) ⌝ }
 {
@@ -92,7 +92,7 @@ pub fn put_lines(
     out: &mut [u8],
     at: usize,
 ) -> usize
-    requires { ⌜ BlockAsk n (length (now entries)) ⌝ }
+    requires { ⌜ LinesPrecondition n (length (now entries)) ⌝ }
     requires { ⌜ at + 20 * (n * n) ≤ length (now out) ⌝ }
     ensures { λ r. ⌜ WroteUpTo (now (out .entry)) at (blockLines (listIn listed (now (entries .entry)) dc) mode n) (now (out .exit)) r (at + 20 * (n * n)) ⌝ }
 {

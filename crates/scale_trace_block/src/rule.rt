@@ -6,7 +6,7 @@ ghost use lib.ListN.{length};
 ghost use Rattle.h265.specs.Range.{isSize};
 ghost use Rattle.feed_block.specs.Block.{listIn};
 ghost use Rattle.scale_trace_block.specs.Block.{blockFactor};
-ghost use Rattle.scale_trace_block.specs.Work.{LineAsk, SourceAt};
+ghost use Rattle.scale_trace_block.specs.Work.{LinePrecondition, SourceAt};
 use crate::Source;
 use feed_block::Mode;
 use feed_block::block;
@@ -47,7 +47,7 @@ pub(crate) fn factor_of(
     n: usize,
     index: usize,
 ) -> u8
-    requires { ⌜ LineAsk n index (length (now entries)) ⌝ }
+    requires { ⌜ LinePrecondition n index (length (now entries)) ⌝ }
     ensures { λ r. ⌜ r ≡ blockFactor (listIn listed (now (entries .entry)) dc) mode n index ⌝ }
 {
     if !listed {

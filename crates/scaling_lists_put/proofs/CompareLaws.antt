@@ -2,15 +2,18 @@
 --   same-by-dc, same-not      two lists by their entries, and by DC where those are equal
 --   held-list                 list j of the buffers
 --   same-held, same-default   two of those, and one with a default
-use mathlib.Core.Path.{_≡_, sym, ap, ap₂, _∙_}
+--   matrixId-below            below list 18 every matrix of a size has a list
+--   intra-last                of the two lists at 32×32 the first has the default of intra
+use mathlib.Core.Path.{_≡_, refl, sym, ap, ap₂, _∙_}
 use mathlib.Core.Bool.{Bool, true, false, cond, _&&_}
 use mathlib.Core.List.{List}
-use Prim.Native.Nat.{ℕ, _+_, _*_, _≤_, _<_}
+use Prim.Native.Nat.{ℕ, _+_, _*_, _/_, _%_, _≤_, _<_}
 use native.Mathlib.Omega.{arith}
-use lib.Dec.{eqb}
+use borrow.Author.Tests.{ne-eqb, eqb-true, eqb-false}
+use lib.Dec.{eqb, ltb}
 use lib.ListN.{length, getD}
 use Rattle.integers.proofs.ListsLaws.{tabulate-getD}
-use Rattle.scaling_lists.specs.Syntax.{Defaults, none, sizeId, matrixId, defaultFor}
+use Rattle.scaling_lists.specs.Syntax.{Defaults, none, matrixStep, sizeId, matrixId, defaultFor}
 use Rattle.scaling_lists.specs.Work.{heldAt, held}
 use Rattle.scaling_lists.proofs.ListLaws.{fill-whole}
 use Rattle.scaling_lists_written.specs.Same.{every, hasDc, usedCount, entry, sameList, listAt}
@@ -49,3 +52,16 @@ module _ (lists dcs : List ℕ) where
       → sameList (sizeId j) (listFrom lists (64 * j) (getD dcs j 0)) (listFrom d 0 16) ≡ sameList (sizeId j) (listAt (held 20 lists dcs) j) (defaultList lent (sizeId j) (matrixId j))
   same-default lent j d h long e =
       ap₂ (sameList (sizeId j)) (sym (held-list j h)) (ap (λ (es : List ℕ). record { entries = es; dc = 16 }) (fill-whole 64 d long ∙ e))
+
+-- ---- which default
+pub matrixId-below : (j : ℕ) → j < 18 → matrixId j ≡ j % 6
+unfolding matrixId matrixStep sizeId
+matrixId-below j h = rw (ne-eqb (j / 6) 3 (λ e. omega arith)) (omega arith)
+
+pub intra-last : (j : ℕ) → 18 ≤ j → j < 20 → eqb j 18 ≡ ltb (matrixId j) 3
+unfolding matrixId matrixStep sizeId
+intra-last j l h = by-test (eqb j 18) refl
+  where
+    by-test : (t : Bool) → eqb j 18 ≡ t → t ≡ ltb (matrixId j) 3
+    by-test true e = rw (eqb-true j 18 e)
+    by-test false e = let n : j ≡ 19 = omega (arith, eqb-false j 18 e) in rw n

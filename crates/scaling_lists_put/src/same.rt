@@ -2,9 +2,9 @@
 ghost use mathlib.Core.Path.{_≡_};
 ghost use mathlib.Core.Bool.{true, cond};
 ghost use Prim.Native.Nat.{_+_, _*_, _≤_, _<_};
-ghost use lib.Dec.{eqb};
+ghost use lib.Dec.{eqb, ltb};
 ghost use lib.ListN.{length, getD};
-ghost use Rattle.scaling_lists.specs.Syntax.{defaults, matrixStep, sizeId, matrixId};
+ghost use Rattle.scaling_lists.specs.Syntax.{defaults, sizeId, matrixId};
 ghost use Rattle.scaling_lists.specs.Work.{held};
 ghost use Rattle.scaling_lists_written.specs.Same.{every, hasDc, usedCount, sameList, listAt};
 ghost use Rattle.scaling_lists_written.specs.Written.{defaultList, nearest};
@@ -56,19 +56,15 @@ fn same_list(a: &[u8], at: usize, a_dc: u8, b: &[u8], from: usize, b_dc: u8, j: 
     false
 }
 
-// How far apart the matrices of list j's size are that have a list.
-fn matrix_step(j: usize) -> usize
-    ensures { λ r. ⌜ r ≡ matrixStep (sizeId j) ⌝ }
-{
-    if j / 6 == 3 { 3 } else { 1 }
-}
-
-// matrixId of list j.
-fn matrix_of(j: usize) -> usize
+// Whether the default of list j is that of intra: its matrixId is below 3.
+fn is_intra(j: usize) -> bool
     requires { ⌜ j < 20 ⌝ }
-    ensures { λ r. ⌜ r ≡ matrixId j ⌝ }
+    ensures { λ r. ⌜ r ≡ ltb (matrixId j) 3 ⌝ }
 {
-    j % 6 * matrix_step(j)
+    if j < 18 {
+        return j % 6 < 3;
+    }
+    j == 18
 }
 
 // Whether list j is the same as its default with DC 16.
@@ -87,7 +83,7 @@ pub(crate) fn is_default(
     if j / 6 == 0 {
         return same_list(lists, 64 * j, dc, four, 0, 16, j);
     }
-    if matrix_of(j) < 3 {
+    if is_intra(j) {
         return same_list(lists, 64 * j, dc, intra, 0, 16, j);
     }
     same_list(lists, 64 * j, dc, inter, 0, 16, j)

@@ -1,5 +1,6 @@
 -- `scaling_lists_put::same::is_default` meets its contract: the list is compared with the default that its size and matrix have.
-use mathlib.Core.Path.{_∙_}
+use mathlib.Core.Path.{sym, _∙_}
+use borrow.Author.Tests.{ltb-true, ltb-false}
 use Rattle.scaling_lists.specs.Syntax.{sizeId, defaults}
 use Rattle.scaling_lists.proofs.ListLaws.{default-four, default-intra, default-inter}
 use Rattle.scaling_lists_put.proofs.CompareLaws.{same-default}
@@ -25,8 +26,8 @@ returns c =
     c .same-list .ensures
     ∙ same-default (a .lists .now) (a .dcs .now) lent (a .j) (a .four .now) (s .pre .1) (s .pre .0 .four-long) (default-four lent (sizeId (a .j)) _ (c .before .if1 .taken))
 
-matrix-of-requires : tie.Need-matrix-of-requires
-matrix-of-requires c κs = search needs
+is-intra-requires : tie.Need-is-intra-requires
+is-intra-requires c κs = search needs
 
 mul-same-list-2 : tie.Need-mul-same-list-2
 mul-same-list-2 c = search needs
@@ -42,7 +43,7 @@ returns-2 c =
     let lent = defaults (a .four .now) (a .intra .now) (a .inter .now) in
     c .same-list2 .ensures
     ∙ same-default (a .lists .now) (a .dcs .now) lent (a .j) (a .intra .now) (s .pre .1) (s .pre .0 .intra-long)
-    (default-intra lent (sizeId (a .j)) _ (c .before .before .before .if1 .left) (rw (c .before .before .matrix-of .ensures) at (c .before .if2 .taken)))
+    (default-intra lent (sizeId (a .j)) _ (c .before .before .before .if1 .left) (ltb-true _ 3 (sym (c .before .before .is-intra .ensures) ∙ c .before .if2 .taken)))
 
 mul-same-list-3 : tie.Need-mul-same-list-3
 mul-same-list-3 c = search needs
@@ -58,7 +59,7 @@ returns-3 c =
     let lent = defaults (a .four .now) (a .intra .now) (a .inter .now) in
     c .same-list3 .ensures
     ∙ same-default (a .lists .now) (a .dcs .now) lent (a .j) (a .inter .now) (s .pre .1) (s .pre .0 .inter-long)
-    (default-inter lent (sizeId (a .j)) _ (c .before .before .before .if1 .left) (rw (c .before .before .matrix-of .ensures) at (c .before .if2 .left)))
+    (default-inter lent (sizeId (a .j)) _ (c .before .before .before .if1 .left) (ltb-false _ 3 (sym (c .before .before .is-intra .ensures) ∙ c .before .if2 .left)))
 
 pub is-default-spec : {M : Type 1} → statement M
 is-default-spec =
@@ -68,7 +69,7 @@ is-default-spec =
     mul-same-list
     same-list-requires
     returns
-    matrix-of-requires
+    is-intra-requires
     mul-same-list-2
     same-list-requires-2
     returns-2
