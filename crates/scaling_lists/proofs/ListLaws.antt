@@ -1,5 +1,6 @@
 -- One list: coded in full, or taken over.
 --   positions-four, -eight   the positions of a size
+--   allBelow, below-both     that numbers lie below one, as a test, and its parts
 --   four-inside, eight-inside   they lie among 64 entries
 --   coded-got, coded-stop    entries that are read, with a DC that is known
 --   coded-plain, coded-dc, coded-dc-stop   a list without and with a DC of its own
@@ -41,18 +42,18 @@ pub positions-eight : (s : ℕ) → (s ≡ 0 → ⊥) → upRight 8 ≡ position
 unfolding positions
 positions-eight s e = rw (ne-eqb s 0 e)
 
-abbrev allBelow : ℕ → List ℕ → Bool
+abbrev pub allBelow : ℕ → List ℕ → Bool
 allBelow n [] = true
 allBelow n (p ∷ ps) = ltb p n && allBelow n ps
 
-both : (s t : Bool) → T (s && t) → T s × T t
-both true t h = (tt, h)
-both false t h = absurd h
+pub below-both : (s t : Bool) → T (s && t) → T s × T t
+below-both true t h = (tt, h)
+below-both false t h = absurd h
 
 below-at : (n : ℕ) (ps : List ℕ) → T (allBelow n ps) → (i : ℕ) → i < length ps → getD ps i 0 < n
 below-at n [] a i h = absurd (not-suc-le-zero h)
-below-at n (p ∷ ps) a zero h = ltb→lt p n (both (ltb p n) (allBelow n ps) a .0)
-below-at n (p ∷ ps) a (suc i) h = below-at n ps (both (ltb p n) (allBelow n ps) a .1) i (omega arith)
+below-at n (p ∷ ps) a zero h = ltb→lt p n (below-both (ltb p n) (allBelow n ps) a .0)
+below-at n (p ∷ ps) a (suc i) h = below-at n ps (below-both (ltb p n) (allBelow n ps) a .1) i (omega arith)
 
 pub four-inside : Positions (upRight 4) 64
 unfolding inside diagonal diagonals upRight

@@ -7,7 +7,7 @@
 --   list-read        list j is read as it was written
 --   read-used        what is read is the list as far as its size uses it
 use mathlib.Core.Path.{_≡_, refl, sym, ap, ap₂, _∙_, subst}
-use mathlib.Core.Bool.{Bool, true, false, cond, _&&_}
+use mathlib.Core.Bool.{Bool, true, false, cond}
 use mathlib.Core.List.{List, [], _∷_, _++_}
 use Prim.Native.Nat.{ℕ, _+_, _-_, _*_, _/_, _%_, _≤_, _<_}
 use native.Mathlib.Nat.{mul-comm, mul-sub, mul-div-cancel, mul-div-cancel-left}
@@ -25,6 +25,7 @@ use Rattle.bits_written.proofs.CodesLaws.{unsigned-read}
 use Rattle.diagonal.specs.Scan.{inside, diagonal, diagonals, upRight}
 use Rattle.scaling_lists.specs.Syntax.{FactorList, Defaults, andThen, matrixStep, sizeId, matrixId, listNumber, defaultFor, positions, blank, codedEntries, dcCode, codedList, referenceCode, referred, takenOver, none, listBy, listCode}
 use Rattle.scaling_lists.specs.Syntax.Reading.{got}
+use Rattle.scaling_lists.proofs.ListLaws.{allBelow, below-both}
 use Rattle.scaling_lists_written.specs.Same.{hasDc, usedCount, entry, sameList, usedList, Proper, listAt}
 use Rattle.scaling_lists_written.specs.Written.{difference, deltaBits, fullBits, defaultList, earlier, nearest, formOf, formBits, listBits, readList, Whole}
 use Rattle.scaling_lists_written.specs.Written.Form.{taken, full}
@@ -32,19 +33,11 @@ use Rattle.scaling_lists_written.proofs.SameLaws.{same-used, used-same,
 use Rattle.scaling_lists_written.proofs.DeltaLaws.{dc-read, Entries, placed, entries-read}
 
 -- ---- a list in full
-abbrev allBelow : ℕ → List ℕ → Bool
-allBelow n [] = true
-allBelow n (p ∷ ps) = ltb p n && allBelow n ps
-
-both : (s t : Bool) → T (s && t) → T s × T t
-both true t h = (tt, h)
-both false t h = absurd h
-
 entries-below : (n : ℕ) (ps : List ℕ) (l : FactorList) → T (allBelow n ps)
     → ((i : ℕ) → i < n → 1 ≤ entry l i) → ((i : ℕ) → i < n → entry l i ≤ 255) → Entries ps (l .entries)
 entries-below n [] l a lo hi = tt
 entries-below n (p ∷ ps) l a lo hi =
-    let b = both (ltb p n) (allBelow n ps) a in
+    let b = below-both (ltb p n) (allBelow n ps) a in
     let h = ltb→lt p n (b .0) in
     (lo p h, hi p h, entries-below n ps l (b .1) lo hi)
 
