@@ -4,10 +4,10 @@
 --   end-below                     the end of the range, shifted back, fits 32 bits
 --   short-limited                 a level past the two of a block is one that is limited, or whose result is
 --   short-value                   between them, and past them, the coefficient is the block's
---   short-overwrite               the same of a whole list
+--   flat-counted                  the same of a whole block, in the terms of its numbers
 --   flatFor-short                 32 bits hold every product and sum
+--   flatFor-fits                  an output holds every coefficient where it holds the ends of the range
 --   dequantOf-regular             the numbers of every block are regular
---   short-count                   the count of a block without a list is the definition's
 use mathlib.Core.Path.{_≡_, refl, sym, ap, ap₂, subst, _∙_}
 use mathlib.Core.Bool.{Bool, true, false, _||_, _&&_, cond}
 use mathlib.Core.List.{List}
@@ -21,31 +21,29 @@ use lib.ListN.{getD}
 use lib.Pow.{pow-add, pow-mono, pow-pos, shr-shr}
 use lib.Signed.{shrZ, ltZ, _≤ℤ_, _<ℤ_}
 use mir.Facts.{and-yes}
+use mir.Syntax.{Width}
+use mir.Val.{SFits}
 use Rattle.integers.specs.Clip.{clip3}
-use Rattle.integers.specs.Lists.{overwrite}
-use Rattle.integers.specs.Shift.{pow2, shiftRight, roundShift}
+use Rattle.integers.specs.Shift.{pow2, shiftRight}
 use Rattle.integers.specs.Within.{Within}
 use Rattle.integers.proofs.LinearLaws.{parts-neg, lt-out, split, ring, diff-ext}
-use Rattle.integers.proofs.OrderLaws.{*ℤ-assoc, shr-shift}
+use Rattle.integers.proofs.OrderLaws.{shr-shift}
 use Rattle.integers.proofs.BoundLaws.{within-pos, within-eq, within-neg}
 use Rattle.integers.proofs.MachineLaws.{ltZ-true, ltZ-false}
 use Rattle.integers.proofs.ListsLaws.{overwrite-cong}
-use Rattle.h265.specs.Range.{log2Size, transformRange, coeffMin, coeffMax, clipCoeff, outsideRange}
+use Rattle.h265.specs.Range.{transformRange, coeffMin, coeffMax, clipCoeff, outsideRange}
 use Rattle.h265.specs.Quantization.{clipQpPrime, levelScale, scaleOfQp}
-use Rattle.h265.specs.ScalingFactor.{scalingFactor, factorSource, factorBy}
-use Rattle.h265.specs.ScalingFactor.ScalingList.{flat}
-use Rattle.h265.specs.Scaling.{bdShift, scaledValue}
-use Rattle.h265.specs.Limited.{levelLimited, resultLimited, limitedLevel, limitedAt, countOf, limitedCount}
+use Rattle.h265.specs.Scaling.{bdShift}
 use Rattle.h265.proofs.RangeLaws.{transformRange-least, transformRange-depth}
 use Rattle.h265.proofs.QuantizationLaws.{clipQpPrime-bound}
 use Rattle.parameters.specs.declared.DequantParams.{DequantParams}
 use Rattle.parameters.specs.Parameters.{dequantOf, KnownSize}
 use Rattle.scaling_values.specs.declared.FlatParams.{FlatParams}
-use Rattle.scaling_values.specs.Level.{levelBy, flatLevel, listedLevel, Manageable}
-use Rattle.scaling_values.specs.Flat.{shortLevel, shortLimited, shortAt, shortLimitedAt, Regular, Exact, TopOf, LowOf, FlatFor, Short}
-use Rattle.scaling_values.specs.Work.{flatAt}
+use Rattle.scaling_values.specs.Level.{levelBy, flatLevel, listedLevel, resultBy, outsideBy, listedResult, listedLimited, Manageable, Ends}
+use Rattle.scaling_values.specs.Flat.{shortLevel, shortLimited, shortAt, shortLimitedAt, Regular, Exact, TopOf, LowOf, FlatFor, Short, ShortFits}
+use Rattle.scaling_values.specs.Work.{flatAt, flatLimitedAt, Counted}
 use Rattle.scaling_values.proofs.CountLaws.{count-cong}
-use Rattle.scaling_values.proofs.LevelLaws.{listedLevel-within}
+use Rattle.scaling_values.proofs.LevelLaws.{levelBy-fits, listedLevel-within}
 use Rattle.scaling_values.proofs.ThresholdLaws.{coeffMax-pos, limited-exact, value-between, value-above, value-below}
 
 -- ---- shifts
@@ -196,8 +194,34 @@ module _ {p : DequantParams} {k : FlatParams} (g : Regular p) (h : FlatFor p k) 
   unfolding shortAt flatAt
   shortAt-eq levels i = short-value (g .scale) (g .range) (g .factor) (g .add) (g .low) (g .most) h (g .least) (getD levels i (pos 0))
 
-  pub short-overwrite : (n : ℕ) (levels out : List ℤ) → overwrite n (shortAt k levels) out ≡ overwrite n (flatAt p levels) out
-  short-overwrite n levels out = overwrite-cong n (shortAt k levels) (flatAt p levels) out (λ i a. shortAt-eq levels i)
+  pub flatFor-fits : {w : Width} → Ends w p → ShortFits w k
+  unfolding flatLevel
+  flatFor-fits {w} e =
+      record {
+        at =
+            λ level.
+              subst (λ (z : ℤ). SFits w z) (sym (short-value (g .scale) (g .range) (g .factor) (g .add) (g .low) (g .most) h (g .least) level))
+              (levelBy-fits (p .factor) level e);
+      }
+
+  sixteen-is : shiftRight (p .factor) 4 *ℤ pos 16 ≡ p .factor
+  sixteen-is = rw (base-eq p (g .scale) (g .factor) (g .add) (g .low)) (pos-*ℤ-pos (g .scale) 16 ∙ ap pos (mul-comm (g .scale) 16)) ∙ sym (g .factor)
+
+  shortLimited-eq : (level : ℤ) → shortLimited k level ≡ listedLimited p 16 level
+  unfolding listedLimited listedResult resultBy outsideBy outsideRange clipCoeff
+  shortLimited-eq level =
+      short-limited (g .scale) (g .range) (g .factor) (g .add) (g .low) (g .most) h level ∙ rw (sixteen-is, g .least, g .most)
+
+  shortLimitedAt-eq : (levels : List ℤ) (i : ℕ) → shortLimitedAt k levels i ≡ flatLimitedAt p levels i
+  unfolding shortLimitedAt flatLimitedAt
+  shortLimitedAt-eq levels i = shortLimited-eq (getD levels i (pos 0))
+
+  pub flat-counted : (levels : List ℤ) {n m : ℕ} {out after : List ℤ} → Counted (shortAt k levels) (shortLimitedAt k levels) n out after m → Counted (flatAt p levels) (flatLimitedAt p levels) n out after m
+  flat-counted levels {n} {out = out} c =
+      record {
+        out = c .out ∙ overwrite-cong n (shortAt k levels) (flatAt p levels) out (λ i a. shortAt-eq levels i);
+        count = c .count ∙ count-cong (shortLimitedAt k levels) (flatLimitedAt p levels) n (λ i a. shortLimitedAt-eq levels i);
+      }
 
 -- ---- every block
 -- a test of every number below n
@@ -235,23 +259,3 @@ dequantOf-regular l q b x k =
       least = refl;
       most = refl;
     }
-
--- ---- the count of every block
-module _ {k : FlatParams} (n : ℕ) (q : ℤ) (b : ℕ) (x : Bool) (known : KnownSize (log2Size n) b) (h : FlatFor (dequantOf (log2Size n) q b x) k) where
-  abbrev scale-of : ℕ
-  scale-of = scaleOfQp (natAbs (clipQpPrime b q))
-
-  pub limitedLevel-eq : (level : ℤ)
-      → shortLimited k level ≡ limitedLevel (transformRange b x) (bdShift b (log2Size n) (transformRange b x)) (natAbs (clipQpPrime b q)) 16 level
-  unfolding dequantOf limitedLevel levelLimited resultLimited scaledValue roundShift
-  limitedLevel-eq level =
-      short-limited {p = dequantOf (log2Size n) q b x} {k = k} scale-of (transformRange b x) refl refl (dequantOf-regular (log2Size n) q b x known .low) refl h level
-      ∙ rw (← pos-*ℤ-pos 16 scale-of, *ℤ-assoc)
-
-  pub limitedAt-eq : (levels : List ℤ) (i : ℕ) → shortLimitedAt k levels i ≡ limitedAt flat n b x q levels i
-  unfolding shortLimitedAt limitedAt scalingFactor factorBy factorSource
-  limitedAt-eq levels i = limitedLevel-eq (getD levels i (pos 0))
-
-  pub short-count : (levels : List ℤ) → countOf (shortLimitedAt k levels) (n * n) ≡ limitedCount flat n b x q levels
-  unfolding limitedCount
-  short-count levels = count-cong (shortLimitedAt k levels) (limitedAt flat n b x q levels) (n * n) (λ i a. limitedAt-eq levels i)

@@ -10,6 +10,7 @@
 --   Exact                 both
 --   FlatFor p k           k has the numbers of p
 --   Short k               32 bits hold every product and sum
+--   ShortFits w k         a signed type of width w holds every coefficient
 use mathlib.Core.Path.{_≡_}
 use mathlib.Core.Bool.{Bool, _||_, cond}
 use mathlib.Core.List.{List}
@@ -17,7 +18,7 @@ use Prim.Native.Nat.{ℕ, _+_, _-_, _*_, _^_, _≤_, _<_}
 use lib.IntN.{ℤ, pos, negℤ, natAbs, _+ℤ_, _*ℤ_}
 use lib.ListN.{getD}
 use lib.Signed.{ltZ}
-use mir.Syntax.{w32}
+use mir.Syntax.{Width, w32}
 use mir.Val.{SFits}
 use Rattle.integers.specs.Shift.{pow2, shiftRight}
 use Rattle.integers.specs.Within.{Within}
@@ -105,3 +106,6 @@ pub record Short (k : FlatParams) : Type 0 where
   pub shift : k .shift < 32
   pub under : Within 4194304 (k .under)
   pub over : Within 4194304 (k .over)
+
+pub record ShortFits (w : Width) (k : FlatParams) : Type 0 where
+  pub at : (level : ℤ) → SFits w (shortLevel k level)

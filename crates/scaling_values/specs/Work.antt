@@ -1,7 +1,7 @@
 -- Whole blocks by the machine's numbers, as the working functions below the refusals have them.
 --   flatAt, listedAt                 the coefficient at an index of a block of levels
 --   directAt                         the same by entries that stand at the index itself
---   listedLimitedAt, directLimitedAt level or result was limited there
+--   flatLimitedAt, listedLimitedAt, directLimitedAt   level or result was limited there
 --   spreadAt                         the entry of a list that stands for an index at sizes 16 and 32, at index 0 too
 --   flatResidualAt, listedResidualAt the residual at an index
 --   residualAt                       the residual of the coefficient at an index
@@ -9,7 +9,7 @@
 --   Room count input output          both buffers hold the block
 --   Rows n r                         a size at which an entry stands for 2^r columns and rows
 --   Coefficients count xs            the first elements are coefficients
---   Continues f i j ys zs            where ys has f at the indices below i, zs has f at those below j
+--   Fills f i j xs ys                where xs has f at the indices below i, ys has f at those below j
 use mathlib.Core.Path.{_≡_}
 use mathlib.Core.Bool.{Bool}
 use mathlib.Core.List.{List}
@@ -35,6 +35,9 @@ listedAt p list n levels i = listedLevel p (scalingFactor list n i) (getD levels
 
 unfoldable pub directAt : DequantParams → List ℕ → List ℤ → ℕ → ℤ
 directAt p entries levels i = listedLevel p (getD entries i 0) (getD levels i (pos 0))
+
+unfoldable pub flatLimitedAt : DequantParams → List ℤ → ℕ → Bool
+flatLimitedAt p levels i = listedLimited p 16 (getD levels i (pos 0))
 
 unfoldable pub listedLimitedAt : DequantParams → ScalingList → ℕ → List ℤ → ℕ → Bool
 listedLimitedAt p list n levels i = listedLimited p (scalingFactor list n i) (getD levels i (pos 0))
@@ -70,6 +73,6 @@ pub record Rows (n r : ℕ) : Type 0 where
 pub record Coefficients (count : ℕ) (xs : List ℤ) : Type 0 where
   pub at : (i : ℕ) → i < count → Within 4194304 (getD xs i (pos 0))
 
-pub record Continues {A : Type 0} (f : ℕ → A) (i j : ℕ) (ys zs : List A) : Type 0 where
-  pub same : length zs ≡ length ys
-  pub more : (xs : List A) → i ≤ length xs → ys ≡ overwrite i f xs → zs ≡ overwrite j f xs
+pub record Fills (f : ℕ → ℕ) (i j : ℕ) (xs ys : List ℕ) : Type 0 where
+  pub same : length ys ≡ length xs
+  pub more : ((k : ℕ) → k < i → getD xs k 0 ≡ f k) → (k : ℕ) → k < j → getD ys k 0 ≡ f k
