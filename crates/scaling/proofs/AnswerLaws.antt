@@ -50,6 +50,6 @@ module _ (level : ℤ) (m n : ℕ) (q : ℤ) (b : ℕ) (x : Bool) where
         subst Manageable (sym (a .1)) (dequantOf-manageable (log2Size n) q b x (known-accepted n b (a .0 .0) (a .0 .1 .0))),
         ap (λ (s : DequantParams). accepted (by s)) (a .1)
             ∙ ap accepted (scaled-ext (listedLevel-eq (log2Size n) q b x m level) (outsideBy-eq (log2Size n) q b x level)
-              (outsideBy-eq (log2Size n) q b x (listedResult (dequantOf (log2Size n) q b x) m level) ∙ ap (outsideRange (transformRange b x)) (listedResult-eq (log2Size n) q b x m level)))
+            (outsideBy-eq (log2Size n) q b x (listedResult (dequantOf (log2Size n) q b x) m level) ∙ ap (outsideRange (transformRange b x)) (listedResult-eq (log2Size n) q b x m level)))
             ∙ sym (first-passed (refused noLevel) _ (rungs n b) (a .0)),
       )

@@ -6,8 +6,10 @@
 --   stored-rest                            a place that a loop has not come to is as lent
 --   fills-none, -more, -to, -then, -first  a loop that lays entries out, one after the other, and the DC number last
 --   coefficients-of, residuals-of          coefficients where they stand, and residuals in their place
+--   skip-counted                           the same with the count of the coefficients
 --   stored-as, cast-fits, cast-as          what a store, and a store after a cast, leave: the number itself
 use mathlib.Core.Path.{_≡_, refl, sym, ap, ap₂, subst, _∙_}
+use mathlib.Core.Bool.{Bool}
 use mathlib.Core.List.{List}
 use Prim.Native.Nat.{ℕ, _+_, _-_, _*_, _/_, _^_, _≤_, _<_}
 use native.Mathlib.Decide.{decLt}
@@ -115,6 +117,11 @@ module _ (k : ℕ) (f : ℕ → ℤ) (xs : List ℤ) {ys : List ℤ} (e : ys ≡
       q ∙ ap (λ (l : List ℤ). overwrite k (residualAt t l) l) e
       ∙ overwrite-twice k (residualAt t (overwrite k f xs)) f xs
       ∙ overwrite-cong k (residualAt t (overwrite k f xs)) (λ i. tsResidual t (f i)) xs (λ i a. ap (tsResidual t) (overwrite-getD k f xs i (pos 0) a))
+
+-- the same with the count of the coefficients
+pub skip-counted : {k m : ℕ} {f : ℕ → ℤ} {g : ℕ → Bool} {xs ys : List ℤ} → Counted f g k xs ys m → (t : ℤ) {zs : List ℤ} → zs ≡ overwrite k (residualAt t ys) ys
+    → Counted (λ i. tsResidual t (f i)) g k xs zs m
+skip-counted {k} {f = f} {xs = xs} c t q = record { out = residuals-of k f xs (c .out) t q; count = c .count }
 
 -- v is what was worked out, z what the contract names
 module _ {w : Width} {v z : ℤ} (e : v ≡ z) (f : SFits w z) where

@@ -200,8 +200,8 @@ module _ {p : DequantParams} {k : FlatParams} (g : Regular p) (h : FlatFor p k) 
       record {
         at =
             λ level.
-              subst (λ (z : ℤ). SFits w z) (sym (short-value (g .scale) (g .range) (g .factor) (g .add) (g .low) (g .most) h (g .least) level))
-              (levelBy-fits (p .factor) level e);
+            subst (λ (z : ℤ). SFits w z) (sym (short-value (g .scale) (g .range) (g .factor) (g .add) (g .low) (g .most) h (g .least) level))
+            (levelBy-fits (p .factor) level e);
       }
 
   sixteen-is : shiftRight (p .factor) 4 *ℤ pos 16 ≡ p .factor

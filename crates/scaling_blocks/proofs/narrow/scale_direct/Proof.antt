@@ -92,9 +92,10 @@ loop-less c = omega arith
 loop-again : tie.Need-loop-again Inv-loop μ-loop
 loop-again c =
     let v = c .before .before in
-    let l = v .before .before .before .before in
-    (stored-more (l .loop .inv .0) (omega (arith, l .before .before .pre .1 .0)) (cast-as (value-is v) (value-fits v) w32 tt),
-    (tally-more (l .loop .inv .1 .0) (limited-is c), omega arith))
+    let l = v .before .before .before .before in (
+      stored-more (l .loop .inv .0) (omega (arith, l .before .before .pre .1 .0)) (cast-as (value-is v) (value-fits v) w32 tt),
+      (tally-more (l .loop .inv .1 .0) (limited-is c), omega arith),
+    )
 
 cast-result : tie.Need-cast-result Inv-loop μ-loop
 cast-result c =

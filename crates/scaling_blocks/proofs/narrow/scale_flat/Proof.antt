@@ -87,9 +87,10 @@ loop-again : tie.Need-loop-again Inv-loop μ-loop
 loop-again c =
     let a = c .before .before in
     let l = a .before .before .before in
-    let s = l .before in
-    (stored-more (l .loop .inv .0) (omega (arith, s .pre .1 .0)) (cast-as (value-is a) (value-fits a) w32 tt),
-    (tally-more (l .loop .inv .1 .0) (limited-is a), omega arith))
+    let s = l .before in (
+      stored-more (l .loop .inv .0) (omega (arith, s .pre .1 .0)) (cast-as (value-is a) (value-fits a) w32 tt),
+      (tally-more (l .loop .inv .1 .0) (limited-is a), omega arith),
+    )
 
 cast-result : tie.Need-cast-result Inv-loop μ-loop
 cast-result c =
