@@ -49,4 +49,4 @@ LevelsScaleBack =
     (list : ScalingList) (n : ℕ) (q : ℤ) (b : ℕ) (x : Bool) (coeff out : List ℤ)
     → levelsFound list n q b x coeff out .answer .number ≡ 0
     → dequantized bits32 list n q b x (levelsFound list n q b x coeff out .out) coeff
-      ≡ counted (limitedCount list n b x q (levelsFound list n q b x coeff out .out)) coeff
+    ≡ counted (limitedCount list n b x q (levelsFound list n q b x coeff out .out)) coeff
