@@ -32,7 +32,7 @@ int main(void)
     residual_signed_answered qp = residual_qp_prime(30, DEPTH);
     if (qp.number)
         return refused("qp", qp.number);
-    residual_answered scaled = residual_dequantize_into_scalar_i32(levels, N * N, N, qp.value, DEPTH, false, coeff, N * N);
+    residual_count_answered scaled = residual_dequantize_into_scalar_i32(levels, N * N, N, qp.value, DEPTH, false, coeff, N * N);
     if (scaled.number)
         return refused("scaling", scaled.number);
     print_block("coefficients", coeff, N);

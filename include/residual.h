@@ -46,7 +46,27 @@ typedef struct {
     size_t place;
 } residual_answered;
 
-/* The same with one number, 0 on refusal. */
+/* What a call that scales a block answers: limited is how many of its n * n coefficients were limited, the level or the result; 0 on refusal. */
+typedef struct {
+    uint32_t number;
+    uint8_t row;
+    uint8_t column;
+    uint16_t limited;
+    size_t place;
+} residual_count_answered;
+
+/* One level scaled: its coefficient, whether the level lay outside the coefficient range, and whether the result of the limited level did. */
+typedef struct {
+    uint32_t number;
+    uint8_t row;
+    uint8_t column;
+    bool level_limited;
+    bool result_limited;
+    size_t place;
+    int32_t value;
+} residual_level_answered;
+
+/* An answer with one number, 0 on refusal. */
 typedef struct {
     uint32_t number;
     uint8_t row;
@@ -143,28 +163,30 @@ residual_transform_skip_answered residual_transform_skip_params(size_t n, int32_
 
 /* m at an index of a block of size n. Refuses 1, 5, and 8 for an index not below n * n. */
 residual_number_answered residual_scaling_coeff(const uint8_t *list, size_t list_len, uint8_t dc, size_t n, size_t index);
-/* One level with the factor m. Refuses 1, 2. */
-residual_signed_answered residual_scale_level(int32_t level, uint8_t m, size_t n, int32_t qp_prime, uint8_t bit_depth, bool extended_precision);
+/* One level with the factor m: its coefficient, and what was limited. Refuses 1, 2. */
+residual_level_answered residual_scale_level(int32_t level, uint8_t m, size_t n, int32_t qp_prime, uint8_t bit_depth, bool extended_precision);
 /* The coefficients of a block, as from m = 16 (dequantize_into) or by a list (dequantize_scaled_into), each limited to the coefficient range. Reads the first
- * n * n levels and writes the first n * n of out. Refuses 1, 2, 5, 6, 7; with 16-bit output also 3, where the depth is above 9 or precision is extended. */
-residual_answered residual_dequantize_into_scalar_i32(const int32_t *levels, size_t levels_len, size_t n, int32_t qp_prime, uint8_t bit_depth,
+ * n * n levels, writes the first n * n of out and answers how many were limited. Refuses 1, 2, 5, 6, 7; with 16-bit output also 3, where the depth is above
+ * 9 or precision is extended. */
+residual_count_answered residual_dequantize_into_scalar_i32(const int32_t *levels, size_t levels_len, size_t n, int32_t qp_prime, uint8_t bit_depth,
     bool extended_precision, int32_t *out, size_t out_len);
-residual_answered residual_dequantize_scaled_into_scalar_i32(const int32_t *levels, size_t levels_len, size_t n, int32_t qp_prime, uint8_t bit_depth,
+residual_count_answered residual_dequantize_scaled_into_scalar_i32(const int32_t *levels, size_t levels_len, size_t n, int32_t qp_prime, uint8_t bit_depth,
     bool extended_precision, const uint8_t *list, size_t list_len, uint8_t dc, int32_t *out, size_t out_len);
-residual_answered residual_dequantize_into_scalar_i16(const int32_t *levels, size_t levels_len, size_t n, int32_t qp_prime, uint8_t bit_depth,
+residual_count_answered residual_dequantize_into_scalar_i16(const int32_t *levels, size_t levels_len, size_t n, int32_t qp_prime, uint8_t bit_depth,
     bool extended_precision, int16_t *out, size_t out_len);
-residual_answered residual_dequantize_scaled_into_scalar_i16(const int32_t *levels, size_t levels_len, size_t n, int32_t qp_prime, uint8_t bit_depth,
+residual_count_answered residual_dequantize_scaled_into_scalar_i16(const int32_t *levels, size_t levels_len, size_t n, int32_t qp_prime, uint8_t bit_depth,
     bool extended_precision, const uint8_t *list, size_t list_len, uint8_t dc, int16_t *out, size_t out_len);
 
 /* The residual of a transform-skip block: scaling as above, then the shift of transform skip. A list is used at every size; that a block above size 4 has
- * none is the caller's choice. Reads, writes and refuses as the four functions above. */
-residual_answered residual_dequantize_transform_skip_into_scalar_i32(const int32_t *levels, size_t levels_len, size_t n, int32_t qp_prime, uint8_t bit_depth,
+ * none is the caller's choice. Reads, writes, counts and refuses as the four functions above: what was limited
+ * is counted before the skip shift. */
+residual_count_answered residual_dequantize_transform_skip_into_scalar_i32(const int32_t *levels, size_t levels_len, size_t n, int32_t qp_prime, uint8_t bit_depth,
     bool extended_precision, int32_t *out, size_t out_len);
-residual_answered residual_dequantize_transform_skip_scaled_into_scalar_i32(const int32_t *levels, size_t levels_len, size_t n, int32_t qp_prime, uint8_t bit_depth,
+residual_count_answered residual_dequantize_transform_skip_scaled_into_scalar_i32(const int32_t *levels, size_t levels_len, size_t n, int32_t qp_prime, uint8_t bit_depth,
     bool extended_precision, const uint8_t *list, size_t list_len, uint8_t dc, int32_t *out, size_t out_len);
-residual_answered residual_dequantize_transform_skip_into_scalar_i16(const int32_t *levels, size_t levels_len, size_t n, int32_t qp_prime, uint8_t bit_depth,
+residual_count_answered residual_dequantize_transform_skip_into_scalar_i16(const int32_t *levels, size_t levels_len, size_t n, int32_t qp_prime, uint8_t bit_depth,
     bool extended_precision, int16_t *out, size_t out_len);
-residual_answered residual_dequantize_transform_skip_scaled_into_scalar_i16(const int32_t *levels, size_t levels_len, size_t n, int32_t qp_prime, uint8_t bit_depth,
+residual_count_answered residual_dequantize_transform_skip_scaled_into_scalar_i16(const int32_t *levels, size_t levels_len, size_t n, int32_t qp_prime, uint8_t bit_depth,
     bool extended_precision, const uint8_t *list, size_t list_len, uint8_t dc, int16_t *out, size_t out_len);
 
 /* ---- Scaling lists of the bitstream: scaling list data of H.265, clause 7.3.4. */
@@ -205,22 +227,22 @@ residual_answered residual_drop_list(uint8_t *table, size_t table_len, size_t st
 /* Writes the 64 entries stored under a number to list and answers their DC. Refuses 7, 18. */
 residual_number_answered residual_list_at(const uint8_t *table, size_t table_len, size_t stream, size_t number, uint8_t *list, size_t list_len);
 /* Blocks scaled, or residuals of transform skip, by the list and DC under a number: as the functions that take a list. Refuses 1, 2, 3, 6, 7, 18. */
-residual_answered residual_dequantize_by_number_i32(const uint8_t *table, size_t table_len, size_t stream, size_t number, const int32_t *levels,
+residual_count_answered residual_dequantize_by_number_i32(const uint8_t *table, size_t table_len, size_t stream, size_t number, const int32_t *levels,
     size_t levels_len, size_t n, int32_t qp_prime, uint8_t bit_depth, bool extended_precision, int32_t *out, size_t out_len);
-residual_answered residual_dequantize_by_number_i16(const uint8_t *table, size_t table_len, size_t stream, size_t number, const int32_t *levels,
+residual_count_answered residual_dequantize_by_number_i16(const uint8_t *table, size_t table_len, size_t stream, size_t number, const int32_t *levels,
     size_t levels_len, size_t n, int32_t qp_prime, uint8_t bit_depth, bool extended_precision, int16_t *out, size_t out_len);
-residual_answered residual_dequantize_transform_skip_by_number_i32(const uint8_t *table, size_t table_len, size_t stream, size_t number, const int32_t *levels,
+residual_count_answered residual_dequantize_transform_skip_by_number_i32(const uint8_t *table, size_t table_len, size_t stream, size_t number, const int32_t *levels,
     size_t levels_len, size_t n, int32_t qp_prime, uint8_t bit_depth, bool extended_precision, int32_t *out, size_t out_len);
-residual_answered residual_dequantize_transform_skip_by_number_i16(const uint8_t *table, size_t table_len, size_t stream, size_t number, const int32_t *levels,
+residual_count_answered residual_dequantize_transform_skip_by_number_i16(const uint8_t *table, size_t table_len, size_t stream, size_t number, const int32_t *levels,
     size_t levels_len, size_t n, int32_t qp_prime, uint8_t bit_depth, bool extended_precision, int16_t *out, size_t out_len);
 
 /* ---- The block tools of the range extensions: a block rotated by half a turn, at size 4 alone (else row 25), and residuals accumulated after the skip shift:
  * accumulate is 0 for none, 1 along rows, any other number down columns. */
 
 /* The residual of a transform-skip block with them, without and with a list. Refuses 1, 2, 25, 5, 6, 7 in this order. */
-residual_answered residual_transform_skip_residual(const int32_t *levels, size_t levels_len, size_t n, int32_t qp_prime, uint8_t bit_depth,
+residual_count_answered residual_transform_skip_residual(const int32_t *levels, size_t levels_len, size_t n, int32_t qp_prime, uint8_t bit_depth,
     bool extended_precision, bool rotate, uint8_t accumulate, int32_t *out, size_t out_len);
-residual_answered residual_transform_skip_scaled_residual(const int32_t *levels, size_t levels_len, size_t n, int32_t qp_prime, uint8_t bit_depth,
+residual_count_answered residual_transform_skip_scaled_residual(const int32_t *levels, size_t levels_len, size_t n, int32_t qp_prime, uint8_t bit_depth,
     bool extended_precision, const uint8_t *list, size_t list_len, uint8_t dc, bool rotate, uint8_t accumulate, int32_t *out, size_t out_len);
 /* The bypass: the levels are the residual, rotated and accumulated. Refuses 1, 2, 25, 6, 7, and 9 or 19 for a level outside the coefficient range. */
 residual_answered residual_bypass_residual(const int32_t *levels, size_t levels_len, size_t n, uint8_t bit_depth, bool extended_precision, bool rotate,

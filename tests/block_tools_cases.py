@@ -5,7 +5,7 @@ Written from the rules alone (docs/RULES.md, and clause 8.6 with the range exten
 own loop, one sample after the other in place, where the definitions have sums.
 """
 from case_files import named, shown, wide, word, write_files
-from rules import coefficient_range, factor, scaled, skipped
+from rules import coefficient_range, factor, limited, scaled, skipped
 
 WAYS = ("off", "rows", "columns")
 LIST = [16] * 64
@@ -29,7 +29,7 @@ def accumulated(block, n, way):
     return r
 
 
-# ---- calls: (number, place, row, column) and the output afterwards
+# ---- calls: (number, place, row, column, and for transform skip how many coefficients were limited) and the output afterwards
 def early(n, b, t):
     if n not in (4, 8, 16, 32):
         return 1
@@ -45,10 +45,10 @@ def lengths(n, levels, out):
 def skip(levels, n, qp, b, x, entries, dc, t, way, out):
     number = early(n, b, t) or (5 if entries is not None and len(entries) != 64 else 0) or lengths(n, levels, out)
     if number:
-        return (number, 0, 0, 0), out
+        return (number, 0, 0, 0, 0), out
     block = [scaled(levels[i], factor(entries, dc, n, i), n, qp, b, x) for i in range(n * n)]
     block = rotated(block, n) if t else block
-    return (0, 0, 0, 0), accumulated([skipped(z, n, b, x) for z in block], n, way) + out[n * n :]
+    return (0, 0, 0, 0, limited(levels, entries, dc, n, qp, b, x)), accumulated([skipped(z, n, b, x) for z in block], n, way) + out[n * n :]
 
 
 def bypass(levels, n, b, x, t, way, out):

@@ -5,7 +5,7 @@ Written from the rules alone (docs/RULES.md): it shares nothing with the crates.
 first) and the bytes of a feed; stdout holds for each file its name, and for each case a line `case N` and the text of the feed.
 """
 from case_files import write_files
-from rules import matrix, scaled, skipped, stage_one, stage_two
+from rules import matrix, scaled_parts, skipped, stage_one, stage_two
 
 SIZES = {4: 4, 5: 8, 6: 16, 7: 32}
 
@@ -28,12 +28,14 @@ def source(listed, mode, n, i):
 
 
 def residual(levels, n, parameters, listed):
+    """The residual, and how many coefficients were limited."""
     depth, extended, qp, mode = parameters
-    coeff = [scaled(v, source(listed, mode, n, i)[0], n, qp, depth, extended) for i, v in enumerate(levels)]
+    parts = [scaled_parts(v, source(listed, mode, n, i)[0], n, qp, depth, extended) for i, v in enumerate(levels)]
+    coeff, limited = [part[0] for part in parts], sum(any(part[1:]) for part in parts)
     if mode == 2:
-        return [skipped(z, n, depth, extended) for z in coeff]
+        return [skipped(z, n, depth, extended) for z in coeff], limited
     t = matrix(n, mode == 1)
-    return stage_two(stage_one(coeff, n, depth, extended, t, n), n, depth, extended, t)
+    return stage_two(stage_one(coeff, n, depth, extended, t, n), n, depth, extended, t), limited
 
 
 # ---- the feed
@@ -42,8 +44,8 @@ def body_length(kind):
 
 
 def rows(levels, n, parameters, listed):
-    block = residual(levels, n, parameters, listed)
-    return "".join(" ".join(map(str, block[row * n:row * n + n])) + "\n" for row in range(n))
+    block, limited = residual(levels, n, parameters, listed)
+    return "".join(" ".join(map(str, block[row * n:row * n + n])) + "\n" for row in range(n)) + f"limited {limited}\n"
 
 
 def factors(levels, n, parameters, listed):
@@ -219,6 +221,19 @@ def changes():
     yield b"".join(parameters(8 + i, i % 2, 10 * i, i % 3) + small for i in range(9))
 
 
+def limits():
+    """Blocks of which none, one and all coefficients are limited, by the level or the result, at every size and mode, with and without a list."""
+    for kind, n in SIZES.items():
+        for mode in (0, 1, 2):
+            if mode == 1 and kind != 4:
+                continue
+            for listed in (b"", a_list([255, 0, 1] + [16] * 61, 255)):
+                lead = listed + parameters(8, 0, 30, mode)
+                for values in ([1], [0] * (n * n - 1) + [-32769], [0, 0, 32767], [2**31 - 1, -(2**31)] * (n * n // 2)):
+                    yield lead + levels(kind, values)
+        yield parameters(16, 1, 0, 0) + levels(kind, [2**22 - 1, 2**22, -(2**22), -(2**22) - 1])
+
+
 def skips():
     """Transform skip with a list and without one: the list counts at size 4 and not above, and stays in force for the next block."""
     steep = a_list([1 + 3 * i for i in range(64)], 200)
@@ -252,7 +267,7 @@ def main():
     write_files("feed_main", {"stdin": WHOLE, "stdout": residuals(WHOLE)})
     write_files("scale_trace_main", {"stdin": reasons(), "stdout": listing(reasons())})
     shown, files = [], {}
-    for name, made in (("refusals", refusals), ("plain", plain), ("blocks", blocks), ("changes", changes), ("skips", skips), ("cuts", cuts)):
+    for name, made in (("refusals", refusals), ("plain", plain), ("blocks", blocks), ("changes", changes), ("skips", skips), ("limits", limits), ("cuts", cuts)):
         shown.append(f"{name}\n")
         data = b""
         for number, feed in enumerate(made()):

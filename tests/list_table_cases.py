@@ -8,7 +8,7 @@ call, and the table's bytes.
 import random
 
 from case_files import write_files
-from rules import factor, scaled, skipped
+from rules import factor, limited, scaled, skipped
 
 BYTES = [(37 * i + i // 7 + 1) % 256 for i in range(512)]
 LEVELS = [1, -1, 0, 3, -7, 40, -300, 1000, -2500, 32767, -32768, 2147483647, -2147483648]
@@ -74,22 +74,24 @@ def scale(which, stream, number, n=4, amiss=WHOLE, qp=20, depth=8, extended=0):
     call(which, stream, number, 0, 0, n, amiss, qp, depth, extended)
     lent = [7] * (15 if amiss == SHORT_OUT else {8: 65, 16: 257, 32: 1025}.get(n, 17))
     if n not in (4, 8, 16, 32):
-        return say(1, 0, *lent)
+        return say(1, 0, 0, *lent)
     if not 8 <= depth <= 16:
-        return say(2, 0, *lent)
+        return say(2, 0, 0, *lent)
     if which in (NARROW, NARROW_SKIP) and (depth > 9 or extended):
-        return say(3, 0, *lent)
+        return say(3, 0, 0, *lent)
     if amiss == SHORT_LEVELS:
-        return say(6, 0, *lent)
+        return say(6, 0, 0, *lent)
     if amiss in (SHORT_OUT, SHORT_TABLE):
-        return say(7, 0, *lent)
+        return say(7, 0, 0, *lent)
     if missing(stream, number):
-        return say(18, 0, *lent)
+        return say(18, 0, 0, *lent)
     entries, dc = held[stream][number]
-    values = [scaled(LEVELS[i % 13], factor(entries, dc, n, i), n, qp, depth, extended) for i in range(n * n)]
+    levels = [LEVELS[i % 13] for i in range(n * n)]
+    count = limited(levels, entries, dc, n, qp, depth, extended)
+    values = [scaled(levels[i], factor(entries, dc, n, i), n, qp, depth, extended) for i in range(n * n)]
     if which in (WIDE_SKIP, NARROW_SKIP):
         values = [skipped(z, n, depth, extended) for z in values]
-    return say(0, 0, *values, 7)
+    return say(0, 0, count, *values, 7)
 
 
 # ---- every refusal at its border

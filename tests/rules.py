@@ -25,13 +25,25 @@ def factor(entries, dc, n, i):
     return entries[row * 8 // n * 8 + column * 8 // n]
 
 
-def scaled(level, m, n, qp, depth, extended):
+def scaled_parts(level, m, n, qp, depth, extended):
+    """The coefficient of a level, whether the level was limited, and whether the result of the limited level was."""
     r = coefficient_range(depth, extended)
     low, high = -(2**r), 2**r - 1
     qp = clip(0, 51 + 6 * (depth - 8), qp)
     shift = depth + n.bit_length() - 1 + 10 - r
     step = SCALE[qp % 6] << (qp // 6)
-    return clip(low, high, (clip(low, high, level) * m * step + 2 ** (shift - 1)) >> shift)
+    near = clip(low, high, level)
+    result = (near * m * step + 2 ** (shift - 1)) >> shift
+    return clip(low, high, result), near != level, not low <= result <= high
+
+
+def scaled(level, m, n, qp, depth, extended):
+    return scaled_parts(level, m, n, qp, depth, extended)[0]
+
+
+def limited(levels, entries, dc, n, qp, depth, extended):
+    """How many of a block's n * n coefficients were limited."""
+    return sum(any(scaled_parts(levels[i], factor(entries, dc, n, i), n, qp, depth, extended)[1:]) for i in range(n * n))
 
 
 def skipped(z, n, depth, extended):

@@ -1,11 +1,11 @@
 #!/usr/bin/env python3
 """scaling_cases.py [CRATES]: write stdin and stdout of the program scaling_cases (in crates by default).
 
-Written from the rules alone (docs/RULES.md): it shares nothing with the crates. Every row of the table that scaling has, at its border, and the examples of m, levels,
-blocks and transform skip.
+Written from the rules alone (docs/RULES.md): it shares nothing with the crates. Every row of the table that scaling has, at its border, the examples of m, levels,
+blocks and transform skip, and the borders of what is limited.
 """
 from case_files import named, short, shown, wide, word, write_files
-from rules import factor, scaled, skipped
+from rules import coefficient_range, factor, limited, scaled, scaled_parts, skipped
 
 FACTOR, LEVEL = 0, 1
 BLOCKS = {2: ("", False), 3: ("with a list", False), 4: ("skip", True), 5: ("skip with a list", True)}
@@ -31,10 +31,11 @@ def a_factor(entries, n, index):
     add(f"m {len(entries)} {n} {index}:", FACTOR, text, n, index, dc=30, entries=entries)
 
 
-def a_level(level, n, qp, depth, extended):
+def a_level(level, n, qp, depth, extended, m=16):
     number = small_refusal(n, depth)
-    text = shown(number, 0, 0, 0) if number else shown(*DONE, scaled(level, 16, n, qp, depth, extended))
-    add(f"level {level} {n} {qp} {depth} {extended}:", LEVEL, text, n, 0, qp, level, depth, extended, 16)
+    value, before, after = scaled_parts(level, m, n, qp, depth, extended) if not number else (0, 0, 0)
+    text = shown(number, 0, 0, 0) if number else shown(*DONE, value, int(before), int(after))
+    add(f"level {level} {m} {n} {qp} {depth} {extended}:", LEVEL, text, n, 0, qp, level, depth, extended, m)
 
 
 def a_block(name, kind, narrow, n, qp, depth, extended, entries, dc, levels, out):
@@ -47,13 +48,14 @@ def a_block(name, kind, narrow, n, qp, depth, extended, entries, dc, levels, out
         number = 5
     if not number:
         number = 6 if len(levels) < n * n else 7 if out < n * n else 0
-    after = [7] * out
+    after, count = [7] * out, 0
     if not number:
+        count = limited(levels, entries if listed else None, dc, n, qp, depth, extended)
         for i in range(n * n):
             z = scaled(levels[i], factor(entries if listed else None, dc, n, i), n, qp, depth, extended)
             after[i] = skipped(z, n, depth, extended) if skip else z
     which = kind + 4 if narrow else kind
-    add(f"{name}, {'16' if narrow else '32'}-bit {what}:", which, shown(number, 0, 0, 0, after), n, 0, qp, 0, depth, extended, dc, entries, levels, out)
+    add(f"{name}, {'16' if narrow else '32'}-bit {what}:", which, shown(number, 0, 0, 0, count, after), n, 0, qp, 0, depth, extended, dc, entries, levels, out)
 
 
 # ---- every row at its border
@@ -102,8 +104,30 @@ def blocks():
         a_block("size 16", 3, narrow, 16, 10, 8, 0, [20] + [9] * 63, 30, [1] * 256, 257)
 
 
+def borders():
+    """One level at the borders of both limits, and blocks of which none, one and all coefficients are limited, at every size and width."""
+    for depth, extended in ((8, 0), (16, 0), (16, 1)):
+        end = 2 ** coefficient_range(depth, extended)
+        for m in (0, 1, 16, 255):
+            for level in (end - 1, end, -end, -end - 1):
+                a_level(level, 8, 4, depth, extended, m)
+    for level in (1023, 1024, -1024, -1025):
+        a_level(level, 4, 4, 8, 0)
+    for qp in (0, 51, 99):
+        a_level(3, 32, qp, 16, 0)
+    entries = [(5 * i + 3) % 256 for i in range(64)]
+    for n in (4, 8, 16, 32):
+        cells = n * n
+        for name, values in (("none", [1] * cells), ("one", [0] * (cells - 1) + [-40000]), ("all", [(40000, -40000)[i % 2] for i in range(cells)]), ("first", [32768] + [0] * (cells - 1))):
+            for kind in BLOCKS:
+                for narrow in (0, 1):
+                    if n < 32 or kind in (2, 5):
+                        a_block(f"{name} limited", kind, narrow, n, 10, 8, 0, entries if kind in LISTED else [], 0, values, cells)
+
+
 refusals()
 factors()
 levels()
 blocks()
+borders()
 write_files("scaling_cases", {"stdin": b"".join(cases), "stdout": "".join(lines)})

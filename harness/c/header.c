@@ -40,13 +40,15 @@ static void scaling(void) {
     memset(list, 20, sizeof list);
     residual_number_answered m = residual_scaling_coeff(list, 64, 30, 16, 0);
     expect(m.number == 0 && m.place == 0 && m.value == 30, "scaling_coeff");
-    residual_signed_answered level = residual_scale_level(-1, 16, 4, 4, 8, false);
-    expect(level.number == 0 && level.place == 0 && level.value == -32, "scale_level");
-    residual_answered a;
+    residual_level_answered level = residual_scale_level(-1, 16, 4, 4, 8, false);
+    expect(level.number == 0 && level.place == 0 && level.value == -32 && !level.level_limited && !level.result_limited, "scale_level");
+    level = residual_scale_level(32768, 16, 4, 4, 8, false);
+    expect(level.number == 0 && level.place == 0 && level.value == 32767 && level.level_limited && level.result_limited, "scale_level, limited");
+    residual_count_answered a;
     {
         BLOCK(int32_t);
         a = residual_dequantize_into_scalar_i32(levels, 16, 4, 4, 8, false, out, 17);
-        expect(a.number == 0 && a.place == 0 && out[0] == 64 && out[5] == 0 && out[16] == 7, "dequantize_into_scalar_i32");
+        expect(a.number == 0 && a.place == 0 && a.limited == 0 && out[0] == 64 && out[5] == 0 && out[16] == 7, "dequantize_into_scalar_i32");
     }
     {
         BLOCK(int16_t);
@@ -204,7 +206,7 @@ static void tables(void) {
     expect(dc.number == 0 && dc.value == 30 && back[63] == 20, "list_at");
     int32_t levels[16] = {2}, out[16];
     int16_t out16[16];
-    residual_answered a = residual_dequantize_by_number_i32(table, 1584, 1, 0, levels, 16, 4, 4, 8, false, out, 16);
+    residual_count_answered a = residual_dequantize_by_number_i32(table, 1584, 1, 0, levels, 16, 4, 4, 8, false, out, 16);
     expect(a.number == 0 && out[0] == 80 && out[5] == 0, "dequantize_by_number_i32");
     a = residual_dequantize_by_number_i16(table, 1584, 1, 0, levels, 16, 4, 4, 8, false, out16, 16);
     expect(a.number == 0 && out16[0] == 80, "dequantize_by_number_i16");
@@ -212,8 +214,8 @@ static void tables(void) {
     expect(a.number == 0 && out[0] == 3, "dequantize_transform_skip_by_number_i32");
     a = residual_dequantize_transform_skip_by_number_i16(table, 1584, 0, 0, levels, 16, 4, 4, 8, false, out16, 16);
     expect(a.number == 18 && out16[0] == 80, "dequantize_transform_skip_by_number_i16, refused");
-    a = residual_drop_list(table, 1584, 1, 0);
-    expect(a.number == 0 && table[792] == 0, "drop_list");
+    residual_answered dropped = residual_drop_list(table, 1584, 1, 0);
+    expect(dropped.number == 0 && table[792] == 0, "drop_list");
 }
 #endif
 
@@ -226,12 +228,12 @@ static void tools(void) {
     residual_answered a = residual_bypass_residual(levels, 16, 4, 8, false, true, 1, out, 16);
     expect(a.number == 0 && out[15] == 1 && out[14] == 0 && out[0] == 0, "bypass_residual");
     levels[0] = 32;
-    a = residual_transform_skip_residual(levels, 16, 4, 4, 8, false, false, 1, out, 16);
-    expect(a.number == 0 && out[0] == 32 && out[3] == 32 && out[4] == 0, "transform_skip_residual");
-    a = residual_transform_skip_scaled_residual(levels, 16, 4, 4, 8, false, list, 64, 16, false, 2, out, 16);
-    expect(a.number == 0 && out[0] == 32 && out[3] == 0 && out[12] == 32, "transform_skip_scaled_residual");
-    a = residual_transform_skip_residual(levels, 16, 8, 4, 8, false, true, 0, out, 16);
-    expect(a.number == 25 && out[12] == 32, "transform_skip_residual, refused");
+    residual_count_answered skipped = residual_transform_skip_residual(levels, 16, 4, 4, 8, false, false, 1, out, 16);
+    expect(skipped.number == 0 && skipped.limited == 0 && out[0] == 32 && out[3] == 32 && out[4] == 0, "transform_skip_residual");
+    skipped = residual_transform_skip_scaled_residual(levels, 16, 4, 4, 8, false, list, 64, 16, false, 2, out, 16);
+    expect(skipped.number == 0 && skipped.limited == 0 && out[0] == 32 && out[3] == 0 && out[12] == 32, "transform_skip_scaled_residual");
+    skipped = residual_transform_skip_residual(levels, 16, 8, 4, 8, false, true, 0, out, 16);
+    expect(skipped.number == 25 && out[12] == 32, "transform_skip_residual, refused");
     a = residual_find_levels(levels, 16, 4, 4, 8, false, out, 16);
     expect(a.number == 0 && out[0] == 1 && out[1] == 0, "find_levels");
     levels[6] = 33;

@@ -12,6 +12,28 @@ pub struct Answered {
 
 #[repr(C)]
 #[derive(Clone, Copy, PartialEq, Eq, Debug, Default)]
+pub struct CountAnswered {
+    pub number: u32,
+    pub row: u8,
+    pub column: u8,
+    pub limited: u16,
+    pub place: usize,
+}
+
+#[repr(C)]
+#[derive(Clone, Copy, PartialEq, Eq, Debug, Default)]
+pub struct LevelAnswered {
+    pub number: u32,
+    pub row: u8,
+    pub column: u8,
+    pub level_limited: bool,
+    pub result_limited: bool,
+    pub place: usize,
+    pub value: i32,
+}
+
+#[repr(C)]
+#[derive(Clone, Copy, PartialEq, Eq, Debug, Default)]
 pub struct NumberAnswered {
     pub number: u32,
     pub row: u8,
@@ -83,27 +105,27 @@ pub mod scaling {
 
     unsafe extern "C" {
         fn residual_scaling_coeff(list: *const u8, list_len: usize, dc: u8, n: usize, index: usize) -> NumberAnswered;
-        fn residual_scale_level(level: i32, m: u8, n: usize, qp_prime: i32, bit_depth: u8, extended_precision: bool) -> SignedAnswered;
+        fn residual_scale_level(level: i32, m: u8, n: usize, qp_prime: i32, bit_depth: u8, extended_precision: bool) -> LevelAnswered;
     }
 
     pub fn scaling_coeff(list: &[u8], dc: u8, n: usize, index: usize) -> NumberAnswered {
         unsafe { residual_scaling_coeff(list.as_ptr(), list.len(), dc, n, index) }
     }
 
-    pub fn scale_level(level: i32, m: u8, n: usize, qp_prime: i32, bit_depth: u8, extended_precision: bool) -> SignedAnswered {
+    pub fn scale_level(level: i32, m: u8, n: usize, qp_prime: i32, bit_depth: u8, extended_precision: bool) -> LevelAnswered {
         unsafe { residual_scale_level(level, m, n, qp_prime, bit_depth, extended_precision) }
     }
 
     /// An exported function of blocks. A call goes straight to it: a wrapper between would copy the arguments on the stack once more, two to a vector register, and
     /// that waits for their stores and takes a fifth of the time of a 4×4 block.
     pub enum Blocks<E: 'static> {
-        Flat(unsafe extern "C" fn(*const i32, usize, usize, i32, u8, bool, *mut E, usize) -> Answered),
-        Listed(unsafe extern "C" fn(*const i32, usize, usize, i32, u8, bool, *const u8, usize, u8, *mut E, usize) -> Answered),
+        Flat(unsafe extern "C" fn(*const i32, usize, usize, i32, u8, bool, *mut E, usize) -> CountAnswered),
+        Listed(unsafe extern "C" fn(*const i32, usize, usize, i32, u8, bool, *const u8, usize, u8, *mut E, usize) -> CountAnswered),
     }
 
     impl<E> Blocks<E> {
         #[inline(always)]
-        pub fn call(&self, levels: &[i32], n: usize, qp_prime: i32, bit_depth: u8, extended_precision: bool, list: &[u8], dc: u8, out: &mut [E]) -> Answered {
+        pub fn call(&self, levels: &[i32], n: usize, qp_prime: i32, bit_depth: u8, extended_precision: bool, list: &[u8], dc: u8, out: &mut [E]) -> CountAnswered {
             match self {
                 Blocks::Flat(linked) => unsafe { linked(levels.as_ptr(), levels.len(), n, qp_prime, bit_depth, extended_precision, out.as_mut_ptr(), out.len()) },
                 Blocks::Listed(linked) => unsafe { linked(levels.as_ptr(), levels.len(), n, qp_prime, bit_depth, extended_precision, list.as_ptr(), list.len(), dc, out.as_mut_ptr(), out.len()) },
@@ -114,7 +136,7 @@ pub mod scaling {
     macro_rules! flat {
         ($name:ident, $linked:ident, $out:ty) => {
             unsafe extern "C" {
-                fn $linked(levels: *const i32, levels_len: usize, n: usize, qp_prime: i32, bit_depth: u8, extended_precision: bool, out: *mut $out, out_len: usize) -> Answered;
+                fn $linked(levels: *const i32, levels_len: usize, n: usize, qp_prime: i32, bit_depth: u8, extended_precision: bool, out: *mut $out, out_len: usize) -> CountAnswered;
             }
             #[allow(non_upper_case_globals)]
             pub const $name: Blocks<$out> = Blocks::Flat($linked);
@@ -124,7 +146,7 @@ pub mod scaling {
     macro_rules! listed {
         ($name:ident, $linked:ident, $out:ty) => {
             unsafe extern "C" {
-                fn $linked(levels: *const i32, levels_len: usize, n: usize, qp_prime: i32, bit_depth: u8, extended_precision: bool, list: *const u8, list_len: usize, dc: u8, out: *mut $out, out_len: usize) -> Answered;
+                fn $linked(levels: *const i32, levels_len: usize, n: usize, qp_prime: i32, bit_depth: u8, extended_precision: bool, list: *const u8, list_len: usize, dc: u8, out: *mut $out, out_len: usize) -> CountAnswered;
             }
             #[allow(non_upper_case_globals)]
             pub const $name: Blocks<$out> = Blocks::Listed($linked);
@@ -341,7 +363,7 @@ pub mod rounding {
 
 #[cfg(has_tables)]
 pub mod tables {
-    use super::{Answered, NumberAnswered};
+    use super::{Answered, CountAnswered, NumberAnswered};
 
     #[repr(C)]
     #[derive(Clone, Copy, PartialEq, Eq, Debug, Default)]
@@ -374,9 +396,9 @@ pub mod tables {
     macro_rules! by_number {
         ($name:ident, $linked:ident, $out:ty) => {
             unsafe extern "C" {
-                fn $linked(table: *const u8, table_len: usize, stream: usize, number: usize, levels: *const i32, levels_len: usize, n: usize, qp_prime: i32, bit_depth: u8, extended_precision: bool, out: *mut $out, out_len: usize) -> Answered;
+                fn $linked(table: *const u8, table_len: usize, stream: usize, number: usize, levels: *const i32, levels_len: usize, n: usize, qp_prime: i32, bit_depth: u8, extended_precision: bool, out: *mut $out, out_len: usize) -> CountAnswered;
             }
-            pub fn $name(table: &[u8], stream: usize, number: usize, levels: &[i32], n: usize, qp_prime: i32, bit_depth: u8, extended_precision: bool, out: &mut [$out]) -> Answered {
+            pub fn $name(table: &[u8], stream: usize, number: usize, levels: &[i32], n: usize, qp_prime: i32, bit_depth: u8, extended_precision: bool, out: &mut [$out]) -> CountAnswered {
                 unsafe { $linked(table.as_ptr(), table.len(), stream, number, levels.as_ptr(), levels.len(), n, qp_prime, bit_depth, extended_precision, out.as_mut_ptr(), out.len()) }
             }
         };
@@ -390,19 +412,19 @@ pub mod tables {
 
 #[cfg(has_tools)]
 pub mod tools {
-    use super::Answered;
+    use super::{Answered, CountAnswered};
 
     unsafe extern "C" {
-        fn residual_transform_skip_residual(levels: *const i32, levels_len: usize, n: usize, qp_prime: i32, bit_depth: u8, extended_precision: bool, rotate: bool, accumulate: u8, out: *mut i32, out_len: usize) -> Answered;
+        fn residual_transform_skip_residual(levels: *const i32, levels_len: usize, n: usize, qp_prime: i32, bit_depth: u8, extended_precision: bool, rotate: bool, accumulate: u8, out: *mut i32, out_len: usize) -> CountAnswered;
         fn residual_transform_skip_scaled_residual(
             levels: *const i32, levels_len: usize, n: usize, qp_prime: i32, bit_depth: u8, extended_precision: bool, list: *const u8, list_len: usize, dc: u8, rotate: bool, accumulate: u8, out: *mut i32, out_len: usize,
-        ) -> Answered;
+        ) -> CountAnswered;
         fn residual_bypass_residual(levels: *const i32, levels_len: usize, n: usize, bit_depth: u8, extended_precision: bool, rotate: bool, accumulate: u8, out: *mut i32, out_len: usize) -> Answered;
         fn residual_find_levels(coeff: *const i32, coeff_len: usize, n: usize, qp_prime: i32, bit_depth: u8, extended_precision: bool, levels: *mut i32, levels_len: usize) -> Answered;
         fn residual_find_levels_scaled(coeff: *const i32, coeff_len: usize, n: usize, qp_prime: i32, bit_depth: u8, extended_precision: bool, list: *const u8, list_len: usize, dc: u8, levels: *mut i32, levels_len: usize) -> Answered;
     }
 
-    pub fn transform_skip_residual(levels: &[i32], n: usize, qp_prime: i32, bit_depth: u8, extended_precision: bool, list: Option<(&[u8], u8)>, rotate: bool, accumulate: u8, out: &mut [i32]) -> Answered {
+    pub fn transform_skip_residual(levels: &[i32], n: usize, qp_prime: i32, bit_depth: u8, extended_precision: bool, list: Option<(&[u8], u8)>, rotate: bool, accumulate: u8, out: &mut [i32]) -> CountAnswered {
         let (at, len, out_at, out_len) = (levels.as_ptr(), levels.len(), out.as_mut_ptr(), out.len());
         match list {
             None => unsafe { residual_transform_skip_residual(at, len, n, qp_prime, bit_depth, extended_precision, rotate, accumulate, out_at, out_len) },

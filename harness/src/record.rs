@@ -46,10 +46,13 @@ struct Head {
     level: i32,
 }
 
+/// `told` is what scaling limited, by a plain writing of the rule, since the Rust does not say.
+#[derive(Default)]
 struct Answer {
     number: u32,
     row: u8,
     column: u8,
+    told: Vec<u16>,
     values: Vec<i64>,
 }
 
@@ -98,7 +101,8 @@ impl Recorder {
             self.file.extend(&value.to_le_bytes()[..output_width]);
         }
         let equal = " equal".repeat(if blocks { 1 } else { answer.values.len() });
-        self.lines += &format!("{text} {} {} {}{equal}\n", answer.number, answer.row, answer.column);
+        let told: String = answer.told.iter().map(|v| format!(" {v}")).collect();
+        self.lines += &format!("{text} {} {} {}{told}{equal}\n", answer.number, answer.row, answer.column);
         self.cases += 1;
     }
 }
@@ -107,7 +111,7 @@ const DEPTHS_AND_ONE_PAST: std::ops::RangeInclusive<u8> = 7..=17;
 const BORDER_QPS: [i32; 12] = [0, 4, 5, 6, 51, 52, 57, 99, 100, -1, i32::MIN, i32::MAX];
 
 fn refused(number: u32, count: usize) -> Answer {
-    Answer { number, row: 0, column: 0, values: vec![0; count] }
+    Answer { number, values: vec![0; count], ..Answer::default() }
 }
 
 fn small_refusal(n: usize, bit_depth: u8) -> u32 {
@@ -126,7 +130,7 @@ fn parameters(to: &mut Recorder) {
             let head = Head { bit_depth, extended_precision, ..Head::default() };
             let answer = if reference::is_depth(bit_depth) {
                 let value = oracle::max_log2_transform_dynamic_range(bit_depth, extended_precision);
-                Answer { number: 0, row: 0, column: 0, values: vec![i64::from(value)] }
+                Answer { number: 0, row: 0, column: 0, told: Vec::new(), values: vec![i64::from(value)] }
             } else {
                 refused(2, 1)
             };
@@ -150,7 +154,7 @@ fn parameters(to: &mut Recorder) {
                     let plain = vec![p.factor, p.add, i64::from(p.shift), p.clip_min, p.clip_max];
                     let mut skip = vec![s.factor, s.add, i64::from(s.shift), s.clip_min, s.clip_max];
                     skip.extend([i64::from(s.tr_add), i64::from(s.tr_shift)]);
-                    (Answer { number, row: 0, column: 0, values: plain }, Answer { number, row: 0, column: 0, values: skip })
+                    (Answer { number, row: 0, column: 0, told: Vec::new(), values: plain }, Answer { number, row: 0, column: 0, told: Vec::new(), values: skip })
                 } else {
                     (refused(number, 5), refused(number, 7))
                 };
@@ -182,7 +186,7 @@ fn factors(to: &mut Recorder) {
                 };
                 let answer = if number == 0 {
                     let value = oracle::scaling_coeff(list[..].try_into().expect("64"), 250, n, index);
-                    Answer { number, row: 0, column: 0, values: vec![value] }
+                    Answer { number, row: 0, column: 0, told: Vec::new(), values: vec![value] }
                 } else {
                     refused(number, 1)
                 };
@@ -207,9 +211,11 @@ fn levels(to: &mut Recorder) {
                 let answer = if number == 0 {
                     let mut out = vec![0; n * n];
                     oracle::dequantize_scaled_into_scalar_i32(&vec![level; n * n], n, qp, bit_depth, extended_precision, &[byte; 64], byte, &mut out);
-                    Answer { number, row: 0, column: 0, values: vec![i64::from(out[0])] }
+                    let rule = reference::scaled(level, byte, n, qp, bit_depth, extended_precision);
+                    let told = vec![u16::from(rule.level_limited), u16::from(rule.result_limited)];
+                    Answer { number, told, values: vec![i64::from(out[0])], ..Answer::default() }
                 } else {
-                    refused(number, 1)
+                    Answer { told: vec![0, 0], ..refused(number, 1) }
                 };
                 to.case("scale_level", head, &[], &[], 4, answer, 4);
             }
@@ -235,7 +241,12 @@ fn scaled_block<E: blocks::Element>(to: &mut Recorder, scaler: &scaling::Scaler<
         ..Head::default()
     };
     let input: Vec<i64> = call.levels.iter().map(|&v| i64::from(v)).collect();
-    let answer = Answer { number, row: 0, column: 0, values: out.iter().map(|v| v.long()).collect() };
+    let limited = if number == 0 {
+        reference::limited(&call.levels, scaler.listed.then_some((&call.list[..], call.dc)), call.n, call.qp_prime, call.bit_depth, call.extended_precision)
+    } else {
+        0
+    };
+    let answer = Answer { number, told: vec![limited], values: out.iter().map(|v| v.long()).collect(), ..Answer::default() };
     to.case(scaler.name, head, &call.list, &input, 4, answer, size_of::<E>());
 }
 
@@ -271,6 +282,15 @@ fn scaled_blocks<E: blocks::Element>(to: &mut Recorder, scaler: &scaling::Scaler
         }
     }
     // each row of the table of refusals, one condition at a time, at its border
+    // none, one and all of a block limited
+    for n in reference::SIZES {
+        for (which, level) in [(0, 0), (1, 40000), (2, -40000)] {
+            let mut made = call(random, n, settings[n % settings.len()], turn);
+            let limit = |i: usize| if which == 2 || (which == 1 && i == n + 1) { level << 8 } else { 0 };
+            made.levels = (0..n * n).map(limit).collect();
+            scaled_block(to, scaler, &made);
+        }
+    }
     type Damage = fn(&mut scaling::Call);
     let damages: [Damage; 9] = [
         |c| c.n = 12,
@@ -311,7 +331,7 @@ fn transformed_block<E: blocks::Element>(to: &mut Recorder, transform: &transfor
         }
     }
     let head = Head { bit_depth: call.bit_depth, n: call.n as u32, count: call.nx as u32, ..Head::default() };
-    let answer = Answer { number: answered.number, row: answered.row, column: answered.column, values: out };
+    let answer = Answer { number: answered.number, row: answered.row, column: answered.column, told: Vec::new(), values: out };
     to.case(transform.name, head, &[], &input, size_of::<E>(), answer, size_of::<E>());
 }
 

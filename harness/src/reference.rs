@@ -1,4 +1,4 @@
-//! The rules of docs/RULES.md, written plainly: the refusals, and the transforms as two double sums in 128 bits.
+//! The rules of docs/RULES.md, written plainly: the refusals, what scaling limits, and the transforms as two double sums in 128 bits.
 //! The oracle decides every value that its 32-bit sums can hold; this decides refusals, and the values past 32 bits.
 
 pub const SIZES: [usize; 4] = [4, 8, 16, 32];
@@ -56,6 +56,44 @@ impl Block {
             0
         }
     }
+}
+
+/// A level scaled: its coefficient, whether the level was limited, and whether the result of the limited level was.
+#[derive(Clone, Copy, PartialEq, Eq, Debug)]
+pub struct Scaled {
+    pub value: i64,
+    pub level_limited: bool,
+    pub result_limited: bool,
+}
+
+pub fn scaled(level: i32, m: u8, n: usize, qp_prime: i32, bit_depth: u8, extended_precision: bool) -> Scaled {
+    const LEVEL_SCALE: [i128; 6] = [40, 45, 51, 57, 64, 72];
+    let r = range(bit_depth, extended_precision);
+    let (lo, hi) = (-(1i128 << r), (1i128 << r) - 1);
+    let s = u32::from(bit_depth) + n.trailing_zeros() + 10 - r;
+    let q = i64::from(qp_prime).clamp(0, 51 + qp_bd_offset(bit_depth)) as usize;
+    let near = i128::from(level).clamp(lo, hi);
+    let result = (near * i128::from(m) * (LEVEL_SCALE[q % 6] << (q / 6)) + (1 << (s - 1))) >> s;
+    Scaled { value: result.clamp(lo, hi) as i64, level_limited: near != i128::from(level), result_limited: !(lo..=hi).contains(&result) }
+}
+
+/// m at an index, by a list of 64 entries and its DC number, or without one.
+pub fn factor(list: Option<(&[u8], u8)>, n: usize, index: usize) -> u8 {
+    match list {
+        None => 16,
+        Some((entries, _)) if n <= 8 => entries[index],
+        Some((_, dc)) if index == 0 => dc,
+        Some((entries, _)) => entries[index / n * 8 / n * 8 + index % n * 8 / n],
+    }
+}
+
+/// How many of the n² indices have a level outside the range, or a result.
+pub fn limited(levels: &[i32], list: Option<(&[u8], u8)>, n: usize, qp_prime: i32, bit_depth: u8, extended_precision: bool) -> u16 {
+    let told = |i: usize| {
+        let s = scaled(levels[i], factor(list, n, i), n, qp_prime, bit_depth, extended_precision);
+        u16::from(s.level_limited || s.result_limited)
+    };
+    (0..n * n).map(told).sum()
 }
 
 /// Row 9: the first coefficient outside the range, in row order, among the columns read.

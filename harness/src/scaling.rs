@@ -1,6 +1,6 @@
 //! Comparison of scaling: m, one level, and blocks at two widths with and without a list.
 use crate::archive::scaling::Blocks;
-use crate::archive::{self, Answered};
+use crate::archive::{self, CountAnswered};
 use crate::blocks::{self, Element, Lent, SHAPES};
 use crate::random::Random;
 use crate::reference::{self, Block};
@@ -101,8 +101,9 @@ fn levels(tally: &mut Tally, seed: u64, cases: usize) {
             oracle::dequantize_scaled_into_scalar_i32(&block, n, qp_prime, bit_depth, extended_precision, &[m; 64], m, &mut out);
             for (&level, &value) in part.iter().zip(&out) {
                 let ours = archive::scaling::scale_level(level, m, n, qp_prime, bit_depth, extended_precision);
-                let expected = archive::SignedAnswered { number: 0, row: 0, column: 0, place: 0, value };
-                tally.compared(ours.number, ours == expected, || format!("level {level}, m {m}, n {n}, QP′ {qp_prime}, depth {bit_depth}, extended {extended_precision}: {ours:?}, expected {expected:?}"));
+                let rule = reference::scaled(level, m, n, qp_prime, bit_depth, extended_precision);
+                let expected = archive::LevelAnswered { value, level_limited: rule.level_limited, result_limited: rule.result_limited, ..archive::LevelAnswered::default() };
+                tally.compared(ours.number, ours == expected && rule.value == i64::from(value), || format!("level {level}, m {m}, n {n}, QP′ {qp_prime}, depth {bit_depth}, extended {extended_precision}: {ours:?}, expected {expected:?}"));
             }
         }
     };
@@ -135,7 +136,7 @@ fn levels(tally: &mut Tally, seed: u64, cases: usize) {
         let n = if random.one_in(2) { blocks::odd_size(&mut random) } else { random.pick(&reference::SIZES) };
         let bit_depth = if !reference::is_size(n) && random.one_in(2) { 8 } else { blocks::odd_depth(&mut random) };
         let ours = archive::scaling::scale_level(random.next() as i32, random.below(256) as u8, n, 4, bit_depth, random.one_in(2));
-        let expected = archive::SignedAnswered { number: if reference::is_size(n) { 2 } else { 1 }, row: 0, column: 0, place: 0, value: 0 };
+        let expected = archive::LevelAnswered { number: if reference::is_size(n) { 2 } else { 1 }, ..archive::LevelAnswered::default() };
         tally.compared(ours.number, ours == expected, || format!("n {n}, depth {bit_depth}: {ours:?}, expected {expected:?}"));
     }
 }
@@ -219,6 +220,53 @@ fn blocks_of<E: Element>(tally: &mut Tally, scaler: &Scaler<E>, seed: u64, cases
         }
         compare_call(tally, scaler, &call, &mut random);
     }
+    borders(tally, scaler, seed);
+}
+
+/// Levels at the borders of what is limited: the range's ends and their neighbours, and those at which the result of an index's m leaves the range, with
+/// none, one or all of a block limited.
+fn borders<E: Element>(tally: &mut Tally, scaler: &Scaler<E>, seed: u64) {
+    let mut random = Random::of(seed, "borders");
+    let depths = if E::NARROW { 8..=9 } else { reference::DEPTHS };
+    for (bit_depth, extended_precision) in depths.flat_map(|b| [(b, false), (b, true)]) {
+        if E::NARROW && extended_precision {
+            continue;
+        }
+        let r = reference::range(bit_depth, extended_precision);
+        for n in reference::SIZES {
+            for qp_prime in [-1, 0, 1, 2, 3, 4, 5, 22, 29, 30, 51, 51 + 6 * (i32::from(bit_depth) - 8), 200] {
+                let mut list = blocks::list(&mut random, 64);
+                list[..4].copy_from_slice(&[0, 1, 16, 255]);
+                let dc = random.pick(&[0, 1, 16, 255]);
+                let lent = scaler.listed.then_some((&list[..], dc));
+                let edge = |i: usize, up: bool| {
+                    let m = reference::factor(lent, n, i);
+                    let told = |v: i64| reference::scaled(v as i32, m, n, qp_prime, bit_depth, extended_precision).result_limited;
+                    let (mut low, mut high) = (0i64, 1i64 << r);
+                    while low < high {
+                        let mid = (low + high) / 2;
+                        if told(if up { mid } else { -mid }) { high = mid } else { low = mid + 1 }
+                    }
+                    if up { low } else { -low }
+                };
+                for kind in 0..6 {
+                    let one = random.below(n * n);
+                    let levels: Vec<i32> = (0..n * n)
+                        .map(|i| match kind {
+                            0 => 0,
+                            1 => if i == one { 1 << r } else { 0 },
+                            2 => random.pick(&[i32::MIN, i32::MAX, 1 << r, -(1 << r) - 1]),
+                            3 => random.pick(&[(1 << r) - 1, 1 << r, -(1 << r), -(1 << r) - 1]),
+                            4 => (edge(i, true) - random.below(2) as i64) as i32,
+                            _ => (edge(i, false) + random.below(2) as i64) as i32,
+                        })
+                        .collect();
+                    let call = Call { levels, n, qp_prime, bit_depth, extended_precision, list: list.clone(), dc, out_len: n * n };
+                    compare_call(tally, scaler, &call, &mut random);
+                }
+            }
+        }
+    }
 }
 
 fn compare_call<E: Element>(tally: &mut Tally, scaler: &Scaler<E>, call: &Call, random: &mut Random) {
@@ -233,10 +281,16 @@ fn compare_call<E: Element>(tally: &mut Tally, scaler: &Scaler<E>, call: &Call, 
         (scaler.oracle)(&call.levels, call.n, call.qp_prime, call.bit_depth, call.extended_precision, list, call.dc, expected.lend());
     }
     let difference = ours.first_difference(&expected);
-    let agrees = answered == Answered { number, row: 0, column: 0, place: 0 } && difference.is_none() && levels == call.levels;
+    let limited = if number == 0 {
+        let list = scaler.listed.then_some((&call.list[..], call.dc));
+        reference::limited(&call.levels, list, call.n, call.qp_prime, call.bit_depth, call.extended_precision)
+    } else {
+        0
+    };
+    let agrees = answered == CountAnswered { number, limited, ..CountAnswered::default() } && difference.is_none() && levels == call.levels;
     tally.compared(answered.number, agrees, || {
         format!(
-            "n {}, QP′ {}, depth {}, extended {}, {} levels, {} places, list of {}, DC {}: {answered:?}, expected number {number}; first element that differs: {difference:?}",
+            "n {}, QP′ {}, depth {}, extended {}, {} levels, {} places, list of {}, DC {}: {answered:?}, expected number {number} and {limited} limited; first element that differs: {difference:?}",
             call.n,
             call.qp_prime,
             call.bit_depth,

@@ -2,7 +2,7 @@
 //! blocks scaled by number against the functions with a list, which are compared with the Rust elsewhere.
 use crate::archive::scaling::{self, Blocks};
 use crate::archive::tables::{self, StoreAnswered};
-use crate::archive::{Answered, NumberAnswered};
+use crate::archive::{Answered, CountAnswered, NumberAnswered};
 use crate::blocks::Element;
 use crate::random::Random;
 use crate::reference;
@@ -147,7 +147,7 @@ fn find(tally: &mut Tally, random: &mut Random, run: &Run, stream: usize, told: 
     agree(tally, found.number, found, expected, out == due, told);
 }
 
-type ByNumber<E> = fn(&[u8], usize, usize, &[i32], usize, i32, u8, bool, &mut [E]) -> Answered;
+type ByNumber<E> = fn(&[u8], usize, usize, &[i32], usize, i32, u8, bool, &mut [E]) -> CountAnswered;
 
 fn scaled<E: Element + Debug + PartialEq>(tally: &mut Tally, seed: u64, cases: usize, name: &'static str, ours: ByNumber<E>, library: &Blocks<E>) {
     tally.begin(name);
@@ -175,7 +175,7 @@ fn scaled<E: Element + Debug + PartialEq>(tally: &mut Tally, seed: u64, cases: u
         let mut kept = due.clone();
         let mut expected = library.call(&levels, n, qp_prime, bit_depth, extended_precision, list, *dc, &mut kept);
         if expected.number == 0 && place.is_none() {
-            expected.number = 18;
+            expected = CountAnswered { number: 18, ..CountAnswered::default() };
         } else {
             due = kept;
         }

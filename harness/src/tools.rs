@@ -1,7 +1,7 @@
 //! Comparison of the crates `block_tools` and `level_search`, which were not ported. Rotation and accumulation are written plainly over the transform skip of the archive,
 //! which is compared with the Rust elsewhere; a level is looked for among all levels whose scaling comes near, by the archive's scaling of one level.
 use crate::archive::scaling;
-use crate::archive::{Answered, tools};
+use crate::archive::{Answered, CountAnswered, tools};
 use crate::random::Random;
 use crate::reference::{self, Block};
 use crate::tally::Tally;
@@ -86,14 +86,16 @@ fn skip(tally: &mut Tally, seed: u64, cases: usize, name: &'static str, listed: 
         let mut out = vec![7i32; short(&mut random, n * n)];
         let mut due = out.clone();
         let number = with_rotation(given.refusal(levels.len(), out.len()), rotate, n);
+        let mut expected = CountAnswered { number, ..CountAnswered::default() };
         if number == 0 {
+            expected.limited = reference::limited(&levels, given.lent(), n, given.qp_prime, given.bit_depth, given.extended_precision);
             let (list, dc) = given.lent().unwrap_or((&[], 0));
             let plain = if listed { &scaling::dequantize_transform_skip_scaled_into_scalar_i32 } else { &scaling::dequantize_transform_skip_into_scalar_i32 };
             plain.call(&levels, n, given.qp_prime, given.bit_depth, given.extended_precision, list, dc, &mut due);
             modified(&mut due, n, rotate, accumulate);
         }
         let found = tools::transform_skip_residual(&levels, n, given.qp_prime, given.bit_depth, given.extended_precision, given.lent(), rotate, accumulate, &mut out);
-        tally.compared(found.number, found == refused(number) && out == due, || format!("n {n}, rotate {rotate}, accumulate {accumulate}: {found:?}, expected number {number}"));
+        tally.compared(found.number, found == expected && out == due, || format!("n {n}, rotate {rotate}, accumulate {accumulate}: {found:?}, expected {expected:?}"));
     }
 }
 

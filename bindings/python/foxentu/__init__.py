@@ -25,6 +25,8 @@ from .residual import (
     rebuild_block,
     rounding_bound,
     scale,
+    scaled,
+    skipped,
     transform_skip,
     write_scaling_lists,
 )
@@ -47,6 +49,8 @@ __all__ = [
     "refusal_text",
     "rounding_bound",
     "scale",
+    "scaled",
+    "skipped",
     "transform_skip",
     "version",
     "write_scaling_lists",

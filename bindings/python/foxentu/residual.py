@@ -38,24 +38,34 @@ def rounding_bound(dst, n, depth, extended=False):
 
 
 # ---- scaling
-def scale(levels, n, qp_prime, depth, extended=False, scaling_list=None):
-    """The coefficients of a block of levels."""
+def scaled(levels, n, qp_prime, depth, extended=False, scaling_list=None):
+    """The coefficients of a block of levels, and how many were limited: their level or the result lay outside the coefficient range."""
     out = _block(n)
     if scaling_list is None:
-        call("residual_dequantize_into_scalar_i32", levels, n, qp_prime, depth, extended, out)
+        answered = call("residual_dequantize_into_scalar_i32", levels, n, qp_prime, depth, extended, out)
     else:
-        call("residual_dequantize_scaled_into_scalar_i32", levels, n, qp_prime, depth, extended, *_listed(scaling_list), out)
-    return out
+        answered = call("residual_dequantize_scaled_into_scalar_i32", levels, n, qp_prime, depth, extended, *_listed(scaling_list), out)
+    return out, answered.limited
+
+
+def scale(levels, n, qp_prime, depth, extended=False, scaling_list=None):
+    """The coefficients of a block of levels."""
+    return scaled(levels, n, qp_prime, depth, extended, scaling_list)[0]
+
+
+def skipped(levels, n, qp_prime, depth, extended=False, scaling_list=None):
+    """The residual of a transform-skip block, and how many of its coefficients were limited, before the skip shift."""
+    out = _block(n)
+    if scaling_list is None:
+        answered = call("residual_dequantize_transform_skip_into_scalar_i32", levels, n, qp_prime, depth, extended, out)
+    else:
+        answered = call("residual_dequantize_transform_skip_scaled_into_scalar_i32", levels, n, qp_prime, depth, extended, *_listed(scaling_list), out)
+    return out, answered.limited
 
 
 def transform_skip(levels, n, qp_prime, depth, extended=False, scaling_list=None):
     """The residual of a transform-skip block."""
-    out = _block(n)
-    if scaling_list is None:
-        call("residual_dequantize_transform_skip_into_scalar_i32", levels, n, qp_prime, depth, extended, out)
-    else:
-        call("residual_dequantize_transform_skip_scaled_into_scalar_i32", levels, n, qp_prime, depth, extended, *_listed(scaling_list), out)
-    return out
+    return skipped(levels, n, qp_prime, depth, extended, scaling_list)[0]
 
 
 def find_levels(coefficients, n, qp_prime, depth, extended=False, scaling_list=None):

@@ -13,6 +13,30 @@ pub struct Answered {
     pub place: usize,
 }
 
+/// `residual_count_answered`
+#[repr(C)]
+#[derive(Clone, Copy, Debug, Default, PartialEq, Eq)]
+pub struct CountAnswered {
+    pub number: u32,
+    pub row: u8,
+    pub column: u8,
+    pub limited: u16,
+    pub place: usize,
+}
+
+/// `residual_level_answered`
+#[repr(C)]
+#[derive(Clone, Copy, Debug, Default, PartialEq, Eq)]
+pub struct LevelAnswered {
+    pub number: u32,
+    pub row: u8,
+    pub column: u8,
+    pub level_limited: bool,
+    pub result_limited: bool,
+    pub place: usize,
+    pub value: i32,
+}
+
 /// `residual_number_answered`
 #[repr(C)]
 #[derive(Clone, Copy, Debug, Default, PartialEq, Eq)]
@@ -140,7 +164,7 @@ unsafe extern "C" {
     pub fn residual_dequant_params(n: usize, qp_prime: i32, bit_depth: u8, extended_precision: bool) -> DequantAnswered;
     pub fn residual_transform_skip_params(n: usize, qp_prime: i32, bit_depth: u8, extended_precision: bool) -> TransformSkipAnswered;
     pub fn residual_scaling_coeff(list: *const u8, list_len: usize, dc: u8, n: usize, index: usize) -> NumberAnswered;
-    pub fn residual_scale_level(level: i32, m: u8, n: usize, qp_prime: i32, bit_depth: u8, extended_precision: bool) -> SignedAnswered;
+    pub fn residual_scale_level(level: i32, m: u8, n: usize, qp_prime: i32, bit_depth: u8, extended_precision: bool) -> LevelAnswered;
     pub fn residual_dequantize_into_scalar_i32(
         levels: *const i32,
         levels_len: usize,
@@ -150,7 +174,7 @@ unsafe extern "C" {
         extended_precision: bool,
         out: *mut i32,
         out_len: usize,
-    ) -> Answered;
+    ) -> CountAnswered;
     pub fn residual_dequantize_scaled_into_scalar_i32(
         levels: *const i32,
         levels_len: usize,
@@ -163,7 +187,7 @@ unsafe extern "C" {
         dc: u8,
         out: *mut i32,
         out_len: usize,
-    ) -> Answered;
+    ) -> CountAnswered;
     pub fn residual_dequantize_into_scalar_i16(
         levels: *const i32,
         levels_len: usize,
@@ -173,7 +197,7 @@ unsafe extern "C" {
         extended_precision: bool,
         out: *mut i16,
         out_len: usize,
-    ) -> Answered;
+    ) -> CountAnswered;
     pub fn residual_dequantize_scaled_into_scalar_i16(
         levels: *const i32,
         levels_len: usize,
@@ -186,7 +210,7 @@ unsafe extern "C" {
         dc: u8,
         out: *mut i16,
         out_len: usize,
-    ) -> Answered;
+    ) -> CountAnswered;
     pub fn residual_dequantize_transform_skip_into_scalar_i32(
         levels: *const i32,
         levels_len: usize,
@@ -196,7 +220,7 @@ unsafe extern "C" {
         extended_precision: bool,
         out: *mut i32,
         out_len: usize,
-    ) -> Answered;
+    ) -> CountAnswered;
     pub fn residual_dequantize_transform_skip_scaled_into_scalar_i32(
         levels: *const i32,
         levels_len: usize,
@@ -209,7 +233,7 @@ unsafe extern "C" {
         dc: u8,
         out: *mut i32,
         out_len: usize,
-    ) -> Answered;
+    ) -> CountAnswered;
     pub fn residual_dequantize_transform_skip_into_scalar_i16(
         levels: *const i32,
         levels_len: usize,
@@ -219,7 +243,7 @@ unsafe extern "C" {
         extended_precision: bool,
         out: *mut i16,
         out_len: usize,
-    ) -> Answered;
+    ) -> CountAnswered;
     pub fn residual_dequantize_transform_skip_scaled_into_scalar_i16(
         levels: *const i32,
         levels_len: usize,
@@ -232,7 +256,7 @@ unsafe extern "C" {
         dc: u8,
         out: *mut i16,
         out_len: usize,
-    ) -> Answered;
+    ) -> CountAnswered;
     pub fn residual_read_scaling_lists(
         bytes: *const u8,
         bytes_len: usize,
@@ -313,7 +337,7 @@ unsafe extern "C" {
         extended_precision: bool,
         out: *mut i32,
         out_len: usize,
-    ) -> Answered;
+    ) -> CountAnswered;
     pub fn residual_dequantize_by_number_i16(
         table: *const u8,
         table_len: usize,
@@ -327,7 +351,7 @@ unsafe extern "C" {
         extended_precision: bool,
         out: *mut i16,
         out_len: usize,
-    ) -> Answered;
+    ) -> CountAnswered;
     pub fn residual_dequantize_transform_skip_by_number_i32(
         table: *const u8,
         table_len: usize,
@@ -341,7 +365,7 @@ unsafe extern "C" {
         extended_precision: bool,
         out: *mut i32,
         out_len: usize,
-    ) -> Answered;
+    ) -> CountAnswered;
     pub fn residual_dequantize_transform_skip_by_number_i16(
         table: *const u8,
         table_len: usize,
@@ -355,7 +379,7 @@ unsafe extern "C" {
         extended_precision: bool,
         out: *mut i16,
         out_len: usize,
-    ) -> Answered;
+    ) -> CountAnswered;
     pub fn residual_transform_skip_residual(
         levels: *const i32,
         levels_len: usize,
@@ -367,7 +391,7 @@ unsafe extern "C" {
         accumulate: u8,
         out: *mut i32,
         out_len: usize,
-    ) -> Answered;
+    ) -> CountAnswered;
     pub fn residual_transform_skip_scaled_residual(
         levels: *const i32,
         levels_len: usize,
@@ -382,7 +406,7 @@ unsafe extern "C" {
         accumulate: u8,
         out: *mut i32,
         out_len: usize,
-    ) -> Answered;
+    ) -> CountAnswered;
     pub fn residual_bypass_residual(
         levels: *const i32,
         levels_len: usize,

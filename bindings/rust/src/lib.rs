@@ -46,7 +46,7 @@ pub use picture::{Block, Picture};
 pub use quantities::{coefficient_range, dequant_params, qp_bd_offset, qp_prime, rounding_bound, transform_skip_params, DequantParams, TransformSkipParams};
 pub use refusal::Refusal;
 pub(crate) use refusal::told;
-pub use scaling::{bypass, Accumulate, Element, List, Scaling};
+pub use scaling::{bypass, Accumulate, Element, List, ScaledLevel, Scaling};
 pub use transform::{inverse_transform, inverse_transform_16, refresh_residual};
 
 /// The version of the headers that this crate was written for.

@@ -143,12 +143,12 @@ impl ListTable {
     }
 
     /// A block scaled by the list under a number, which stands in place of the scaling's own.
-    pub fn scale<E: Element>(&self, stream: usize, number: usize, scaling: &Scaling<'_>, levels: &[i32], out: &mut [E]) -> Result<(), Refusal> {
+    pub fn scale<E: Element>(&self, stream: usize, number: usize, scaling: &Scaling<'_>, levels: &[i32], out: &mut [E]) -> Result<u16, Refusal> {
         scaling.scale_by_number(&self.bytes, stream, number, levels, out, false)
     }
 
     /// The residual of a transform-skip block by it.
-    pub fn transform_skip<E: Element>(&self, stream: usize, number: usize, scaling: &Scaling<'_>, levels: &[i32], out: &mut [E]) -> Result<(), Refusal> {
+    pub fn transform_skip<E: Element>(&self, stream: usize, number: usize, scaling: &Scaling<'_>, levels: &[i32], out: &mut [E]) -> Result<u16, Refusal> {
         scaling.scale_by_number(&self.bytes, stream, number, levels, out, true)
     }
 }

@@ -25,6 +25,17 @@ pub struct Scaling<'a> {
     pub list: Option<List<'a>>,
 }
 
+/// A level scaled.
+#[derive(Clone, Copy, Debug, PartialEq, Eq)]
+pub struct ScaledLevel {
+    /// Its coefficient.
+    pub coefficient: i32,
+    /// The level lay outside the coefficient range.
+    pub level_limited: bool,
+    /// The result of the limited level did.
+    pub result_limited: bool,
+}
+
 /// How residuals are accumulated after the skip shift.
 #[derive(Clone, Copy, Debug, PartialEq, Eq)]
 #[allow(missing_docs)]
@@ -49,9 +60,9 @@ impl Element for i16 {}
 mod private {
     use crate::ffi;
 
-    type Flat<E> = unsafe extern "C" fn(*const i32, usize, usize, i32, u8, bool, *mut E, usize) -> ffi::Answered;
-    type Listed<E> = unsafe extern "C" fn(*const i32, usize, usize, i32, u8, bool, *const u8, usize, u8, *mut E, usize) -> ffi::Answered;
-    type Numbered<E> = unsafe extern "C" fn(*const u8, usize, usize, usize, *const i32, usize, usize, i32, u8, bool, *mut E, usize) -> ffi::Answered;
+    type Flat<E> = unsafe extern "C" fn(*const i32, usize, usize, i32, u8, bool, *mut E, usize) -> ffi::CountAnswered;
+    type Listed<E> = unsafe extern "C" fn(*const i32, usize, usize, i32, u8, bool, *const u8, usize, u8, *mut E, usize) -> ffi::CountAnswered;
+    type Numbered<E> = unsafe extern "C" fn(*const u8, usize, usize, usize, *const i32, usize, usize, i32, u8, bool, *mut E, usize) -> ffi::CountAnswered;
 
     /// The functions of one width.
     pub trait Calls: Sized {
@@ -93,14 +104,15 @@ impl List<'_> {
 }
 
 impl Scaling<'_> {
-    /// The coefficients of a block of levels.
-    pub fn scale<E: Element>(&self, levels: &[i32], out: &mut [E]) -> Result<(), Refusal> {
+    /// The coefficients of a block of levels. Answers how many were limited: their level or the result lay outside the coefficient range.
+    pub fn scale<E: Element>(&self, levels: &[i32], out: &mut [E]) -> Result<u16, Refusal> {
         let (flat, listed, _) = E::SCALE;
         self.call(flat, listed, levels, out)
     }
 
     /// The residual of a transform-skip block. A list is used at every size; that a block above size 4 has none is the caller's choice.
-    pub fn transform_skip<E: Element>(&self, levels: &[i32], out: &mut [E]) -> Result<(), Refusal> {
+    /// Answers how many coefficients were limited, before the skip shift.
+    pub fn transform_skip<E: Element>(&self, levels: &[i32], out: &mut [E]) -> Result<u16, Refusal> {
         let (flat, listed, _) = E::SKIP;
         self.call(flat, listed, levels, out)
     }
@@ -108,28 +120,28 @@ impl Scaling<'_> {
     #[allow(clippy::type_complexity)]
     fn call<E>(
         &self,
-        flat: unsafe extern "C" fn(*const i32, usize, usize, i32, u8, bool, *mut E, usize) -> ffi::Answered,
-        listed: unsafe extern "C" fn(*const i32, usize, usize, i32, u8, bool, *const u8, usize, u8, *mut E, usize) -> ffi::Answered,
+        flat: unsafe extern "C" fn(*const i32, usize, usize, i32, u8, bool, *mut E, usize) -> ffi::CountAnswered,
+        listed: unsafe extern "C" fn(*const i32, usize, usize, i32, u8, bool, *const u8, usize, u8, *mut E, usize) -> ffi::CountAnswered,
         levels: &[i32],
         out: &mut [E],
-    ) -> Result<(), Refusal> {
+    ) -> Result<u16, Refusal> {
         let (at, len, to, room) = (levels.as_ptr(), levels.len(), out.as_mut_ptr(), out.len());
         told!(match self.list {
             None => unsafe { flat(at, len, self.n, self.qp_prime, self.depth, self.extended, to, room) },
             Some(l) => unsafe { listed(at, len, self.n, self.qp_prime, self.depth, self.extended, l.entries.as_ptr(), l.entries.len(), l.dc, to, room) },
         })
-        .map(|_| ())
+        .map(|a| a.limited)
     }
 
     /// The same by the list that a stream of a table holds under a number, in place of `list`.
-    pub(crate) fn scale_by_number<E: Element>(&self, table: &[u8], stream: usize, number: usize, levels: &[i32], out: &mut [E], skip: bool) -> Result<(), Refusal> {
+    pub(crate) fn scale_by_number<E: Element>(&self, table: &[u8], stream: usize, number: usize, levels: &[i32], out: &mut [E], skip: bool) -> Result<u16, Refusal> {
         let (_, _, numbered) = if skip { E::SKIP } else { E::SCALE };
         let (at, len, to, room) = (levels.as_ptr(), levels.len(), out.as_mut_ptr(), out.len());
-        told!(unsafe { numbered(table.as_ptr(), table.len(), stream, number, at, len, self.n, self.qp_prime, self.depth, self.extended, to, room) }).map(|_| ())
+        told!(unsafe { numbered(table.as_ptr(), table.len(), stream, number, at, len, self.n, self.qp_prime, self.depth, self.extended, to, room) }).map(|a| a.limited)
     }
 
-    /// The residual of a transform-skip block, rotated (at size 4 alone) and accumulated.
-    pub fn transform_skip_with(&self, rotate: bool, accumulate: Accumulate, levels: &[i32], out: &mut [i32]) -> Result<(), Refusal> {
+    /// The residual of a transform-skip block, rotated (at size 4 alone) and accumulated. Answers how many coefficients were limited.
+    pub fn transform_skip_with(&self, rotate: bool, accumulate: Accumulate, levels: &[i32], out: &mut [i32]) -> Result<u16, Refusal> {
         let (at, len, to, room, way) = (levels.as_ptr(), levels.len(), out.as_mut_ptr(), out.len(), accumulate.number());
         told!(match self.list {
             None => unsafe { ffi::residual_transform_skip_residual(at, len, self.n, self.qp_prime, self.depth, self.extended, rotate, way, to, room) },
@@ -137,7 +149,7 @@ impl Scaling<'_> {
                 ffi::residual_transform_skip_scaled_residual(at, len, self.n, self.qp_prime, self.depth, self.extended, l.entries.as_ptr(), l.entries.len(), l.dc, rotate, way, to, room)
             },
         })
-        .map(|_| ())
+        .map(|a| a.limited)
     }
 
     /// For each coefficient the level of least size that scales to it.
@@ -163,8 +175,12 @@ impl Scaling<'_> {
     }
 
     /// One level with the factor m.
-    pub fn scale_level(&self, level: i32, m: u8) -> Result<i32, Refusal> {
-        told!(unsafe { ffi::residual_scale_level(level, m, self.n, self.qp_prime, self.depth, self.extended) }).map(|a| a.value)
+    pub fn scale_level(&self, level: i32, m: u8) -> Result<ScaledLevel, Refusal> {
+        told!(unsafe { ffi::residual_scale_level(level, m, self.n, self.qp_prime, self.depth, self.extended) }).map(|a| ScaledLevel {
+            coefficient: a.value,
+            level_limited: a.level_limited,
+            result_limited: a.result_limited,
+        })
     }
 }
 

@@ -23,6 +23,7 @@ use Rattle.integers.proofs.ListsLaws.{overwrite-length}
 use Rattle.h265.specs.Range.{isSize, transformRange, outsideRange}
 use Rattle.h265.specs.ScalingFactor.{ScalingList}
 use Rattle.h265.specs.TransformSkip.{skippedAt}
+use Rattle.h265.specs.Limited.{limitedCount}
 use Rattle.h265.proofs.RangeLaws.{transformRange-most, clipCoeff-id, clipCoeff-within, outsideRange-false}
 use Rattle.refusal.specs.declared.Answer.the-variants.{Done, Refused}
 use Rattle.refusal.specs.declared.Refusal.{Refusal}
@@ -35,7 +36,8 @@ use Rattle.refusal.proofs.LadderLaws.Rung.{rung}
 use Rattle.refusal.proofs.RefusalLaws.{number-least}
 use Rattle.coefficients.specs.Outside.{firstOutside, refusalAt}
 use Rattle.coefficients.proofs.OutsideLaws.{firstOutside-inside}
-use Rattle.scaling_blocks.specs.Blocks.{bits32, blockLadder, blockWritten, transformSkipped, entriesOf}
+use Rattle.scaling_blocks.specs.Blocks.{bits32, blockLadder, blockWritten, transformSkipped, entriesOf, CountWritten, CountWrites, leftAsLent, counted}
+use Rattle.scaling_blocks.specs.declared.CountAnswer.the-variants.{Limited, Refused as CountRefused}
 use Rattle.scaling_blocks.proofs.BlockLaws.{rungs}
 use Rattle.block_tools.specs.declared.Accumulate.{Accumulate}
 use Rattle.block_tools.specs.declared.Accumulate.the-variants.{Off}
@@ -65,29 +67,33 @@ unfolding rotationNamed
 rotation-passed t n b e s d = sym (ap (λ u. not u && (not (depthRefused b) && rotationRefused t n)) s ∙ ap (λ u. not u && rotationRefused t n) d) ∙ e
 
 module _ (a : Accumulate) (t : Bool) (list : ScalingList) (n : ℕ) (q : ℤ) (b : ℕ) (x : Bool) (levels out : List ℤ) where
-  pub skip-named : rotationNamed t n b ≡ true → Writes (Refused RotationSizeInvalid) out (skipResidual a t list n q b x levels out)
+  pub skip-named : rotationNamed t n b ≡ true → CountWrites (CountRefused RotationSizeInvalid) out (skipResidual a t list n q b x levels out)
   unfolding skipResidual rotationNamed
-  skip-named e = subst (λ (w : Written). Writes (Refused RotationSizeInvalid) out w) (sym (third _ _ _ _ (sizeRefused n) (depthRefused b) (rotationRefused t n) e)) (record { answered = refl; out = refl })
+  skip-named e = subst (λ (w : CountWritten). CountWrites (CountRefused RotationSizeInvalid) out w) (sym (third _ _ _ _ (sizeRefused n) (depthRefused b) (rotationRefused t n) e)) (record { answered = refl; out = refl })
 
   pub skip-passed : rotationNamed t n b ≡ false
-      → skipResidual a t list n q b x levels out ≡ blockLadder (left out) (wrote (overwrite (n * n) (skipResidualAt a t list n b x q levels) out)) bits32 n b x (entriesOf list) (length levels) (length out)
+      → skipResidual a t list n q b x levels out ≡ blockLadder (leftAsLent out) (counted (limitedCount list n b x q levels) (overwrite (n * n) (skipResidualAt a t list n b x q levels) out)) bits32 n b x (entriesOf list) (length levels) (length out)
   unfolding skipResidual rotationNamed blockLadder
   skip-passed e = without _ _ _ _ (sizeRefused n) (depthRefused b) (rotationRefused t n) e
 
 -- ---- ladders with another end
-module _ (out after x : List ℤ) where
-  pub refused-still : (y : List ℤ) (e : Refusal) (rs : List Rung) → Writes (Refused e) after (first (left out) (wrote x) rs) → Writes (Refused e) after (first (left out) (wrote y) rs)
-  refused-still y e [] w = absurd (let z : ⊥ = omega (arith, number-least e, ap (λ (o : Outcome Unit). o .number) (w .answered)) in z)
+module _ (out after x : List ℤ) (m : ℕ) where
+  pub refused-still : (y : List ℤ) (e : Refusal) (rs : List Rung) → CountWrites (CountRefused e) after (first (leftAsLent out) (counted m x) rs) → CountWrites (CountRefused e) after (first (leftAsLent out) (counted m y) rs)
+  refused-still y e [] w = absurd (let z : ⊥ = omega (arith, number-least e, ap (λ (o : Outcome ℕ). o .number) (w .answered)) in z)
   refused-still y e (rung true f ∷ rs) w = w
   refused-still y e (rung false f ∷ rs) w = refused-still y e rs w
 
-  pub done-passed : (rs : List Rung) → Writes Done after (first (left out) (wrote x) rs) → Passed rs × (after ≡ x)
-  done-passed [] w = (tt, w .out)
-  done-passed (rung true f ∷ rs) w = absurd (let z : ⊥ = omega (arith, number-least f, ap (λ (o : Outcome Unit). o .number) (w .answered)) in z)
-  done-passed (rung false f ∷ rs) w = let r = done-passed rs w in ((refl, r .0), r .1)
+  pub done-passed : (k : ℕ) (rs : List Rung) → CountWrites (Limited k) after (first (leftAsLent out) (counted m x) rs) → Passed rs × ((after ≡ x) × (k ≡ m))
+  done-passed k [] w = (tt, (w .out, ap (λ (o : Outcome ℕ). o .value) (w .answered)))
+  done-passed k (rung true f ∷ rs) w = absurd (let z : ⊥ = omega (arith, number-least f, ap (λ (o : Outcome ℕ). o .number) (w .answered)) in z)
+  done-passed k (rung false f ∷ rs) w = let r = done-passed k rs w in ((refl, r .0), r .1)
 
 pub done-writes : (out y : List ℤ) {after : List ℤ} (rs : List Rung) → Passed rs → after ≡ y → Writes Done after (first (left out) (wrote y) rs)
 done-writes out y {after} rs p e = subst (λ (w : Written). Writes Done after w) (sym (first-passed (left out) (wrote y) rs p)) (record { answered = refl; out = e })
+
+count-writes : (out y : List ℤ) (k m : ℕ) {after : List ℤ} (rs : List Rung) → Passed rs → after ≡ y → k ≡ m → CountWrites (Limited k) after (first (leftAsLent out) (counted m y) rs)
+count-writes out y k m {after} rs p e f =
+    subst (λ (w : CountWritten). CountWrites (Limited k) after w) (sym (first-passed (leftAsLent out) (counted m y) rs p)) (record { answered = ap accepted f; out = e })
 
 block-room : (n len : ℕ) → blockRefused n len ≡ false → n * n ≤ len
 unfolding blockRefused
@@ -95,8 +101,8 @@ block-room n len e = ltb-false len (n * n) e
 
 -- ---- transform skip
 module _ (a : Accumulate) (t : Bool) (list : ScalingList) (n : ℕ) (q : ℤ) (b : ℕ) (x : Bool) (levels out : List ℤ) where
-  -- the residuals without the block tools stand in `mid`
-  pub record Skipped (mid : List ℤ) : Type 0 where
+  -- the residuals without the block tools stand in `mid`, and k coefficients were limited
+  pub record Skipped (k : ℕ) (mid : List ℤ) : Type 0 where
     pub size : T (isSize n)
     pub deep : b ≤ 16
     pub named : rotationNamed t n b ≡ false
@@ -104,11 +110,12 @@ module _ (a : Accumulate) (t : Bool) (list : ScalingList) (n : ℕ) (q : ℤ) (b
     pub room : n * n ≤ length out
     pub passed : Passed (rungs bits32 n b x (entriesOf list) (length levels) (length out))
     pub is : mid ≡ overwrite (n * n) (skippedAt list n b x q levels) out
+    pub limited : k ≡ limitedCount list n b x q levels
 
-  pub skip-done : {mid : List ℤ} → rotationNamed t n b ≡ false → Writes Done mid (transformSkipped bits32 list n q b x levels out) → Skipped mid
+  pub skip-done : {k : ℕ} {mid : List ℤ} → rotationNamed t n b ≡ false → CountWrites (Limited k) mid (transformSkipped bits32 list n q b x levels out) → Skipped k mid
   unfolding transformSkipped blockWritten blockLadder
-  skip-done {mid} e w =
-      let p = done-passed out mid (overwrite (n * n) (skippedAt list n b x q levels) out) (rungs bits32 n b x (entriesOf list) (length levels) (length out)) w in
+  skip-done {k} {mid} e w =
+      let p = done-passed out mid (overwrite (n * n) (skippedAt list n b x q levels) out) (limitedCount list n b x q levels) k (rungs bits32 n b x (entriesOf list) (length levels) (length out)) w in
       let s = p .0 in
       record {
         size = size-accepted n (s .0);
@@ -117,11 +124,12 @@ module _ (a : Accumulate) (t : Bool) (list : ScalingList) (n : ℕ) (q : ℤ) (b
         rotation = rotation-passed t n b e (s .0) (s .1 .0);
         room = block-room n (length out) (s .1 .1 .1 .1 .1 .0);
         passed = s;
-        is = p .1;
+        is = p .1 .0;
+        limited = p .1 .1;
       }
 
-  pub skip-block : {mid : List ℤ} → Skipped mid → Block t n mid
-  skip-block {mid} s =
+  pub skip-block : {k : ℕ} {mid : List ℤ} → Skipped k mid → Block t n mid
+  skip-block s =
       record {
         size = s .size;
         rotation = s .rotation;
@@ -131,18 +139,18 @@ module _ (a : Accumulate) (t : Bool) (list : ScalingList) (n : ℕ) (q : ℤ) (b
             (λ i h. within-le (omega arith) (skippedAt-within list n b x q levels i (s .size) (s .deep)));
       }
 
-  pub skip-modified : {mid after : List ℤ} → Skipped mid → after ≡ overwrite (n * n) (accumulated a n (rotated t n (at mid))) mid → Writes Done after (skipResidual a t list n q b x levels out)
+  pub skip-modified : {k : ℕ} {mid after : List ℤ} → Skipped k mid → after ≡ overwrite (n * n) (accumulated a n (rotated t n (at mid))) mid → CountWrites (Limited k) after (skipResidual a t list n q b x levels out)
   unfolding skipResidualAt modified rotated skippedAt blockLadder
-  skip-modified {mid} {after} s e =
-      subst (λ (w : Written). Writes Done after w) (sym (skip-passed a t list n q b x levels out (s .named)))
-      (done-writes out (overwrite (n * n) (skipResidualAt a t list n b x q levels) out) (rungs bits32 n b x (entriesOf list) (length levels) (length out)) (s .passed)
-      (modified-twice a t n (skippedAt list n b x q levels) out (s .is) e))
+  skip-modified {k} {after = after} s e =
+      subst (λ (w : CountWritten). CountWrites (Limited k) after w) (sym (skip-passed a t list n q b x levels out (s .named)))
+      (count-writes out (overwrite (n * n) (skipResidualAt a t list n b x q levels) out) k (limitedCount list n b x q levels) (rungs bits32 n b x (entriesOf list) (length levels) (length out)) (s .passed)
+      (modified-twice a t n (skippedAt list n b x q levels) out (s .is) e) (s .limited))
 
-  pub skip-refused : {after : List ℤ} (e : Refusal) → rotationNamed t n b ≡ false → Writes (Refused e) after (transformSkipped bits32 list n q b x levels out) → Writes (Refused e) after (skipResidual a t list n q b x levels out)
+  pub skip-refused : {after : List ℤ} (e : Refusal) → rotationNamed t n b ≡ false → CountWrites (CountRefused e) after (transformSkipped bits32 list n q b x levels out) → CountWrites (CountRefused e) after (skipResidual a t list n q b x levels out)
   unfolding transformSkipped blockWritten blockLadder
   skip-refused {after} e m w =
-      subst (λ (v : Written). Writes (Refused e) after v) (sym (skip-passed a t list n q b x levels out m))
-      (refused-still out after (overwrite (n * n) (skippedAt list n b x q levels) out) _ e (rungs bits32 n b x (entriesOf list) (length levels) (length out)) w)
+      subst (λ (v : CountWritten). CountWrites (CountRefused e) after v) (sym (skip-passed a t list n q b x levels out m))
+      (refused-still out after (overwrite (n * n) (skippedAt list n b x q levels) out) (limitedCount list n b x q levels) _ e (rungs bits32 n b x (entriesOf list) (length levels) (length out)) w)
 
 not-named : (s d : Bool) → not s && (not d && false) ≡ false
 not-named true d = refl

@@ -1,14 +1,15 @@
 // Transform skip with rotation and accumulation: residuals as without them, and then the block tools where they stand.
 ghost use Rattle.h265.specs.ScalingFactor.ScalingList.{flat, listed};
-ghost use Rattle.block_tools.specs.Residual.{skipResidual, Writes};
+ghost use Rattle.scaling_blocks.specs.Blocks.{CountWrites};
+ghost use Rattle.block_tools.specs.Residual.{skipResidual};
 use crate::Accumulate;
 use crate::modify;
 use crate::refuse;
 use parameters::QpPrime;
-use refusal::Answer;
 use refusal::Refusal;
+use scaling_blocks::CountAnswer;
 
-// The residuals of a block without a list.
+// The residuals of a block without a list, and how many of its coefficients were limited.
 pub fn transform_skip_residual(
     levels: &[i32],
     n: usize,
@@ -18,11 +19,11 @@ pub fn transform_skip_residual(
     rotate: bool,
     accumulate: Accumulate,
     out: &mut [i32],
-) -> Answer
-    ensures { λ r. ⌜ Writes r (now (out .exit)) (skipResidual accumulate rotate flat n («qp_prime» .0) «bit_depth» «extended_precision» (now (levels .entry)) (now (out .entry))) ⌝ }
+) -> CountAnswer
+    ensures { λ r. ⌜ CountWrites r (now (out .exit)) (skipResidual accumulate rotate flat n («qp_prime» .0) «bit_depth» «extended_precision» (now (levels .entry)) (now (out .entry))) ⌝ }
 {
     if refuse::rotation_named(rotate, n, bit_depth) {
-        return Answer::Refused(Refusal::RotationSizeInvalid);
+        return CountAnswer::Refused(Refusal::RotationSizeInvalid);
     }
     let skipped = scaling_wide::dequantize_transform_skip_into_scalar_i32(
         levels,
@@ -33,15 +34,15 @@ pub fn transform_skip_residual(
         out,
     );
     match skipped {
-        Answer::Done => {
+        CountAnswer::Limited(limited) => {
             modify::modify_block(n, rotate, accumulate, out);
-            Answer::Done
+            CountAnswer::Limited(limited)
         }
-        Answer::Refused(why) => Answer::Refused(why),
+        CountAnswer::Refused(why) => CountAnswer::Refused(why),
     }
 }
 
-// The residuals of a block with a list.
+// The residuals of a block with a list, and how many of its coefficients were limited.
 pub fn transform_skip_scaled_residual(
     levels: &[i32],
     n: usize,
@@ -53,11 +54,11 @@ pub fn transform_skip_scaled_residual(
     rotate: bool,
     accumulate: Accumulate,
     out: &mut [i32],
-) -> Answer
-    ensures { λ r. ⌜ Writes r (now (out .exit)) (skipResidual accumulate rotate (listed (now (list .entry)) dc) n («qp_prime» .0) «bit_depth» «extended_precision» (now (levels .entry)) (now (out .entry))) ⌝ }
+) -> CountAnswer
+    ensures { λ r. ⌜ CountWrites r (now (out .exit)) (skipResidual accumulate rotate (listed (now (list .entry)) dc) n («qp_prime» .0) «bit_depth» «extended_precision» (now (levels .entry)) (now (out .entry))) ⌝ }
 {
     if refuse::rotation_named(rotate, n, bit_depth) {
-        return Answer::Refused(Refusal::RotationSizeInvalid);
+        return CountAnswer::Refused(Refusal::RotationSizeInvalid);
     }
     let skipped = scaling_wide::dequantize_transform_skip_scaled_into_scalar_i32(
         levels,
@@ -70,10 +71,10 @@ pub fn transform_skip_scaled_residual(
         out,
     );
     match skipped {
-        Answer::Done => {
+        CountAnswer::Limited(limited) => {
             modify::modify_block(n, rotate, accumulate, out);
-            Answer::Done
+            CountAnswer::Limited(limited)
         }
-        Answer::Refused(why) => Answer::Refused(why),
+        CountAnswer::Refused(why) => CountAnswer::Refused(why),
     }
 }

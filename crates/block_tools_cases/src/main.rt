@@ -1,11 +1,12 @@
 // Replays the block tools from standard input. A case is a text, which is written as it is, and a byte that says which: 0 and 1 transform skip without a list and with
 // one, 2 the bypass. Then come the size, eight bytes, QP′, four, and a byte each for depth, flag, DC, rotation and way of accumulation; the list after its length; the number
 // of levels, and how they are made: 0 as they follow, else by `fill`, small or over 16 bits; and the output's length, all lengths of eight bytes. An output is lent with
-// 999 throughout. The text goes on with the answer, two running sums over the output, and the output where it is short. tests/block_tools_cases.py writes cases and text.
+// 999 throughout. The text goes on with the answer, for transform skip the count of limited coefficients, two running sums over the output, and the output where it is short. tests/block_tools_cases.py writes cases and text.
 use block_tools::Accumulate;
 use libc::STDIN_FILENO;
 use parameters::QpPrime;
 use refusal::Answer;
+use scaling_blocks::CountAnswer;
 
 struct Case {
     which: u8,
@@ -93,7 +94,21 @@ fn fill(levels: &mut [i32], wide: bool) {
     }
 }
 
-fn call(case: Case, list: &[u8], levels: &[i32], out: &mut [i32]) -> Answer {
+// The answer, and how many coefficients were limited.
+fn put_count(answer: CountAnswer) {
+    match answer {
+        CountAnswer::Limited(limited) => {
+            cases::put_answer(Answer::Done);
+            cases::put(limited as u64);
+        }
+        CountAnswer::Refused(why) => {
+            cases::put_refusal(why);
+            cases::put(0);
+        }
+    }
+}
+
+fn call(case: Case, list: &[u8], levels: &[i32], out: &mut [i32]) {
     let which = case.which;
     let n = case.n;
     let qp = QpPrime(case.qp);
@@ -102,8 +117,17 @@ fn call(case: Case, list: &[u8], levels: &[i32], out: &mut [i32]) -> Answer {
     let rotate = case.rotate;
     let way = way_of(case.way);
     match which {
-        0 => block_tools::transform_skip_residual(levels, n, qp, depth, extended, rotate, way, out),
-        1 => block_tools::transform_skip_scaled_residual(
+        0 => put_count(block_tools::transform_skip_residual(
+            levels,
+            n,
+            qp,
+            depth,
+            extended,
+            rotate,
+            way,
+            out,
+        )),
+        1 => put_count(block_tools::transform_skip_scaled_residual(
             levels,
             n,
             qp,
@@ -114,13 +138,21 @@ fn call(case: Case, list: &[u8], levels: &[i32], out: &mut [i32]) -> Answer {
             rotate,
             way,
             out,
-        ),
-        _ => block_tools::bypass_residual(levels, n, depth, extended, rotate, way, out),
+        )),
+        _ => cases::put_answer(block_tools::bypass_residual(
+            levels,
+            n,
+            depth,
+            extended,
+            rotate,
+            way,
+            out,
+        )),
     }
 }
 
 fn show(case: Case, list: &[u8], levels: &[i32], out: &mut [i32]) {
-    cases::put_answer(call(case, list, levels, out));
+    call(case, list, levels, out);
     put_sums(out);
     if out.len() < 100 {
         cases::put_wide(out);

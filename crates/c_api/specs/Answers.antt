@@ -1,19 +1,22 @@
 -- The records that C gets, as number, row, column, place and values: what the definitions of the wrapped functions speak of.
 --   ofAnswered        of a call that hands back no value
+--   ofCount           of a call that scales a block: how many coefficients were limited
+--   ofLevel           of a call that scales one level
 --   ofNumber          of a call that hands back one unsigned number
---   ofSigned          one signed number
---   ofQpPrime         the same, where it is QP′
+--   ofQpPrime         QP′
 --   ofBits            how many bits were read or written
 --   ofStored          the number under which a list was stored
 --   ofDequant         the numbers by which a block is scaled
 --   ofTransformSkip   the same with the shift of transform skip and its rounding
 use Prim.Native.Nat.{ℕ}
-use lib.IntN.{ℤ}
 use Rattle.refusal.specs.Outcome.{Outcome}
 use Rattle.parameters.specs.declared.QpPrime.{QpPrime}
 use Rattle.parameters.specs.declared.DequantParams.{DequantParams}
 use Rattle.parameters.specs.declared.TransformSkipParams.{TransformSkipParams}
+use Rattle.scaling_values.specs.declared.ScaledLevel.{ScaledLevel}
 use Rattle.c_api.specs.declared.Answered.{Answered}
+use Rattle.c_api.specs.declared.CountAnswered.{CountAnswered}
+use Rattle.c_api.specs.declared.LevelAnswered.{LevelAnswered}
 use Rattle.c_api.specs.declared.NumberAnswered.{NumberAnswered}
 use Rattle.c_api.specs.declared.SignedAnswered.{SignedAnswered}
 use Rattle.c_api.specs.declared.BitsAnswered.{BitsAnswered}
@@ -24,11 +27,21 @@ use Rattle.c_api.specs.declared.TransformSkipAnswered.{TransformSkipAnsw
 abbrev pub ofAnswered : Answered → Outcome (Unit {0})
 ofAnswered r = record { number = r .number; row = r .row; column = r .column; place = r .place; value = tt }
 
+abbrev pub ofCount : CountAnswered → Outcome ℕ
+ofCount r = record { number = r .number; row = r .row; column = r .column; place = r .place; value = r .limited }
+
+abbrev pub ofLevel : LevelAnswered → Outcome ScaledLevel
+ofLevel r =
+    record {
+      number = r .number;
+      row = r .row;
+      column = r .column;
+      place = r .place;
+      value = record { value = r .value; «level_limited» = r .«level_limited»; «result_limited» = r .«result_limited» };
+    }
+
 abbrev pub ofNumber : NumberAnswered → Outcome ℕ
 ofNumber r = record { number = r .number; row = r .row; column = r .column; place = r .place; value = r .value }
-
-abbrev pub ofSigned : SignedAnswered → Outcome ℤ
-ofSigned r = record { number = r .number; row = r .row; column = r .column; place = r .place; value = r .value }
 
 abbrev pub ofQpPrime : SignedAnswered → Outcome QpPrime
 ofQpPrime r = record { number = r .number; row = r .row; column = r .column; place = r .place; value = record { 0 = r .value } }

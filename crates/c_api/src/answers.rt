@@ -3,15 +3,18 @@ ghost use mathlib.Core.Path.{_≡_};
 ghost use Rattle.refusal.specs.Outcome.{answer as answerOutcome, refused as refusedWith};
 ghost use Rattle.parameters.specs.Answers.{numberOutcome, qpPrimeOutcome, dequantOutcome, transformSkipOutcome};
 ghost use Rattle.scaling.specs.Answers.{factorOutcome, levelOutcome};
+ghost use Rattle.scaling_blocks.specs.Blocks.{countOutcome};
 ghost use Rattle.picture.specs.Answers.{checksumOutcome};
 ghost use Rattle.rounding.specs.Bound.{boundOutcome};
 ghost use Rattle.scaling_lists.specs.Answers.{readOutcome};
 ghost use Rattle.scaling_lists_writer.specs.Answers.{writeOutcome};
 ghost use Rattle.list_table.specs.Answers.{storeOutcome, listOutcome};
-ghost use Rattle.c_api.specs.Answers.{ofAnswered, ofNumber, ofSigned, ofQpPrime, ofBits, ofStored, ofDequant, ofTransformSkip};
+ghost use Rattle.c_api.specs.Answers.{ofAnswered, ofCount, ofLevel, ofNumber, ofQpPrime, ofBits, ofStored, ofDequant, ofTransformSkip};
 use crate::Answered;
 use crate::BitsAnswered;
+use crate::CountAnswered;
 use crate::DequantAnswered;
+use crate::LevelAnswered;
 use crate::NumberAnswered;
 use crate::SignedAnswered;
 use crate::StoreAnswered;
@@ -28,6 +31,7 @@ use refusal::Refusal;
 use rounding::BoundAnswer;
 use scaling::FactorAnswer;
 use scaling::LevelAnswer;
+use scaling_blocks::CountAnswer;
 use scaling_lists::ReadAnswer;
 use scaling_lists_writer::WriteAnswer;
 
@@ -199,25 +203,53 @@ pub(crate) fn factor_answered(answer: FactorAnswer) -> NumberAnswered
     }
 }
 
-pub(crate) fn level_answered(answer: LevelAnswer) -> SignedAnswered
-    ensures { λ r. ⌜ ofSigned r ≡ levelOutcome answer ⌝ }
+pub(crate) fn level_answered(answer: LevelAnswer) -> LevelAnswered
+    ensures { λ r. ⌜ ofLevel r ≡ levelOutcome answer ⌝ }
 {
     match answer {
-        LevelAnswer::Level(scaled) => SignedAnswered {
+        LevelAnswer::Level(scaled) => LevelAnswered {
             number: 0,
             row: 0,
             column: 0,
+            level_limited: scaled.level_limited,
+            result_limited: scaled.result_limited,
             place: 0,
             value: scaled.value,
         },
         LevelAnswer::Refused(why) => {
             let no = refused(why);
-            SignedAnswered {
+            LevelAnswered {
                 number: no.number,
                 row: no.row,
                 column: no.column,
+                level_limited: false,
+                result_limited: false,
                 place: no.place,
                 value: 0,
+            }
+        }
+    }
+}
+
+pub(crate) fn count_answered(answer: CountAnswer) -> CountAnswered
+    ensures { λ r. ⌜ ofCount r ≡ countOutcome answer ⌝ }
+{
+    match answer {
+        CountAnswer::Limited(limited) => CountAnswered {
+            number: 0,
+            row: 0,
+            column: 0,
+            limited,
+            place: 0,
+        },
+        CountAnswer::Refused(why) => {
+            let no = refused(why);
+            CountAnswered {
+                number: no.number,
+                row: no.row,
+                column: no.column,
+                limited: 0,
+                place: no.place,
             }
         }
     }

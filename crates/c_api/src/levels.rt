@@ -4,11 +4,11 @@ ghost use Rattle.h265.specs.ScalingFactor.ScalingList.{flat, listed};
 ghost use Rattle.scaling_blocks.specs.Blocks.{bits16, bits32, dequantized, transformSkipped};
 ghost use Rattle.scaling.specs.Factor.{scalingCoeff};
 ghost use Rattle.scaling.specs.Level.{scaledLevel};
-ghost use Rattle.c_api.specs.Answers.{ofNumber, ofSigned};
-ghost use Rattle.c_api.specs.Blocks.{Writes};
-use crate::Answered;
+ghost use Rattle.c_api.specs.Answers.{ofNumber, ofLevel};
+ghost use Rattle.c_api.specs.Blocks.{CountWrites};
+use crate::CountAnswered;
+use crate::LevelAnswered;
 use crate::NumberAnswered;
-use crate::SignedAnswered;
 use crate::answers;
 use parameters::QpPrime;
 
@@ -25,7 +25,7 @@ pub extern "C" fn residual_scaling_coeff(
     answers::factor_answered(scaling::scaling_coeff(list, dc, n, index))
 }
 
-// One level of a block, scaled.
+// One level of a block, scaled: its coefficient, whether the level was limited, and whether the result was.
 #[no_mangle]
 pub extern "C" fn residual_scale_level(
     level: i32,
@@ -34,15 +34,15 @@ pub extern "C" fn residual_scale_level(
     qp_prime: i32,
     bit_depth: u8,
     extended_precision: bool,
-) -> SignedAnswered
-    ensures { λ r. ⌜ ofSigned r ≡ scaledLevel level m n «qp_prime» «bit_depth» «extended_precision» ⌝ }
+) -> LevelAnswered
+    ensures { λ r. ⌜ ofLevel r ≡ scaledLevel level m n «qp_prime» «bit_depth» «extended_precision» ⌝ }
 {
     let qp = QpPrime(qp_prime);
     let answer = scaling::scale_level(level, m, n, qp, bit_depth, extended_precision);
     answers::level_answered(answer)
 }
 
-// The coefficients of a block without a list, 32-bit.
+// The coefficients of a block without a list, 32-bit, and how many were limited.
 #[no_mangle]
 pub extern "C" fn residual_dequantize_into_scalar_i32(
     levels: &[i32],
@@ -51,8 +51,8 @@ pub extern "C" fn residual_dequantize_into_scalar_i32(
     bit_depth: u8,
     extended_precision: bool,
     out: &mut [i32],
-) -> Answered
-    ensures { λ r. ⌜ Writes r (now (out .exit)) (dequantized bits32 flat n «qp_prime» «bit_depth» «extended_precision» (now (levels .entry)) (now (out .entry))) ⌝ }
+) -> CountAnswered
+    ensures { λ r. ⌜ CountWrites r (now (out .exit)) (dequantized bits32 flat n «qp_prime» «bit_depth» «extended_precision» (now (levels .entry)) (now (out .entry))) ⌝ }
 {
     let answer = scaling_wide::dequantize_into_scalar_i32(
         levels,
@@ -62,10 +62,10 @@ pub extern "C" fn residual_dequantize_into_scalar_i32(
         extended_precision,
         out,
     );
-    answers::answered(answer)
+    answers::count_answered(answer)
 }
 
-// The coefficients of a block with a list, 32-bit.
+// The coefficients of a block with a list, 32-bit, and how many were limited.
 #[no_mangle]
 pub extern "C" fn residual_dequantize_scaled_into_scalar_i32(
     levels: &[i32],
@@ -76,8 +76,8 @@ pub extern "C" fn residual_dequantize_scaled_into_scalar_i32(
     list: &[u8],
     dc: u8,
     out: &mut [i32],
-) -> Answered
-    ensures { λ r. ⌜ Writes r (now (out .exit)) (dequantized bits32 (listed (now (list .entry)) dc) n «qp_prime» «bit_depth» «extended_precision» (now (levels .entry)) (now (out .entry))) ⌝ }
+) -> CountAnswered
+    ensures { λ r. ⌜ CountWrites r (now (out .exit)) (dequantized bits32 (listed (now (list .entry)) dc) n «qp_prime» «bit_depth» «extended_precision» (now (levels .entry)) (now (out .entry))) ⌝ }
 {
     let answer = scaling_wide::dequantize_scaled_into_scalar_i32(
         levels,
@@ -89,10 +89,10 @@ pub extern "C" fn residual_dequantize_scaled_into_scalar_i32(
         dc,
         out,
     );
-    answers::answered(answer)
+    answers::count_answered(answer)
 }
 
-// The residuals of a block without a list, 32-bit.
+// The residuals of a block without a list, 32-bit, and how many coefficients were limited.
 #[no_mangle]
 pub extern "C" fn residual_dequantize_transform_skip_into_scalar_i32(
     levels: &[i32],
@@ -101,8 +101,8 @@ pub extern "C" fn residual_dequantize_transform_skip_into_scalar_i32(
     bit_depth: u8,
     extended_precision: bool,
     out: &mut [i32],
-) -> Answered
-    ensures { λ r. ⌜ Writes r (now (out .exit)) (transformSkipped bits32 flat n «qp_prime» «bit_depth» «extended_precision» (now (levels .entry)) (now (out .entry))) ⌝ }
+) -> CountAnswered
+    ensures { λ r. ⌜ CountWrites r (now (out .exit)) (transformSkipped bits32 flat n «qp_prime» «bit_depth» «extended_precision» (now (levels .entry)) (now (out .entry))) ⌝ }
 {
     let answer = scaling_wide::dequantize_transform_skip_into_scalar_i32(
         levels,
@@ -112,10 +112,10 @@ pub extern "C" fn residual_dequantize_transform_skip_into_scalar_i32(
         extended_precision,
         out,
     );
-    answers::answered(answer)
+    answers::count_answered(answer)
 }
 
-// The residuals of a block with a list, 32-bit.
+// The residuals of a block with a list, 32-bit, and how many coefficients were limited.
 #[no_mangle]
 pub extern "C" fn residual_dequantize_transform_skip_scaled_into_scalar_i32(
     levels: &[i32],
@@ -126,8 +126,8 @@ pub extern "C" fn residual_dequantize_transform_skip_scaled_into_scalar_i32(
     list: &[u8],
     dc: u8,
     out: &mut [i32],
-) -> Answered
-    ensures { λ r. ⌜ Writes r (now (out .exit)) (transformSkipped bits32 (listed (now (list .entry)) dc) n «qp_prime» «bit_depth» «extended_precision» (now (levels .entry)) (now (out .entry))) ⌝ }
+) -> CountAnswered
+    ensures { λ r. ⌜ CountWrites r (now (out .exit)) (transformSkipped bits32 (listed (now (list .entry)) dc) n «qp_prime» «bit_depth» «extended_precision» (now (levels .entry)) (now (out .entry))) ⌝ }
 {
     let answer = scaling_wide::dequantize_transform_skip_scaled_into_scalar_i32(
         levels,
@@ -139,10 +139,10 @@ pub extern "C" fn residual_dequantize_transform_skip_scaled_into_scalar_i32(
         dc,
         out,
     );
-    answers::answered(answer)
+    answers::count_answered(answer)
 }
 
-// The coefficients of a block without a list, 16-bit.
+// The coefficients of a block without a list, 16-bit, and how many were limited.
 #[no_mangle]
 pub extern "C" fn residual_dequantize_into_scalar_i16(
     levels: &[i32],
@@ -151,8 +151,8 @@ pub extern "C" fn residual_dequantize_into_scalar_i16(
     bit_depth: u8,
     extended_precision: bool,
     out: &mut [i16],
-) -> Answered
-    ensures { λ r. ⌜ Writes r (now (out .exit)) (dequantized bits16 flat n «qp_prime» «bit_depth» «extended_precision» (now (levels .entry)) (now (out .entry))) ⌝ }
+) -> CountAnswered
+    ensures { λ r. ⌜ CountWrites r (now (out .exit)) (dequantized bits16 flat n «qp_prime» «bit_depth» «extended_precision» (now (levels .entry)) (now (out .entry))) ⌝ }
 {
     let answer = scaling_narrow::dequantize_into_scalar_i16(
         levels,
@@ -162,10 +162,10 @@ pub extern "C" fn residual_dequantize_into_scalar_i16(
         extended_precision,
         out,
     );
-    answers::answered(answer)
+    answers::count_answered(answer)
 }
 
-// The coefficients of a block with a list, 16-bit.
+// The coefficients of a block with a list, 16-bit, and how many were limited.
 #[no_mangle]
 pub extern "C" fn residual_dequantize_scaled_into_scalar_i16(
     levels: &[i32],
@@ -176,8 +176,8 @@ pub extern "C" fn residual_dequantize_scaled_into_scalar_i16(
     list: &[u8],
     dc: u8,
     out: &mut [i16],
-) -> Answered
-    ensures { λ r. ⌜ Writes r (now (out .exit)) (dequantized bits16 (listed (now (list .entry)) dc) n «qp_prime» «bit_depth» «extended_precision» (now (levels .entry)) (now (out .entry))) ⌝ }
+) -> CountAnswered
+    ensures { λ r. ⌜ CountWrites r (now (out .exit)) (dequantized bits16 (listed (now (list .entry)) dc) n «qp_prime» «bit_depth» «extended_precision» (now (levels .entry)) (now (out .entry))) ⌝ }
 {
     let answer = scaling_narrow::dequantize_scaled_into_scalar_i16(
         levels,
@@ -189,10 +189,10 @@ pub extern "C" fn residual_dequantize_scaled_into_scalar_i16(
         dc,
         out,
     );
-    answers::answered(answer)
+    answers::count_answered(answer)
 }
 
-// The residuals of a block without a list, 16-bit.
+// The residuals of a block without a list, 16-bit, and how many coefficients were limited.
 #[no_mangle]
 pub extern "C" fn residual_dequantize_transform_skip_into_scalar_i16(
     levels: &[i32],
@@ -201,8 +201,8 @@ pub extern "C" fn residual_dequantize_transform_skip_into_scalar_i16(
     bit_depth: u8,
     extended_precision: bool,
     out: &mut [i16],
-) -> Answered
-    ensures { λ r. ⌜ Writes r (now (out .exit)) (transformSkipped bits16 flat n «qp_prime» «bit_depth» «extended_precision» (now (levels .entry)) (now (out .entry))) ⌝ }
+) -> CountAnswered
+    ensures { λ r. ⌜ CountWrites r (now (out .exit)) (transformSkipped bits16 flat n «qp_prime» «bit_depth» «extended_precision» (now (levels .entry)) (now (out .entry))) ⌝ }
 {
     let answer = scaling_narrow::dequantize_transform_skip_into_scalar_i16(
         levels,
@@ -212,10 +212,10 @@ pub extern "C" fn residual_dequantize_transform_skip_into_scalar_i16(
         extended_precision,
         out,
     );
-    answers::answered(answer)
+    answers::count_answered(answer)
 }
 
-// The residuals of a block with a list, 16-bit.
+// The residuals of a block with a list, 16-bit, and how many coefficients were limited.
 #[no_mangle]
 pub extern "C" fn residual_dequantize_transform_skip_scaled_into_scalar_i16(
     levels: &[i32],
@@ -226,8 +226,8 @@ pub extern "C" fn residual_dequantize_transform_skip_scaled_into_scalar_i16(
     list: &[u8],
     dc: u8,
     out: &mut [i16],
-) -> Answered
-    ensures { λ r. ⌜ Writes r (now (out .exit)) (transformSkipped bits16 (listed (now (list .entry)) dc) n «qp_prime» «bit_depth» «extended_precision» (now (levels .entry)) (now (out .entry))) ⌝ }
+) -> CountAnswered
+    ensures { λ r. ⌜ CountWrites r (now (out .exit)) (transformSkipped bits16 (listed (now (list .entry)) dc) n «qp_prime» «bit_depth» «extended_precision» (now (levels .entry)) (now (out .entry))) ⌝ }
 {
     let answer = scaling_narrow::dequantize_transform_skip_scaled_into_scalar_i16(
         levels,
@@ -239,5 +239,5 @@ pub extern "C" fn residual_dequantize_transform_skip_scaled_into_scalar_i16(
         dc,
         out,
     );
-    answers::answered(answer)
+    answers::count_answered(answer)
 }

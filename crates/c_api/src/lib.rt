@@ -62,6 +62,28 @@ pub struct Answered {
     pub place: usize,
 }
 
+// How many coefficients of a block were limited.
+#[repr(C)]
+pub struct CountAnswered {
+    pub number: u32,
+    pub row: u8,
+    pub column: u8,
+    pub limited: u16,
+    pub place: usize,
+}
+
+// The coefficient of a level, whether the level was limited, and whether after that the result was.
+#[repr(C)]
+pub struct LevelAnswered {
+    pub number: u32,
+    pub row: u8,
+    pub column: u8,
+    pub level_limited: bool,
+    pub result_limited: bool,
+    pub place: usize,
+    pub value: i32,
+}
+
 #[repr(C)]
 pub struct NumberAnswered {
     pub number: u32,

@@ -4,9 +4,10 @@ ghost use Rattle.list_places.specs.Table.{streamOf, short};
 ghost use Rattle.list_blocks.specs.Scale.{block, scaleAnswer};
 ghost use Rattle.list_blocks.specs.Scale.Work.{coefficients, residuals};
 ghost use Rattle.list_table.specs.Calls.{findAnswer};
-ghost use Rattle.c_api.specs.Blocks.{Writes};
+ghost use Rattle.c_api.specs.Blocks.{CountWrites};
 ghost use Rattle.c_api.specs.Tables.{Stores, Drops, Finds};
 use crate::Answered;
+use crate::CountAnswered;
 use crate::NumberAnswered;
 use crate::StoreAnswered;
 use crate::answers;
@@ -58,8 +59,8 @@ pub extern "C" fn residual_dequantize_by_number_i32(
     bit_depth: u8,
     extended_precision: bool,
     out: &mut [i32],
-) -> Answered
-    ensures { λ r. ⌜ Writes r (now (out .exit)) (scaleAnswer (short (now (table .entry))) stream (streamOf (now (table .entry)) stream) number (block coefficients bits32 n «qp_prime» «bit_depth» «extended_precision» (now (levels .entry))) (now (out .entry))) ⌝ }
+) -> CountAnswered
+    ensures { λ r. ⌜ CountWrites r (now (out .exit)) (scaleAnswer (short (now (table .entry))) stream (streamOf (now (table .entry)) stream) number (block coefficients bits32 n «qp_prime» «bit_depth» «extended_precision» (now (levels .entry))) (now (out .entry))) ⌝ }
 {
     let answer = list_blocks::dequantize_by_number_i32(
         table,
@@ -72,7 +73,7 @@ pub extern "C" fn residual_dequantize_by_number_i32(
         extended_precision,
         out,
     );
-    answers::answered(answer)
+    answers::count_answered(answer)
 }
 
 // The coefficients of a block with the list of a number, 16-bit.
@@ -87,8 +88,8 @@ pub extern "C" fn residual_dequantize_by_number_i16(
     bit_depth: u8,
     extended_precision: bool,
     out: &mut [i16],
-) -> Answered
-    ensures { λ r. ⌜ Writes r (now (out .exit)) (scaleAnswer (short (now (table .entry))) stream (streamOf (now (table .entry)) stream) number (block coefficients bits16 n «qp_prime» «bit_depth» «extended_precision» (now (levels .entry))) (now (out .entry))) ⌝ }
+) -> CountAnswered
+    ensures { λ r. ⌜ CountWrites r (now (out .exit)) (scaleAnswer (short (now (table .entry))) stream (streamOf (now (table .entry)) stream) number (block coefficients bits16 n «qp_prime» «bit_depth» «extended_precision» (now (levels .entry))) (now (out .entry))) ⌝ }
 {
     let answer = list_blocks::dequantize_by_number_i16(
         table,
@@ -101,7 +102,7 @@ pub extern "C" fn residual_dequantize_by_number_i16(
         extended_precision,
         out,
     );
-    answers::answered(answer)
+    answers::count_answered(answer)
 }
 
 // The residuals of a block with the list of a number, 32-bit.
@@ -116,8 +117,8 @@ pub extern "C" fn residual_dequantize_transform_skip_by_number_i32(
     bit_depth: u8,
     extended_precision: bool,
     out: &mut [i32],
-) -> Answered
-    ensures { λ r. ⌜ Writes r (now (out .exit)) (scaleAnswer (short (now (table .entry))) stream (streamOf (now (table .entry)) stream) number (block residuals bits32 n «qp_prime» «bit_depth» «extended_precision» (now (levels .entry))) (now (out .entry))) ⌝ }
+) -> CountAnswered
+    ensures { λ r. ⌜ CountWrites r (now (out .exit)) (scaleAnswer (short (now (table .entry))) stream (streamOf (now (table .entry)) stream) number (block residuals bits32 n «qp_prime» «bit_depth» «extended_precision» (now (levels .entry))) (now (out .entry))) ⌝ }
 {
     let answer = list_blocks::dequantize_transform_skip_by_number_i32(
         table,
@@ -130,7 +131,7 @@ pub extern "C" fn residual_dequantize_transform_skip_by_number_i32(
         extended_precision,
         out,
     );
-    answers::answered(answer)
+    answers::count_answered(answer)
 }
 
 // The residuals of a block with the list of a number, 16-bit.
@@ -145,8 +146,8 @@ pub extern "C" fn residual_dequantize_transform_skip_by_number_i16(
     bit_depth: u8,
     extended_precision: bool,
     out: &mut [i16],
-) -> Answered
-    ensures { λ r. ⌜ Writes r (now (out .exit)) (scaleAnswer (short (now (table .entry))) stream (streamOf (now (table .entry)) stream) number (block residuals bits16 n «qp_prime» «bit_depth» «extended_precision» (now (levels .entry))) (now (out .entry))) ⌝ }
+) -> CountAnswered
+    ensures { λ r. ⌜ CountWrites r (now (out .exit)) (scaleAnswer (short (now (table .entry))) stream (streamOf (now (table .entry)) stream) number (block residuals bits16 n «qp_prime» «bit_depth» «extended_precision» (now (levels .entry))) (now (out .entry))) ⌝ }
 {
     let answer = list_blocks::dequantize_transform_skip_by_number_i16(
         table,
@@ -159,5 +160,5 @@ pub extern "C" fn residual_dequantize_transform_skip_by_number_i16(
         extended_precision,
         out,
     );
-    answers::answered(answer)
+    answers::count_answered(answer)
 }

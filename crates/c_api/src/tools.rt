@@ -3,9 +3,10 @@ ghost use mathlib.Core.Path.{_≡_};
 ghost use Rattle.h265.specs.ScalingFactor.ScalingList.{flat, listed};
 ghost use Rattle.block_tools.specs.Residual.{skipResidual, bypassResidual};
 ghost use Rattle.level_search.specs.Found.{levelsFound};
-ghost use Rattle.c_api.specs.Blocks.{Writes};
+ghost use Rattle.c_api.specs.Blocks.{Writes, CountWrites};
 ghost use Rattle.c_api.specs.Tools.{accumulateOf};
 use crate::Answered;
+use crate::CountAnswered;
 use crate::answers;
 use block_tools::Accumulate;
 use parameters::QpPrime;
@@ -31,8 +32,8 @@ pub extern "C" fn residual_transform_skip_residual(
     rotate: bool,
     accumulate: u8,
     out: &mut [i32],
-) -> Answered
-    ensures { λ r. ⌜ Writes r (now (out .exit)) (skipResidual (accumulateOf accumulate) rotate flat n «qp_prime» «bit_depth» «extended_precision» (now (levels .entry)) (now (out .entry))) ⌝ }
+) -> CountAnswered
+    ensures { λ r. ⌜ CountWrites r (now (out .exit)) (skipResidual (accumulateOf accumulate) rotate flat n «qp_prime» «bit_depth» «extended_precision» (now (levels .entry)) (now (out .entry))) ⌝ }
 {
     let answer = block_tools::transform_skip_residual(
         levels,
@@ -44,7 +45,7 @@ pub extern "C" fn residual_transform_skip_residual(
         accumulate_of(accumulate),
         out,
     );
-    answers::answered(answer)
+    answers::count_answered(answer)
 }
 
 // The same with a list.
@@ -60,8 +61,8 @@ pub extern "C" fn residual_transform_skip_scaled_residual(
     rotate: bool,
     accumulate: u8,
     out: &mut [i32],
-) -> Answered
-    ensures { λ r. ⌜ Writes r (now (out .exit)) (skipResidual (accumulateOf accumulate) rotate (listed (now (list .entry)) dc) n «qp_prime» «bit_depth» «extended_precision» (now (levels .entry)) (now (out .entry))) ⌝ }
+) -> CountAnswered
+    ensures { λ r. ⌜ CountWrites r (now (out .exit)) (skipResidual (accumulateOf accumulate) rotate (listed (now (list .entry)) dc) n «qp_prime» «bit_depth» «extended_precision» (now (levels .entry)) (now (out .entry))) ⌝ }
 {
     let answer = block_tools::transform_skip_scaled_residual(
         levels,
@@ -75,7 +76,7 @@ pub extern "C" fn residual_transform_skip_scaled_residual(
         accumulate_of(accumulate),
         out,
     );
-    answers::answered(answer)
+    answers::count_answered(answer)
 }
 
 // Levels that are the residual, rotated and accumulated.

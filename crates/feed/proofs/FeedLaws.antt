@@ -1,5 +1,5 @@
 -- The feed as a walk over its records.
---   feedWalk                    what a record of the feed does, the last line, and three bytes of text for a byte
+--   feedWalk                    what a record of the feed does, the last line, and four bytes of text for a byte
 --   Answered                    the answer to a record is that of its effect
 --   feed-refused, feed-passed   after a record, by the number of its answer
 use mathlib.Core.Path.{_≡_, sym, ap, _∙_}
@@ -17,7 +17,7 @@ use Rattle.feed_records.proofs.EffectLaws.{effect-moved}
 use Rattle.feed.proofs.WalkLaws.{Walk, walkText, Going, effectAt, Turn, Passed, passed, going-refused}
 
 abbrev pub feedWalk : Walk
-feedWalk = record { effect = recordEffect; last = λ (s : FeedState). blocksText (s .blocks); rate = 3; moves = effect-moved }
+feedWalk = record { effect = recordEffect; last = λ (s : FeedState). blocksText (s .blocks); rate = 4; moves = effect-moved }
 
 pub record Answered (a : Answer) (o : Outcome Effect) : Type 0 where
   pub is : answer a ≡ answerOf o

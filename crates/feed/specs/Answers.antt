@@ -35,7 +35,7 @@ stepAnswer (Refused e) = enough (refused tt e)
 stepAnswer StepNoRoom = tooLittle
 
 abbrev pub feedRoom : ℕ → ℕ
-feedRoom len = 3 * len + 40
+feedRoom len = 4 * len + 40
 
 pub record Stepping : Type 0 where
   pub answer : Room (Outcome (Unit {0}))

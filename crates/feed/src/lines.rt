@@ -1,24 +1,13 @@
-// The two lines that are not rows.
+// The two lines that stand behind a feed's blocks.
 ghost use mathlib.Core.Path.{_≡_};
-ghost use mathlib.Core.List.{[], _∷_, _++_};
 ghost use Prim.Native.Nat.{_+_, _≤_};
 ghost use lib.ListN.{length};
 ghost use Rattle.refusal.specs.Refusal.{number};
-ghost use Rattle.text.specs.Text.{lineEnd, unsignedText, WroteUpTo};
+ghost use Rattle.text.specs.Text.{WroteUpTo};
 ghost use Rattle.feed.specs.Feed.{refusedText, blocksText};
 ghost use Rattle.feed.specs.Answers.{Lines};
 use crate::Line;
 use refusal::Refusal;
-
-// A number that ends a line.
-fn put_last(n: u64, out: &mut [u8], at: usize) -> usize
-    requires { ⌜ at + 21 ≤ length (now out) ⌝ }
-    ensures { λ r. ⌜ WroteUpTo (now (out .entry)) at (unsignedText n ++ (lineEnd ∷ [])) (now (out .exit)) r (at + 21) ⌝ }
-{
-    let end = text::put_unsigned(n, out, at);
-    out[end] = b'\n';
-    end + 1
-}
 
 // The line of a refusal.
 pub(crate) fn put_refused(number: u8, offset: u64, out: &mut [u8], at: usize) -> usize
@@ -28,7 +17,7 @@ pub(crate) fn put_refused(number: u8, offset: u64, out: &mut [u8], at: usize) ->
     let word = text::put_bytes(b"refused ", out, at);
     let end = text::put_unsigned(number as u64, out, word);
     out[end] = b' ';
-    put_last(offset, out, end + 1)
+    feed_records::put_last(offset, out, end + 1)
 }
 
 // The last line.
@@ -37,7 +26,7 @@ pub(crate) fn put_blocks(blocks: u64, out: &mut [u8], at: usize) -> usize
     ensures { λ r. ⌜ WroteUpTo (now (out .entry)) at (blocksText blocks) (now (out .exit)) r (at + 40) ⌝ }
 {
     let word = text::put_bytes(b"blocks ", out, at);
-    put_last(blocks, out, word)
+    feed_records::put_last(blocks, out, word)
 }
 
 // The line of a refusal, with the byte offset of the refused record's kind, which the state after it holds.

@@ -30,13 +30,13 @@ pub fn start() -> State
     }
 }
 
-// One record: its kind, and as much of its body as there is. Its text goes to the start of `out`, which must have three bytes for
+// One record: its kind, and as much of its body as there is. Its text goes to the start of `out`, which must have four bytes for
 // each byte of the body; else `NoRoom` is answered before anything else, and state and buffer are as given. A refused record too
 // leaves both as given, so the state's offset is then that of its kind.
 pub fn step(state: State, kind: u8, body: &[u8], out: &mut [u8]) -> Stepped
     ensures { λ r. ⌜ Steps r (now (out .entry)) (now (out .exit)) (stepping (stateOf state) kind (now (body .entry)) (length (now (out .entry)))) ⌝ }
 {
-    if out.len() / 3 < body.len() {
+    if out.len() / 4 < body.len() {
         return Stepped {
             answer: StepAnswer::NoRoom,
             state,
@@ -103,15 +103,15 @@ fn run_within(input: &[u8], out: &mut [u8]) -> usize
     lines::put_blocks(blocks, out, end)
 }
 
-// The text of a whole feed at the start of `out`: the rows of its blocks, then the line of a refusal or the number of blocks. With
-// fewer than three bytes for each byte of the input and 40 more, `NoRoom` is answered and the buffer is as lent.
+// The text of a whole feed at the start of `out`: the rows of its blocks, each with the count of its limited coefficients, then the line of a
+// refusal or the number of blocks. With fewer than four bytes for each byte of the input and 40 more, `NoRoom` is answered and the buffer is as lent.
 pub fn run(input: &[u8], out: &mut [u8]) -> Ran
     ensures { λ r. ⌜ Runs r (now (out .entry)) (now (out .exit)) (now (input .entry)) ⌝ }
 {
     if out.len() < 40 {
         return Ran::NoRoom;
     }
-    if (out.len() - 40) / 3 < input.len() {
+    if (out.len() - 40) / 4 < input.len() {
         return Ran::NoRoom;
     }
     Ran::Text(run_within(input, out))

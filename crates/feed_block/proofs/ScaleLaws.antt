@@ -1,6 +1,6 @@
 -- What the crate `scaling` does where nothing is refused, and what its coefficients are good for.
 --   list-used                      the list by which a block is scaled, by the test of the code
---   dequantized-out, skipped-out   the output of scaling and of transform skip
+--   dequantized-out, skipped-out   the output of scaling and of transform skip, and the count
 --   size-ok, block-ok              a size and a buffer that no row refuses
 --   coefficients-in-range          every coefficient lies in its range
 use mathlib.Core.Path.{_≡_, refl, sym, ap, _∙_, subst}
@@ -21,13 +21,16 @@ use Rattle.h265.specs.ScalingFactor.{ScalingList, scalingFactor}
 use Rattle.h265.specs.ScalingFactor.ScalingList.{flat}
 use Rattle.h265.specs.Scaling.{scaleLevel, scaledAt, scaledValue, bdShift}
 use Rattle.h265.specs.TransformSkip.{skippedAt}
+use Rattle.h265.specs.Limited.{limitedCount}
 use Rattle.h265.proofs.RangeLaws.{clipCoeff-between}
-use Rattle.refusal.specs.declared.Answer.{Answer}
+use Rattle.refusal.specs.Outcome.{Outcome}
 use Rattle.refusal.specs.Condition.{sizeRefused, depthRefused, listRefused, blockRefused}
-use Rattle.scaling_blocks.specs.Blocks.{bits32, entriesOf, blockLadder, blockWritten, dequantized, transformSkipped, Writes}
+use Rattle.scaling_blocks.specs.Blocks.{bits32, entriesOf, blockLadder, blockWritten, dequantized, transformSkipped, countOutcome, CountWritten, CountWrites, counted}
+use Rattle.scaling_blocks.specs.declared.CountAnswer.{CountAnswer}
 use Rattle.feed_block.specs.declared.Mode.{Mode}
 use Rattle.feed_block.specs.declared.Parameters.{Parameters}
 use Rattle.feed_block.specs.Block.{listIgnored, listFor, coefficients, listIn}
+use Rattle.feed_block.specs.Work.{Leaves}
 
 pub list-used : {t : Bool} (mode : Mode) (n : ℕ) (x : Bool) (entries : List ℕ) (d : ℕ) → t ≡ not (listIgnored mode n) && x
     → listFor mode n (listIn x entries d) ≡ listIn t entries d
@@ -58,17 +61,24 @@ block-ok n len h = le-ltb len (n * n) h
 module _ (list : ScalingList) (n : ℕ) (q : ℤ) (b : ℕ) (x : Bool) (levels out : List ℤ)
     (size : T (isSize n)) (depth : depthRefused b ≡ false) (entries : entriesOf list ≡ 64)
     (input : n * n ≤ length levels) (output : n * n ≤ length out) where
-  pub dequantized-out : {r : Answer} {after : List ℤ} → Writes r after (dequantized bits32 list n q b x levels out)
-      → after ≡ overwrite (n * n) (scaledAt list n b x q levels) out
-  unfolding dequantized blockWritten blockLadder
-  dequantized-out w =
-      w .out ∙ simp (size-ok n size, depth, list-ok (entriesOf list) entries, block-ok n (length levels) input, block-ok n (length out) output)
+  done : (at : ℕ → ℤ) → blockWritten bits32 list n q b x levels out at ≡ counted (limitedCount list n b x q levels) (overwrite (n * n) at out)
+  unfolding blockWritten blockLadder
+  done at = simp (size-ok n size, depth, list-ok (entriesOf list) entries, block-ok n (length levels) input, block-ok n (length out) output)
 
-  pub skipped-out : {r : Answer} {after : List ℤ} → Writes r after (transformSkipped bits32 list n q b x levels out)
-      → after ≡ overwrite (n * n) (skippedAt list n b x q levels) out
-  unfolding transformSkipped blockWritten blockLadder
-  skipped-out w =
-      w .out ∙ simp (size-ok n size, depth, list-ok (entriesOf list) entries, block-ok n (length levels) input, block-ok n (length out) output)
+  leaves : {r : CountAnswer} {after : List ℤ} {m : ℕ} (at : ℕ → ℤ) → CountWrites r after (blockWritten bits32 list n q b x levels out at) → m ≡ countOutcome r .value
+      → Leaves (limitedCount list n b x q levels) at (n * n) out after m
+  leaves at w e =
+      record { out = w .out ∙ ap (λ (c : CountWritten). c .out) (done at); limited = e ∙ ap (λ (o : Outcome ℕ). o .value) (w .answered ∙ ap (λ (c : CountWritten). c .answer) (done at)) }
+
+  pub dequantized-out : {r : CountAnswer} {after : List ℤ} {m : ℕ} → CountWrites r after (dequantized bits32 list n q b x levels out) → m ≡ countOutcome r .value
+      → Leaves (limitedCount list n b x q levels) (scaledAt list n b x q levels) (n * n) out after m
+  unfolding dequantized
+  dequantized-out w e = leaves (scaledAt list n b x q levels) w e
+
+  pub skipped-out : {r : CountAnswer} {after : List ℤ} {m : ℕ} → CountWrites r after (transformSkipped bits32 list n q b x levels out) → m ≡ countOutcome r .value
+      → Leaves (limitedCount list n b x q levels) (skippedAt list n b x q levels) (n * n) out after m
+  unfolding transformSkipped
+  skipped-out w e = leaves (skippedAt list n b x q levels) w e
 
 -- ---- the range
 pub coefficients-length : (list : ScalingList) (p : Parameters) (n : ℕ) (levels : List ℤ) → length (coefficients list p n levels) ≡ n * n

@@ -9,6 +9,7 @@
 --   residualBy mode list p n   the residual at an index, of levels by the mode: 0 DCT, 1 DST, 2 transform skip
 --   residualAt list p n        the same where `list` is in force
 --   blockResidual list p n     the whole block
+--   blockLimited list p n      how many of its coefficients were limited. Document 02, R-6
 use mathlib.Core.Bool.{Bool, true, false, not, cond}
 use mathlib.Core.List.{List}
 use Prim.Native.Nat.{ℕ, _*_}
@@ -20,6 +21,7 @@ use Rattle.h265.specs.ScalingFactor.{ScalingList}
 use Rattle.h265.specs.ScalingFactor.ScalingList.{flat, listed}
 use Rattle.h265.specs.Scaling.{scaledAt}
 use Rattle.h265.specs.TransformSkip.{skippedAt}
+use Rattle.h265.specs.Limited.{limitedCount}
 use Rattle.h265.specs.Matrix.{transMatrix, dstMatrix}
 use Rattle.h265.specs.Transform.{residual, rowOrder}
 use Rattle.feed_block.specs.declared.Mode.{Mode}
@@ -65,3 +67,7 @@ residualAt list p n levels = residualBy (p .mode) (listFor (p .mode) n list) p n
 
 unfoldable pub blockResidual : ScalingList → Parameters → ℕ → List ℤ → List ℤ
 blockResidual list p n levels = tabulate (n * n) (residualAt list p n levels)
+
+unfoldable pub blockLimited : ScalingList → Parameters → ℕ → List ℤ → ℕ
+blockLimited list p n levels =
+    limitedCount (listFor (p .mode) n list) n (p .«bit_depth») (p .«extended_precision») (pos (p .«qp_prime»)) levels

@@ -4,6 +4,7 @@
 --   Accepted p n               the parameters are within their rows, and the size is one of theirs
 --   matrixOf mode n            the matrix of a mode that transforms; transform skip asks for none
 --   Transformable mode b x n d coefficients that no transform refuses: enough of them, each within its range
+--   Leaves m f k xs ys r       ys is xs with its first k elements replaced by f, and r is m
 use mathlib.Core.Path.{_≡_}
 use mathlib.Core.Bool.{Bool, true, false}
 use mathlib.Core.List.{List}
@@ -11,6 +12,7 @@ use Prim.Native.Nat.{ℕ, _*_, _≤_, _<_}
 use lib.Dec.{T}
 use lib.IntN.{ℤ, pos}
 use lib.ListN.{length, getD}
+use Rattle.integers.specs.Lists.{overwrite}
 use Rattle.h265.specs.Range.{isSize, transformRange, outsideRange}
 use Rattle.h265.specs.Matrix.{transMatrix, dstMatrix}
 use Rattle.refusal.specs.Condition.{depthRefused}
@@ -49,3 +51,7 @@ pub record Transformable (mode : Mode) (b : ℕ) (x : Bool) (n : ℕ) (d : List 
   pub dst : dstRefused mode n ≡ false
   pub whole : n * n ≤ length d
   pub inRange : (i : ℕ) → i < n * n → outsideRange (transformRange b x) (getD d i (pos 0)) ≡ false
+
+pub record Leaves (m : ℕ) (f : ℕ → ℤ) (k : ℕ) (xs ys : List ℤ) (r : ℕ) : Type 0 where
+  pub out : ys ≡ overwrite k f xs
+  pub limited : r ≡ m

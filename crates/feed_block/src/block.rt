@@ -8,14 +8,17 @@ ghost use Rattle.integers.specs.Lists.{overwrite};
 ghost use Rattle.h265.specs.Matrix.{transMatrix, dstMatrix};
 ghost use Rattle.h265.specs.Scaling.{scaledAt};
 ghost use Rattle.h265.specs.TransformSkip.{skippedAt};
+ghost use Rattle.h265.specs.Limited.{limitedCount};
+ghost use Rattle.scaling_blocks.specs.Blocks.{countOutcome};
 ghost use Rattle.feed_block.specs.Format.{levelsOf};
-ghost use Rattle.feed_block.specs.Block.{listIgnored, listFor, coefficients, transformedAt, residualAt, listIn};
-ghost use Rattle.feed_block.specs.Work.{Accepted, matrixOf, Transformable};
+ghost use Rattle.feed_block.specs.Block.{listIgnored, listFor, coefficients, transformedAt, residualAt, blockLimited, listIn};
+ghost use Rattle.feed_block.specs.Work.{Accepted, matrixOf, Transformable, Leaves};
 use crate::Mode;
 use crate::Parameters;
 use crate::State;
 use crate::values;
 use parameters::QpPrime;
+use scaling_blocks::CountAnswer;
 
 fn signed(byte: u8) -> i32
     ensures { λ r. ⌜ r ≡ pos byte ⌝ }
@@ -44,17 +47,27 @@ fn uses_list(listed: bool, mode: Mode, n: usize) -> bool
     listed
 }
 
-// The coefficients of a block.
-fn scale(s: State, p: Parameters, n: usize, levels: &[i32], out: &mut [i32])
+// How many coefficients an answer says were limited; a refusal, which no block of a feed meets, says none.
+fn limited_of(answer: CountAnswer) -> u16
+    ensures { λ r. ⌜ r ≡ countOutcome answer .value ⌝ }
+{
+    match answer {
+        CountAnswer::Limited(limited) => limited,
+        CountAnswer::Refused(_) => 0,
+    }
+}
+
+// The coefficients of a block, and how many were limited.
+fn scale(s: State, p: Parameters, n: usize, levels: &[i32], out: &mut [i32]) -> u16
     requires { ⌜ Accepted p n ⌝ }
     requires { ⌜ n * n ≤ length (now levels) ⌝ }
     requires { ⌜ n * n ≤ length (now out) ⌝ }
-    ensures { λ r. ⌜ now (out .exit) ≡ overwrite (n * n) (scaledAt (listIn (s .listed) (s .entries) (s .dc)) n (p .«bit_depth») (p .«extended_precision») (pos (p .«qp_prime»)) (now (levels .entry))) (now (out .entry)) ⌝ }
+    ensures { λ r. ⌜ Leaves (limitedCount (listIn (s .listed) (s .entries) (s .dc)) n (p .«bit_depth») (p .«extended_precision») (pos (p .«qp_prime»)) (now (levels .entry))) (scaledAt (listIn (s .listed) (s .entries) (s .dc)) n (p .«bit_depth») (p .«extended_precision») (pos (p .«qp_prime»)) (now (levels .entry))) (n * n) (now (out .entry)) (now (out .exit)) r ⌝ }
 {
     let qp_prime = QpPrime(signed(p.qp_prime));
     let entries = s.entries;
     if s.listed {
-        scaling_wide::dequantize_scaled_into_scalar_i32(
+        let answer = scaling_wide::dequantize_scaled_into_scalar_i32(
             levels,
             n,
             qp_prime,
@@ -64,9 +77,9 @@ fn scale(s: State, p: Parameters, n: usize, levels: &[i32], out: &mut [i32])
             s.dc,
             out,
         );
-        return;
+        return limited_of(answer);
     }
-    scaling_wide::dequantize_into_scalar_i32(
+    let answer = scaling_wide::dequantize_into_scalar_i32(
         levels,
         n,
         qp_prime,
@@ -74,19 +87,20 @@ fn scale(s: State, p: Parameters, n: usize, levels: &[i32], out: &mut [i32])
         p.extended_precision,
         out,
     );
+    limited_of(answer)
 }
 
-// The residual of a block by transform skip.
-fn skip(s: State, p: Parameters, n: usize, levels: &[i32], out: &mut [i32])
+// The residual of a block by transform skip, and how many coefficients were limited.
+fn skip(s: State, p: Parameters, n: usize, levels: &[i32], out: &mut [i32]) -> u16
     requires { ⌜ Accepted p n ⌝ }
     requires { ⌜ n * n ≤ length (now levels) ⌝ }
     requires { ⌜ n * n ≤ length (now out) ⌝ }
-    ensures { λ r. ⌜ now (out .exit) ≡ overwrite (n * n) (skippedAt (listFor Mode.Skip n (listIn (s .listed) (s .entries) (s .dc))) n (p .«bit_depth») (p .«extended_precision») (pos (p .«qp_prime»)) (now (levels .entry))) (now (out .entry)) ⌝ }
+    ensures { λ r. ⌜ Leaves (limitedCount (listFor Mode.Skip n (listIn (s .listed) (s .entries) (s .dc))) n (p .«bit_depth») (p .«extended_precision») (pos (p .«qp_prime»)) (now (levels .entry))) (skippedAt (listFor Mode.Skip n (listIn (s .listed) (s .entries) (s .dc))) n (p .«bit_depth») (p .«extended_precision») (pos (p .«qp_prime»)) (now (levels .entry))) (n * n) (now (out .entry)) (now (out .exit)) r ⌝ }
 {
     let qp_prime = QpPrime(signed(p.qp_prime));
     let entries = s.entries;
     if uses_list(s.listed, Mode::Skip, n) {
-        scaling_wide::dequantize_transform_skip_scaled_into_scalar_i32(
+        let answer = scaling_wide::dequantize_transform_skip_scaled_into_scalar_i32(
             levels,
             n,
             qp_prime,
@@ -96,9 +110,9 @@ fn skip(s: State, p: Parameters, n: usize, levels: &[i32], out: &mut [i32])
             s.dc,
             out,
         );
-        return;
+        return limited_of(answer);
     }
-    scaling_wide::dequantize_transform_skip_into_scalar_i32(
+    let answer = scaling_wide::dequantize_transform_skip_into_scalar_i32(
         levels,
         n,
         qp_prime,
@@ -106,6 +120,7 @@ fn skip(s: State, p: Parameters, n: usize, levels: &[i32], out: &mut [i32])
         p.extended_precision,
         out,
     );
+    limited_of(answer)
 }
 
 // The DCT of coefficients, with every column read.
@@ -154,15 +169,15 @@ fn transformed(
     }
 }
 
-// The residual of a block by a transform.
-fn transform_levels(s: State, p: Parameters, n: usize, levels: &[i32], out: &mut [i32])
+// The residual of a block by a transform, and how many coefficients were limited.
+fn transform_levels(s: State, p: Parameters, n: usize, levels: &[i32], out: &mut [i32]) -> u16
     requires { ⌜ Accepted p n ⌝ }
     requires { ⌜ n * n ≤ length (now levels) ⌝ }
     requires { ⌜ n * n ≤ length (now out) ⌝ }
-    ensures { λ r. ⌜ now (out .exit) ≡ overwrite (n * n) (transformedAt (matrixOf (p .mode) n) (p .«bit_depth») (p .«extended_precision») n (coefficients (listIn (s .listed) (s .entries) (s .dc)) p n (now (levels .entry)))) (now (out .entry)) ⌝ }
+    ensures { λ r. ⌜ Leaves (limitedCount (listIn (s .listed) (s .entries) (s .dc)) n (p .«bit_depth») (p .«extended_precision») (pos (p .«qp_prime»)) (now (levels .entry))) (transformedAt (matrixOf (p .mode) n) (p .«bit_depth») (p .«extended_precision») n (coefficients (listIn (s .listed) (s .entries) (s .dc)) p n (now (levels .entry)))) (n * n) (now (out .entry)) (now (out .exit)) r ⌝ }
 {
     let mut coeff = [0i32; 1024];
-    scale(s, p, n, levels, &mut coeff);
+    let limited = scale(s, p, n, levels, &mut coeff);
     let count = n * n;
     let mode = p.mode;
     transformed(
@@ -173,14 +188,15 @@ fn transform_levels(s: State, p: Parameters, n: usize, levels: &[i32], out: &mut
         &coeff[..count],
         out,
     );
+    limited
 }
 
-// The residual of a block, by the mode.
-fn residual_by(s: State, p: Parameters, n: usize, levels: &[i32], out: &mut [i32])
+// The residual of a block, by the mode, and how many coefficients were limited.
+fn residual_by(s: State, p: Parameters, n: usize, levels: &[i32], out: &mut [i32]) -> u16
     requires { ⌜ Accepted p n ⌝ }
     requires { ⌜ n * n ≤ length (now levels) ⌝ }
     requires { ⌜ n * n ≤ length (now out) ⌝ }
-    ensures { λ r. ⌜ now (out .exit) ≡ overwrite (n * n) (residualAt (listIn (s .listed) (s .entries) (s .dc)) p n (now (levels .entry))) (now (out .entry)) ⌝ }
+    ensures { λ r. ⌜ Leaves (blockLimited (listIn (s .listed) (s .entries) (s .dc)) p n (now (levels .entry))) (residualAt (listIn (s .listed) (s .entries) (s .dc)) p n (now (levels .entry))) (n * n) (now (out .entry)) (now (out .exit)) r ⌝ }
 {
     let mode = p.mode;
     match mode {
@@ -190,15 +206,15 @@ fn residual_by(s: State, p: Parameters, n: usize, levels: &[i32], out: &mut [i32
     }
 }
 
-// The residual of a block's body.
-pub fn residual_of(s: State, p: Parameters, n: usize, body: &[u8], out: &mut [i32])
+// The residual of a block's body, and how many coefficients were limited.
+pub fn residual_of(s: State, p: Parameters, n: usize, body: &[u8], out: &mut [i32]) -> u16
     requires { ⌜ Accepted p n ⌝ }
     requires { ⌜ 4 * (n * n) ≤ length (now body) ⌝ }
     requires { ⌜ n * n ≤ length (now out) ⌝ }
-    ensures { λ r. ⌜ now (out .exit) ≡ overwrite (n * n) (residualAt (listIn (s .listed) (s .entries) (s .dc)) p n (levelsOf n (now (body .entry)))) (now (out .entry)) ⌝ }
+    ensures { λ r. ⌜ Leaves (blockLimited (listIn (s .listed) (s .entries) (s .dc)) p n (levelsOf n (now (body .entry)))) (residualAt (listIn (s .listed) (s .entries) (s .dc)) p n (levelsOf n (now (body .entry)))) (n * n) (now (out .entry)) (now (out .exit)) r ⌝ }
 {
     let mut levels = [0i32; 1024];
     let count = n * n;
     values::read_levels(body, count, &mut levels);
-    residual_by(s, p, n, &levels[..count], out);
+    residual_by(s, p, n, &levels[..count], out)
 }

@@ -38,7 +38,7 @@ fn title(number: u64) {
 fn replay(fd: i32, number: u64) -> bool {
     let mut head = [0u8; 4];
     let mut feed = [0u8; 8192];
-    let mut out = [0u8; 24616];
+    let mut out = [0u8; 32808];
     if io::read_full(fd, &mut head) < 4 {
         return false;
     }

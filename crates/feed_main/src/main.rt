@@ -63,7 +63,7 @@ fn write_line(line: Line) -> bool
 fn turn(state: State) -> Progress {
     let mut byte = [0u8; 1];
     let mut body = [0u8; 4096];
-    let mut out = [0u8; 12288];
+    let mut out = [0u8; 16384];
     let got = libc::read(STDIN_FILENO, &mut byte);
     if got < 0 {
         return read_failed(state);

@@ -1,5 +1,6 @@
 -- What one record of a feed does. Document 01, "The feed program" and rows 2, 4 and 20 to 23 of its table.
 -- A record is examined in this order: its kind (20), the length of its body (21), parameters before levels (22), then its values, lowest number first.
+--   limitedText k                `limited`, and how many coefficients of a block were. Document 02, R-6
 --   FeedState                    the parameters, if they are given; the list in force; how many blocks there were; the byte offset of the next kind
 --   Effect                       the text that a record gives, and the state after it
 --   behind kind s                the offset behind a record of that kind: its kind's byte, then its body
@@ -8,10 +9,10 @@
 --   parametersEffect s body      kind 1
 --   listEffect s body            kind 2: 64 entries, then DC
 --   noListEffect s               kind 3
---   levelsEffect s n body        kinds 4 .. 7
+--   levelsEffect s n body        kinds 4 .. 7: the rows of the block, then the count of its limited coefficients
 --   recordEffect s k body        a record of kind k; a body that is longer than the kind's counts up to its length
 use mathlib.Core.Bool.{Bool, true, false, _||_, cond}
-use mathlib.Core.List.{List, []}
+use mathlib.Core.List.{List, [], _∷_, _++_}
 use Prim.Native.Nat.{ℕ, _+_}
 use lib.Dec.{eqb, ltb}
 use lib.ListN.{length, take, getD}
@@ -21,14 +22,21 @@ use Rattle.refusal.specs.declared.Refusal.{Refusal}
 use Rattle.refusal.specs.declared.Refusal.the-variants.{DepthInvalid, DstSizeInvalid, KindUnknown, BodyTooShort, LevelsBeforeParameters, ParameterInvalid}
 use Rattle.refusal.specs.Condition.{depthRefused}
 use Rattle.refusal.specs.Outcome.{Outcome, accepted, refused}
-use Rattle.text.specs.Text.{blockText}
+use Rattle.text.specs.Text.{lineEnd, unsignedText, blockText}
 use Rattle.feed_block.specs.declared.Kind.{Kind}
 use Rattle.feed_block.specs.declared.Kind.the-variants.{Parameters as ParametersKind, List as ListKind, NoList, Levels, Unknown}
 use Rattle.feed_block.specs.declared.Parameters.{Parameters}
 use Rattle.feed_block.specs.declared.Given.{Given}
 use Rattle.feed_block.specs.declared.Given.the-variants.{Nothing, These}
 use Rattle.feed_block.specs.Format.{kindOf, bodyLength, recordLength, modeOf, levelsOf}
-use Rattle.feed_block.specs.Block.{dstRefused, blockResidual}
+use Rattle.feed_block.specs.Block.{dstRefused, blockResidual, blockLimited}
+
+-- the word `limited` and a space
+abbrev pub limitedWord : List ℕ
+limitedWord = 108 ∷ 105 ∷ 109 ∷ 105 ∷ 116 ∷ 101 ∷ 100 ∷ 32 ∷ []
+
+unfoldable pub limitedText : ℕ → List ℕ
+limitedText k = limitedWord ++ (unsignedText k ++ (lineEnd ∷ []))
 
 pub record FeedState : Type 0 where
   pub given : Given
@@ -90,7 +98,7 @@ levelsBy (These p) s n body =
     cond (depthRefused (p .«bit_depth»)) (refused (unchanged s) DepthInvalid)
     (cond (dstRefused (p .mode) n) (refused (unchanged s) DstSizeInvalid)
     (accepted (record {
-      text = blockText n (blockResidual (s .list) p n (levelsOf n body));
+      text = blockText n (blockResidual (s .list) p n (levelsOf n body)) ++ limitedText (blockLimited (s .list) p n (levelsOf n body));
       state = counted s n;
     })))
 

@@ -1,7 +1,8 @@
 -- What a record that was taken leaves.
 --   stateOf s               what a state of the code stands for; entries count while a list is in force
 --   capped s                a state as the code holds it: blocks and offset stop at the largest 64-bit number, which no input reaches
---   recordRoom len          the bytes that the text of a record with a body of len bytes may take: 12 for each level of four
+--   recordRoom len          the bytes that the text of a record with a body of len bytes may take: 12 for each level of four, and the line behind a
+--                           block's rows, which the four bytes a level that are left hold
 --   answerOf o              number and place without the values
 --   Takes r l at m o room   a record was taken, below the question of room: its text stands at a place of the buffer
 --   Silent r at o           a record without text was taken
@@ -23,7 +24,7 @@ capped s =
     record { given = s .given; list = s .list; blocks = min (s .blocks) 18446744073709551615; offset = min (s .offset) 18446744073709551615 }
 
 abbrev pub recordRoom : ℕ → ℕ
-recordRoom len = 3 * len
+recordRoom len = 4 * len
 
 abbrev pub answerOf : {A : Type 0} → Outcome A → Outcome (Unit {0})
 answerOf o = record { number = o .number; place = o .place; row = o .row; column = o .column; value = tt }

@@ -2,8 +2,10 @@
 use feed_block::State;
 use refusal::Answer;
 
+mod lines;
 mod records;
 
+pub use lines::put_last;
 pub use records::take_record;
 
 // The answer to one record below the question of room, the state after it, and the place in the buffer where its text ends.

@@ -10,6 +10,7 @@ ghost use Rattle.feed_records.specs.Record.{counted, unchanged, isUnknow
 ghost use Rattle.feed_records.specs.Taken.{stateOf, capped, recordRoom, Takes, Silent};
 ghost use Rattle.feed_block.specs.Work.{Whole};
 use crate::Taken;
+use crate::lines;
 use feed_block::Given;
 use feed_block::Kind;
 use feed_block::Mode;
@@ -185,9 +186,10 @@ fn take_block(s: State, p: Parameters, n: usize, body: &[u8], out: &mut [u8], at
         return kept(s, Refusal::DstSizeInvalid, at);
     }
     let mut residual = [0i32; 1024];
-    block::residual_of(s, p, n, body, &mut residual);
+    let limited = block::residual_of(s, p, n, body, &mut residual);
     let count = n * n;
-    let end = text::put_block(&residual[..count], n, out, at);
+    let rows = text::put_block(&residual[..count], n, out, at);
+    let end = lines::put_limited(limited, out, rows);
     moved(with_block(s, n), end)
 }
 

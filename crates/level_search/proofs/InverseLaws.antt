@@ -20,6 +20,7 @@ use Rattle.integers.proofs.SearchLaws.{First, firstWhere-first}
 use Rattle.h265.specs.Range.{isSize, log2Size, transformRange}
 use Rattle.h265.proofs.RangeLaws.{log2Size-bound}
 use Rattle.h265.specs.Scaling.{scaledAt}
+use Rattle.h265.specs.Limited.{limitedCount}
 use Rattle.h265.specs.ScalingFactor.{ScalingList}
 use Rattle.refusal.specs.declared.Refusal.{Refusal}
 use Rattle.refusal.specs.Condition.{blockRefused}
@@ -29,7 +30,7 @@ use Rattle.refusal.proofs.RefusalLaws.{number-least}
 use Rattle.refusal.proofs.LadderLaws.{Rung, Passed, first, first-passed}
 use Rattle.refusal.proofs.LadderLaws.Rung.{rung}
 use Rattle.parameters.specs.Parameters.{KnownSize}
-use Rattle.scaling_blocks.specs.Blocks.{bits32, entriesOf, blockLadder, blockWritten, dequantized}
+use Rattle.scaling_blocks.specs.Blocks.{bits32, entriesOf, blockLadder, blockWritten, dequantized, leftAsLent, counted}
 use Rattle.scaling_blocks.proofs.BlockLaws.{rungs}
 use Rattle.level_search.specs.Level.{LeastLevel}
 use Rattle.level_search.specs.Found.{scalingAt, missingAt, firstMissing, leastAt, blockFound, levelsFound, Missing}
@@ -144,13 +145,13 @@ module _ (list : ScalingList) (n : ℕ) (q : ℤ) (b : ℕ) (x : Bool) (coeff ou
     after-length =
         ap length (written .1) ∙ overwrite-length (n * n) (leastAt list n b x q coeff) out (ltb-false (length out) (n * n) (passed .1 .1 .1 .1 .1 .0))
 
-    scale-back : dequantized bits32 list n q b x after coeff ≡ wrote coeff
+    scale-back : dequantized bits32 list n q b x after coeff ≡ counted (limitedCount list n b x q after) coeff
     unfolding dequantized blockWritten blockLadder blockRefused
     scale-back =
         let p = passed in
-        first-passed (left coeff) (wrote (overwrite (n * n) (scaledAt list n b x q after) coeff)) (rungs bits32 n b x (entriesOf list) (length after) (length coeff))
+        first-passed (leftAsLent coeff) (counted (limitedCount list n b x q after) (overwrite (n * n) (scaledAt list n b x q after) coeff)) (rungs bits32 n b x (entriesOf list) (length after) (length coeff))
         (p .0, (p .1 .0, (p .1 .1 .0, (p .1 .1 .1 .0, (ap (blockRefused n) after-length ∙ p .1 .1 .1 .1 .1 .0, (p .1 .1 .1 .1 .0, tt))))))
-        ∙ ap wrote (overwrite-same (n * n) (scaledAt list n b x q after) coeff (ltb-false (length coeff) (n * n) (p .1 .1 .1 .1 .0)) scaled-back)
+        ∙ ap (counted (limitedCount list n b x q after)) (overwrite-same (n * n) (scaledAt list n b x q after) coeff (ltb-false (length coeff) (n * n) (p .1 .1 .1 .1 .0)) scaled-back)
 
 -- ---- the statements
 known-size : (n b : ℕ) → T (isSize n) → (8 ≤ b) × (b ≤ 16) → KnownSize (log2Size n) b

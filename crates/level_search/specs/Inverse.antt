@@ -14,9 +14,9 @@ use lib.IntN.{ℤ, pos}
 use lib.ListN.{length, getD}
 use Rattle.h265.specs.Range.{isSize, transformRange}
 use Rattle.h265.specs.ScalingFactor.{ScalingList}
+use Rattle.h265.specs.Limited.{limitedCount}
 use Rattle.refusal.specs.Refusal.{number}
-use Rattle.refusal.specs.Written.{wrote}
-use Rattle.scaling_blocks.specs.Blocks.{bits32, entriesOf, blockLadder, dequantized}
+use Rattle.scaling_blocks.specs.Blocks.{bits32, entriesOf, blockLadder, dequantized, counted}
 use Rattle.level_search.specs.Level.{LeastLevel}
 use Rattle.level_search.specs.Found.{scalingAt, levelsFound, Missing}
 
@@ -48,4 +48,5 @@ abbrev pub LevelsScaleBack : Type 0
 LevelsScaleBack =
     (list : ScalingList) (n : ℕ) (q : ℤ) (b : ℕ) (x : Bool) (coeff out : List ℤ)
     → levelsFound list n q b x coeff out .answer .number ≡ 0
-    → dequantized bits32 list n q b x (levelsFound list n q b x coeff out .out) coeff ≡ wrote coeff
+    → dequantized bits32 list n q b x (levelsFound list n q b x coeff out .out) coeff
+    ≡ counted (limitedCount list n b x q (levelsFound list n q b x coeff out .out)) coeff

@@ -13,8 +13,6 @@ use lib.ListN.{length, getD}
 use Rattle.h265.specs.Range.{log2Size}
 use Rattle.h265.specs.ScalingFactor.{ScalingList}
 use Rattle.h265.specs.ScalingFactor.ScalingList.{listed}
-use Rattle.refusal.specs.declared.Answer.{Answer}
-use Rattle.refusal.specs.declared.Answer.the-variants.{Refused}
 use Rattle.refusal.specs.declared.Refusal.{Refusal}
 use Rattle.refusal.specs.declared.Refusal.the-variants.{OutputTooShort, ListMissing}
 use Rattle.refusal.specs.Outcome.{Outcome, accepted, refused}
@@ -23,7 +21,9 @@ use Rattle.refusal.proofs.LadderLaws.Rung.{rung}
 use Rattle.parameters.specs.declared.TransformSkipParams.{TransformSkipParams}
 use Rattle.parameters.specs.Answers.{noTransformSkip}
 use Rattle.parameters.specs.Parameters.{transformSkipOf}
-use Rattle.scaling_blocks.specs.Blocks.{blockLadder, blockParams, Writes, left}
+use Rattle.scaling_blocks.specs.Blocks.{blockLadder, blockParams, CountWrites, leftAsLent}
+use Rattle.scaling_blocks.specs.declared.CountAnswer.{CountAnswer}
+use Rattle.scaling_blocks.specs.declared.CountAnswer.the-variants.{Refused}
 use Rattle.scaling_blocks.proofs.BlockLaws.{rungs}
 use Rattle.list_places.specs.Stream.{Stream, numbered, missing, numberLadder, numberAnswer}
 use Rattle.list_places.specs.Table.{entriesAt, streamOf, short}
@@ -53,11 +53,11 @@ allRungs short d s i k out =
     rungs (k .narrow) (k .size) (k .depth) (k .extended) 64 (length (k .levels)) (length out) ++ (rung short OutputTooShort ∷ rung (missing d s i) ListMissing ∷ [])
 
 module _ (short : Bool) (d : ℕ) (s : Stream) (i : ℕ) (k : Block) (out : List ℤ) where
-  pub scale-refused : (e : Refusal) → refused tt e ≡ answered short d s i k out → Writes (Refused e) out (scaleAnswer short d s i k out)
+  pub scale-refused : (e : Refusal) → refused tt e ≡ answered short d s i k out → CountWrites (Refused e) out (scaleAnswer short d s i k out)
   unfolding blockLadder numberAnswer numberLadder scaleAnswer
   scale-refused e h =
-      first-refused tt tt (left out) (libraryBlock k (listOf (numbered s i)) out) (λ w. Writes (Refused e) out w) e
-      (λ f g. record { answered = g; out = refl }) (allRungs short d s i k out) h
+      first-refused tt tt (leftAsLent out) (libraryBlock k (listOf (numbered s i)) out) (λ w. CountWrites (Refused e) out w) e
+      (λ f g. record { answered = with-value 0 e f g; out = refl }) (allRungs short d s i k out) h
 
   pub record Ready : Type 0 where
     pub room : short ≡ false
@@ -69,7 +69,7 @@ module _ (short : Bool) (d : ℕ) (s : Stream) (i : ℕ) (k : Block) (out : List
   scale-ready h =
       let p = first-accepted tt tt tt (allRungs short d s i k out) h .0 in
       let l = p .1 .1 .1 .1 .1 .1 in
-      record { room = l .0; present = l .1 .0; is = first-passed (left out) (libraryBlock k (listOf (numbered s i)) out) (allRungs short d s i k out) p }
+      record { room = l .0; present = l .1 .0; is = first-passed (leftAsLent out) (libraryBlock k (listOf (numbered s i)) out) (allRungs short d s i k out) p }
 
 -- ---- accepted
 module _ (table : List ℕ) (d i : ℕ) (k : Block) (out : List ℤ) where
@@ -79,11 +79,11 @@ module _ (table : List ℕ) (d i : ℕ) (k : Block) (out : List ℤ) where
       let n = number-inside table d i (y .present) in
       (table-room table (y .room), n .0, n .1)
 
-  pub scale-done : (list : List ℕ) (dc : ℕ) (r : Answer) (after : List ℤ) → accepted tt ≡ answered (short table) d (streamOf table d) i k out
+  pub scale-done : (list : List ℕ) (dc : ℕ) (r : CountAnswer) (after : List ℤ) → accepted tt ≡ answered (short table) d (streamOf table d) i k out
       → list ≡ entriesAt table (12 * d + i)
       → dc ≡ getD table (66 * (12 * d + i) + 1) 0
-      → Writes r after (libraryBlock k (listed list dc) out)
-      → Writes r after (scaleAnswer (short table) d (streamOf table d) i k out)
+      → CountWrites r after (libraryBlock k (listed list dc) out)
+      → CountWrites r after (scaleAnswer (short table) d (streamOf table d) i k out)
   scale-done list dc r after h e f w =
       let y = scale-ready (short table) d (streamOf table d) i k out h in
       let l : listOf (numbered (streamOf table d) i) ≡ listed list dc = ap listOf (held-place table d i (y .present)) ∙ sym (ap₂ listed e f) in

@@ -1,7 +1,8 @@
-// Blocks scaled by the list and DC of a number: the library's functions with a list, on the entries where they stand in the table.
+// Blocks scaled by the list and DC of a number: the library's functions with a list, on the entries where they stand in the table. Each answers with the
+// library's count of limited coefficients.
 ghost use mathlib.Core.Path.{_≡_};
 ghost use Rattle.refusal.specs.Outcome.{refused, answer};
-ghost use Rattle.scaling_blocks.specs.Blocks.{bits16, bits32, blockLadder, Writes};
+ghost use Rattle.scaling_blocks.specs.Blocks.{bits16, bits32, blockLadder, CountWrites};
 ghost use Rattle.list_places.specs.Stream.{numberAnswer};
 ghost use Rattle.list_places.specs.Table.{streamOf, short};
 ghost use Rattle.list_blocks.specs.Scale.{block, scaleAnswer};
@@ -9,6 +10,7 @@ ghost use Rattle.list_blocks.specs.Scale.Work.{coefficients, residuals};
 use parameters::QpPrime;
 use parameters::TransformSkipAnswer;
 use refusal::Answer;
+use scaling_blocks::CountAnswer;
 use scaling_blocks::refuse;
 
 // All refusals of a block by number. A place has 64 entries, so row 5 never applies.
@@ -53,8 +55,8 @@ pub fn dequantize_by_number_i32(
     bit_depth: u8,
     extended_precision: bool,
     out: &mut [i32],
-) -> Answer
-    ensures { λ r. ⌜ Writes r (now (out .exit)) (scaleAnswer (short (now (table .entry))) stream (streamOf (now (table .entry)) stream) number (block coefficients bits32 n («qp_prime» .0) «bit_depth» «extended_precision» (now (levels .entry))) (now (out .entry))) ⌝ }
+) -> CountAnswer
+    ensures { λ r. ⌜ CountWrites r (now (out .exit)) (scaleAnswer (short (now (table .entry))) stream (streamOf (now (table .entry)) stream) number (block coefficients bits32 n («qp_prime» .0) «bit_depth» «extended_precision» (now (levels .entry))) (now (out .entry))) ⌝ }
 {
     let checked = block_refused(
         false,
@@ -69,7 +71,7 @@ pub fn dequantize_by_number_i32(
         out.len(),
     );
     if let Answer::Refused(why) = checked {
-        return Answer::Refused(why);
+        return CountAnswer::Refused(why);
     }
     scaling_wide::dequantize_scaled_into_scalar_i32(
         levels,
@@ -94,8 +96,8 @@ pub fn dequantize_by_number_i16(
     bit_depth: u8,
     extended_precision: bool,
     out: &mut [i16],
-) -> Answer
-    ensures { λ r. ⌜ Writes r (now (out .exit)) (scaleAnswer (short (now (table .entry))) stream (streamOf (now (table .entry)) stream) number (block coefficients bits16 n («qp_prime» .0) «bit_depth» «extended_precision» (now (levels .entry))) (now (out .entry))) ⌝ }
+) -> CountAnswer
+    ensures { λ r. ⌜ CountWrites r (now (out .exit)) (scaleAnswer (short (now (table .entry))) stream (streamOf (now (table .entry)) stream) number (block coefficients bits16 n («qp_prime» .0) «bit_depth» «extended_precision» (now (levels .entry))) (now (out .entry))) ⌝ }
 {
     let checked = block_refused(
         true,
@@ -110,7 +112,7 @@ pub fn dequantize_by_number_i16(
         out.len(),
     );
     if let Answer::Refused(why) = checked {
-        return Answer::Refused(why);
+        return CountAnswer::Refused(why);
     }
     scaling_narrow::dequantize_scaled_into_scalar_i16(
         levels,
@@ -135,8 +137,8 @@ pub fn dequantize_transform_skip_by_number_i32(
     bit_depth: u8,
     extended_precision: bool,
     out: &mut [i32],
-) -> Answer
-    ensures { λ r. ⌜ Writes r (now (out .exit)) (scaleAnswer (short (now (table .entry))) stream (streamOf (now (table .entry)) stream) number (block residuals bits32 n («qp_prime» .0) «bit_depth» «extended_precision» (now (levels .entry))) (now (out .entry))) ⌝ }
+) -> CountAnswer
+    ensures { λ r. ⌜ CountWrites r (now (out .exit)) (scaleAnswer (short (now (table .entry))) stream (streamOf (now (table .entry)) stream) number (block residuals bits32 n («qp_prime» .0) «bit_depth» «extended_precision» (now (levels .entry))) (now (out .entry))) ⌝ }
 {
     let checked = block_refused(
         false,
@@ -151,7 +153,7 @@ pub fn dequantize_transform_skip_by_number_i32(
         out.len(),
     );
     if let Answer::Refused(why) = checked {
-        return Answer::Refused(why);
+        return CountAnswer::Refused(why);
     }
     scaling_wide::dequantize_transform_skip_scaled_into_scalar_i32(
         levels,
@@ -176,8 +178,8 @@ pub fn dequantize_transform_skip_by_number_i16(
     bit_depth: u8,
     extended_precision: bool,
     out: &mut [i16],
-) -> Answer
-    ensures { λ r. ⌜ Writes r (now (out .exit)) (scaleAnswer (short (now (table .entry))) stream (streamOf (now (table .entry)) stream) number (block residuals bits16 n («qp_prime» .0) «bit_depth» «extended_precision» (now (levels .entry))) (now (out .entry))) ⌝ }
+) -> CountAnswer
+    ensures { λ r. ⌜ CountWrites r (now (out .exit)) (scaleAnswer (short (now (table .entry))) stream (streamOf (now (table .entry)) stream) number (block residuals bits16 n («qp_prime» .0) «bit_depth» «extended_precision» (now (levels .entry))) (now (out .entry))) ⌝ }
 {
     let checked = block_refused(
         true,
@@ -192,7 +194,7 @@ pub fn dequantize_transform_skip_by_number_i16(
         out.len(),
     );
     if let Answer::Refused(why) = checked {
-        return Answer::Refused(why);
+        return CountAnswer::Refused(why);
     }
     scaling_narrow::dequantize_transform_skip_scaled_into_scalar_i16(
         levels,

@@ -23,7 +23,7 @@ use lib.Dec.{eqb}
 use lib.IntN.{ℤ}
 use lib.ListN.{length, getD, set}
 use Rattle.refusal.specs.Outcome.{Outcome}
-use Rattle.refusal.specs.Written.{Written}
+use Rattle.scaling_blocks.specs.Blocks.{CountWritten}
 use Rattle.list_places.specs.Stream.{Stream, emptyStream, lowestFree, numberLadder, numberAnswer}
 use Rattle.list_places.specs.Stream.Place.{free, held}
 use Rattle.list_places.specs.Table.{streamOf, short}
@@ -40,7 +40,7 @@ pub data Reply : Type 0 where
   stored : Outcome ℕ → Reply
   dropped : Outcome (Unit {0}) → Reply
   found : Found → Reply
-  scaled : Written → Reply
+  scaled : CountWritten → Reply
 
 abbrev pub replyTo : Bool → ℕ → Stream → Call → Reply
 replyTo short d s (store list dc) = stored (storeAnswer short d s list)

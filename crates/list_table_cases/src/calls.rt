@@ -82,7 +82,7 @@ fn shown(n: usize) -> usize {
 }
 
 fn coefficients_32(table: &[u8], asked: Asked, levels: &[i32], out: &mut [i32]) {
-    lines::put_answer(list_blocks::dequantize_by_number_i32(
+    lines::put_count(list_blocks::dequantize_by_number_i32(
         table,
         asked.stream,
         asked.number,
@@ -97,7 +97,7 @@ fn coefficients_32(table: &[u8], asked: Asked, levels: &[i32], out: &mut [i32]) 
 }
 
 fn residuals_32(table: &[u8], asked: Asked, levels: &[i32], out: &mut [i32]) {
-    lines::put_answer(list_blocks::dequantize_transform_skip_by_number_i32(
+    lines::put_count(list_blocks::dequantize_transform_skip_by_number_i32(
         table,
         asked.stream,
         asked.number,
@@ -112,7 +112,7 @@ fn residuals_32(table: &[u8], asked: Asked, levels: &[i32], out: &mut [i32]) {
 }
 
 fn coefficients_16(table: &[u8], asked: Asked, levels: &[i32], out: &mut [i16]) {
-    lines::put_answer(list_blocks::dequantize_by_number_i16(
+    lines::put_count(list_blocks::dequantize_by_number_i16(
         table,
         asked.stream,
         asked.number,
@@ -127,7 +127,7 @@ fn coefficients_16(table: &[u8], asked: Asked, levels: &[i32], out: &mut [i16]) 
 }
 
 fn residuals_16(table: &[u8], asked: Asked, levels: &[i32], out: &mut [i16]) {
-    lines::put_answer(list_blocks::dequantize_transform_skip_by_number_i16(
+    lines::put_count(list_blocks::dequantize_transform_skip_by_number_i16(
         table,
         asked.stream,
         asked.number,

@@ -2,6 +2,7 @@
 use libc::STDOUT_FILENO;
 use refusal::Answer;
 use refusal::Refusal;
+use scaling_blocks::CountAnswer;
 
 pub fn put(n: u64) {
     io::write_all(STDOUT_FILENO, b" ");
@@ -69,5 +70,20 @@ pub fn put_answer(answer: Answer) {
             put(0);
         }
         Answer::Refused(why) => put_refusal(why),
+    }
+}
+
+// The answer, and how many coefficients were limited.
+pub fn put_count(answer: CountAnswer) {
+    match answer {
+        CountAnswer::Limited(limited) => {
+            put(0);
+            put(0);
+            put(limited as u64);
+        }
+        CountAnswer::Refused(why) => {
+            put_refusal(why);
+            put(0);
+        }
     }
 }

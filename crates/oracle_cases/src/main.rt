@@ -1,9 +1,11 @@
 // Replays recorded answers of the ported Rust, through the functions that C gets. A case is a text, which is written as it is: the function and what it is called with.
 // Then come the function's number, depth, flag and DC or m, a byte each; size, column count or index, and the lengths of list, input and output, two bytes each; QP or
-// QP′, and a level; the list, the input, and the output that the Rust left. The text goes on with number, row and column, and whether every value is the Rust's.
+// QP′, and a level; the list, the input, and the output that the Rust left. The text goes on with number, row and column, of a block that is
+// scaled the count of limited coefficients, of a level whether it and its result were limited, by a plain writing of the rule, and whether every value is the Rust's.
 // `harness record` writes cases and text.
 ghost use Prim.Native.Nat.{_≤_};
 use c_api::Answered;
+use c_api::CountAnswered;
 use libc::STDIN_FILENO;
 
 // `byte` is DC or m, `qp` is QP or QP′, `count` the column count or an index.
@@ -80,6 +82,14 @@ fn run_factor(case: Case, list: &[u8]) {
     put_next(r.value as i64);
 }
 
+fn put_limited(limited: bool) {
+    if limited {
+        cases::put(1);
+    } else {
+        cases::put(0);
+    }
+}
+
 fn run_level(case: Case) {
     let r = c_api::residual_scale_level(
         case.level,
@@ -90,11 +100,13 @@ fn run_level(case: Case) {
         case.extended_precision,
     );
     put_answer(r.number, r.row, r.column);
+    put_limited(r.level_limited);
+    put_limited(r.result_limited);
     put_next_wide(r.value);
 }
 
 // A function of levels with 32-bit output.
-fn scale_wide(case: Case, list: &[u8], levels: &[i32], out: &mut [i32]) -> Answered {
+fn scale_wide(case: Case, list: &[u8], levels: &[i32], out: &mut [i32]) -> CountAnswered {
     let n = case.n;
     let qp = case.qp;
     let depth = case.bit_depth;
@@ -158,16 +170,8 @@ fn invert_narrow(case: Case, coeff: &[i16], out: &mut [i16]) -> Answered {
     c_api::residual_inv_transform_dst_into_scalar16(coeff, depth, out)
 }
 
-// A function with 32-bit input and output.
-fn call_wide(case: Case, list: &[u8], input: &[i32], out: &mut [i32]) -> Answered {
-    if case.function < 13 {
-        return scale_wide(case, list, input, out);
-    }
-    invert_wide(case, input, out)
-}
-
 // A function of levels with 16-bit output.
-fn scale_narrow(case: Case, list: &[u8], levels: &[i32], out: &mut [i16]) -> Answered {
+fn scale_narrow(case: Case, list: &[u8], levels: &[i32], out: &mut [i16]) -> CountAnswered {
     let n = case.n;
     let qp = case.qp;
     let depth = case.bit_depth;
@@ -207,15 +211,31 @@ fn scale_narrow(case: Case, list: &[u8], levels: &[i32], out: &mut [i16]) -> Ans
 }
 
 // The output is lent with the mark 77 in every place, as the recorder lent it to the Rust.
-fn wide(case: Case, list: &[u8], input: &[i32], out: &mut [i32]) {
-    let r = call_wide(case, list, input, out);
+fn scaled(case: Case, list: &[u8], levels: &[i32], out: &mut [i32]) {
+    let r = scale_wide(case, list, levels, out);
+    put_answer(r.number, r.row, r.column);
+    cases::put(r.limited as u64);
+    cases::put_same(cases::are_next_wide(STDIN_FILENO, out));
+}
+
+fn inverted(case: Case, coeff: &[i32], out: &mut [i32]) {
+    let r = invert_wide(case, coeff, out);
     put_answer(r.number, r.row, r.column);
     cases::put_same(cases::are_next_wide(STDIN_FILENO, out));
+}
+
+fn wide(case: Case, list: &[u8], input: &[i32], out: &mut [i32]) {
+    if case.function < 13 {
+        scaled(case, list, input, out);
+    } else {
+        inverted(case, input, out);
+    }
 }
 
 fn narrow(case: Case, list: &[u8], levels: &[i32], out: &mut [i16]) {
     let r = scale_narrow(case, list, levels, out);
     put_answer(r.number, r.row, r.column);
+    cases::put(r.limited as u64);
     cases::put_same(cases::are_next_narrow(STDIN_FILENO, out));
 }
 

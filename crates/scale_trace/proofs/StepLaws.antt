@@ -154,13 +154,13 @@ pub record Fed (r : Stepped) (o : Outcome Effect) : Type 0 where
   pub answered : stepAnswer (r .answer) ≡ enough (answerOf o)
   pub state : stateOf (r .state) ≡ capped (o .value .state)
 
-pub fed : {r : Stepped} {rows rows′ : List ℕ} (s : FeedState) (k : ℕ) (body : List ℕ) {n whole : ℕ} → n ≡ recordLength k → n ≤ 4096 → whole ≡ min n (length body) → length rows ≡ 12288
+pub fed : {r : Stepped} {rows rows′ : List ℕ} (s : FeedState) (k : ℕ) (body : List ℕ) {n whole : ℕ} → n ≡ recordLength k → n ≤ 4096 → whole ≡ min n (length body) → length rows ≡ 16384
     → Steps r rows rows′ (stepping s k (take whole body) (length rows)) → Fed r (recordEffect s k body)
 unfolding stepping
 fed {rows = rows} s k body {n} {whole} en h ew el t =
     let cut : take whole body ≡ take (recordLength k) body = ap (λ (j : ℕ). take j body) ew ∙ take-least n body ∙ ap (λ (j : ℕ). take j body) en in
     let short : length (take whole body) ≤ 4096 = rw length-take (omega arith) in
-    let u = rw (le-ltb (length rows) (3 * length (take whole body)) (omega arith)) at t in
+    let u = rw (le-ltb (length rows) (4 * length (take whole body)) (omega arith)) at t in
     let a = effect-cut s k body in
     record {
       answered = u .answered ∙ ap enough (ap (λ (l : List ℕ). answerOf (recordEffect s k l)) cut ∙ a .answer);

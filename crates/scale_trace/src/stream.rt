@@ -67,7 +67,7 @@ fn take_record(state: State, kind: u8, body: &[u8], out: &mut [u8], at: usize) -
     requires { ⌜ at + traceRoom (length (now body)) ≤ length (now out) ⌝ }
     ensures { λ r. ⌜ TracesAt r (now (out .entry)) at (now (out .exit)) (traceEffect (stateOf state) kind (now (body .entry))) (traceRoom (length (now (body .entry)))) ⌝ }
 {
-    let mut rows = [0u8; 12288];
+    let mut rows = [0u8; 16384];
     let whole = least(feed::record_length(kind), body.len());
     let stepped = feed::step(state, kind, &body[..whole], &mut rows);
     let answer = stepped.answer;

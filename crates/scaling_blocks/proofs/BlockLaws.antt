@@ -3,8 +3,8 @@
 --   block-refused        a call whose numbers are refused hands back that refusal and the output as lent
 --   Ready, block-ready   what holds once the numbers are there
 --   ready-regular        the numbers are regular
---   narrow-ends, narrow-shift, narrow-plain   of a 16-bit output: the range's ends fit 16 bits, t > 0, and 32 bits do for scaling
---   flat-writes, listed-writes, flat-skips, listed-skips   what was written is what the definition says
+--   narrow-ends, narrow-shift   of a 16-bit output: the range's ends fit 16 bits, and t > 0
+--   flat-writes, listed-writes, flat-skips, listed-skips   what was written and counted is what the definition says
 use mathlib.Core.Path.{_≡_, refl, sym, ap, subst, _∙_}
 use mathlib.Core.Bool.{Bool, true, false, _&&_}
 use mathlib.Core.List.{List, [], _∷_}
@@ -24,9 +24,9 @@ use Rattle.h265.specs.Range.{log2Size, transformRange, coeffMin, coeffMax}
 use Rattle.h265.specs.ScalingFactor.{ScalingList, factorSource, factorBy, scalingFactor}
 use Rattle.h265.specs.ScalingFactor.ScalingList.{flat, listed}
 use Rattle.h265.specs.Scaling.{scaledAt}
+use Rattle.h265.specs.Limited.{limitedAt, countOf, limitedCount}
 use Rattle.h265.specs.TransformSkip.{tsShift, tsResidual, skippedAt}
 use Rattle.h265.proofs.RangeLaws.{transformRange-least, transformRange-depth}
-use Rattle.refusal.specs.declared.Answer.the-variants.{Done, Refused}
 use Rattle.refusal.specs.declared.Refusal.{Refusal}
 use Rattle.refusal.specs.declared.Refusal.the-variants.{SizeInvalid, DepthInvalid, WidthTooNarrow, ListLengthInvalid, InputTooShort, OutputTooShort}
 use Rattle.refusal.specs.Condition.{sizeRefused, depthRefused, widthRefused, listRefused, blockRefused}
@@ -36,19 +36,19 @@ use Rattle.parameters.specs.declared.TransformSkipParams.{TransformSkipParams}
 use Rattle.parameters.specs.Answers.{noTransformSkip}
 use Rattle.parameters.specs.Parameters.{dequantOf, transformSkipOf, KnownSize}
 use Rattle.parameters.proofs.ParametersLaws.{known-accepted}
-use Rattle.scaling_blocks.specs.Blocks.{blockLadder, blockParams, blockWritten, dequantized, transformSkipped, entriesOf, Written, Writes}
+use Rattle.scaling_blocks.specs.Blocks.{blockLadder, blockParams, blockWritten, dequantized, transformSkipped, entriesOf, CountWritten, CountWrites, leftAsLent, counted}
+use Rattle.scaling_blocks.specs.declared.CountAnswer.the-variants.{Limited, Refused}
 use Rattle.scaling_values.specs.Factor.{WholeList}
 use Rattle.scaling_values.specs.Level.{Ends}
 use Rattle.scaling_values.specs.Flat.{Regular}
-use Rattle.scaling_values.specs.Plain.{Plain}
 use Rattle.scaling_values.specs.Skip.{Skippable}
-use Rattle.scaling_values.specs.Work.{flatAt, listedAt, flatResidualAt, listedResidualAt, Room}
+use Rattle.scaling_values.specs.Work.{flatAt, listedAt, flatLimitedAt, listedLimitedAt, flatResidualAt, listedResidualAt, Counted, Room}
 use Rattle.refusal.proofs.LadderLaws.{Rung, Passed, first-accepted, first-passed, first-refused, with-value}
 use Rattle.refusal.proofs.LadderLaws.Rung.{rung}
 use Rattle.scaling_values.proofs.FactorLaws.{size-square}
 use Rattle.scaling_values.proofs.FlatLaws.{dequantOf-regular}
-use Rattle.scaling_values.proofs.PlainLaws.{dequantOf-plain}
-use Rattle.scaling_values.proofs.LevelLaws.{dequantOf-manageable, flatLevel-eq, listedLevel-eq}
+use Rattle.scaling_values.proofs.CountLaws.{count-cong}
+use Rattle.scaling_values.proofs.LevelLaws.{dequantOf-manageable, flatLevel-eq, listedLevel-eq, listedLimited-eq}
 
 abbrev pub rungs : Bool → ℕ → ℕ → Bool → ℕ → ℕ → ℕ → List Rung
 rungs narrow n b x entries levels places =
@@ -63,11 +63,11 @@ rungs narrow n b x entries levels places =
 -- ---- refused
 pub block-refused : (narrow : Bool) (list : ScalingList) (n : ℕ) (q : ℤ) (b : ℕ) (x : Bool) (levels out : List ℤ) (at : ℕ → ℤ) (e : Refusal)
     → refused noTransformSkip e ≡ blockParams narrow n q b x (entriesOf list) (length levels) (length out)
-    → Writes (Refused e) out (blockWritten narrow list n b x levels out at)
+    → CountWrites (Refused e) out (blockWritten narrow list n q b x levels out at)
 unfolding blockParams blockWritten blockLadder
 block-refused narrow list n q b x levels out at e h =
-    first-refused noTransformSkip (transformSkipOf (log2Size n) q b x) _ _ (λ w. Writes (Refused e) out w) e
-    (λ f k. record { answered = with-value tt e f k; out = refl }) (rungs narrow n b x (entriesOf list) (length levels) (length out)) h
+    first-refused noTransformSkip (transformSkipOf (log2Size n) q b x) _ _ (λ w. CountWrites (Refused e) out w) e
+    (λ f k. record { answered = with-value 0 e f k; out = refl }) (rungs narrow n b x (entriesOf list) (length levels) (length out)) h
 
 -- ---- accepted
 transformSkipOf-skippable : (l : ℕ) (q : ℤ) (b : ℕ) (x : Bool) → KnownSize l b → Skippable (transformSkipOf l q b x)
@@ -148,13 +148,6 @@ module _ (n : ℕ) (q : ℤ) (b : ℕ) (x : Bool) (entries levels places : ℕ) 
       subst (λ (s : TransformSkipParams). pos 1 ≤ℤ s .«tr_shift») (sym (r .is))
       (subst (λ (y : Bool). pos 1 ≤ℤ tsShift (transformRange b y) b (log2Size n)) (sym (w .1)) (plain-shift (log2Size n) b (r .known .most) (w .0)))
 
-  pub narrow-plain : Plain (p .dequant)
-  unfolding transformSkipOf
-  narrow-plain =
-      let w = width-accepted b x (r .passed .1 .1 .0) in
-      subst (λ (s : TransformSkipParams). Plain (s .dequant)) (sym (r .is))
-      (subst (λ (y : Bool). Plain (dequantOf (log2Size n) q b y)) (sym (w .1)) (dequantOf-plain (log2Size n) q b (r .known) (w .0)))
-
 -- ---- what was written
 flat-at : (n : ℕ) (q : ℤ) (b : ℕ) (x : Bool) (levels : List ℤ) (i : ℕ) → flatAt (dequantOf (log2Size n) q b x) levels i ≡ scaledAt flat n b x q levels i
 unfolding flatAt scaledAt scalingFactor factorSource factorBy
@@ -164,43 +157,57 @@ listed-at : (list : ScalingList) (n : ℕ) (q : ℤ) (b : ℕ) (x : Bool) (level
 unfolding listedAt scaledAt
 listed-at list n q b x levels i = listedLevel-eq (log2Size n) q b x (scalingFactor list n i) (getD levels i (pos 0))
 
-module _ (narrow : Bool) (n : ℕ) (q : ℤ) (b : ℕ) (x : Bool) (levels out after : List ℤ) (p : TransformSkipParams) where
-  -- `by` is the working function's list at the block's numbers, `at` the definition's
-  written : (list : ScalingList) (by : TransformSkipParams → ℕ → ℤ) (at : ℕ → ℤ) → Ready narrow n q b x (entriesOf list) (length levels) (length out) p
-      → after ≡ overwrite (n * n) (by p) out → ((i : ℕ) → by (transformSkipOf (log2Size n) q b x) i ≡ at i)
-      → Writes Done after (blockWritten narrow list n b x levels out at)
-  unfolding blockWritten blockLadder
-  written list by at r e k =
-      subst (λ (w : Written). Writes Done after w)
-      (sym (first-passed (λ f. record { answer = refused tt f; out = out }) (record { answer = accepted tt; out = overwrite (n * n) at out }) (rungs narrow n b x (entriesOf list) (length levels) (length out)) (r .passed)))
+flat-limited-at : (n : ℕ) (q : ℤ) (b : ℕ) (x : Bool) (levels : List ℤ) (i : ℕ) → flatLimitedAt (dequantOf (log2Size n) q b x) levels i ≡ limitedAt flat n b x q levels i
+unfolding flatLimitedAt limitedAt scalingFactor factorSource factorBy
+flat-limited-at n q b x levels i = listedLimited-eq (log2Size n) q b x 16 (getD levels i (pos 0))
+
+listed-limited-at : (list : ScalingList) (n : ℕ) (q : ℤ) (b : ℕ) (x : Bool) (levels : List ℤ) (i : ℕ) → listedLimitedAt (dequantOf (log2Size n) q b x) list n levels i ≡ limitedAt list n b x q levels i
+unfolding listedLimitedAt limitedAt
+listed-limited-at list n q b x levels i = listedLimited-eq (log2Size n) q b x (scalingFactor list n i) (getD levels i (pos 0))
+
+module _ (narrow : Bool) (n : ℕ) (q : ℤ) (b : ℕ) (x : Bool) (levels out after : List ℤ) (p : TransformSkipParams) (m : ℕ) where
+  -- `by` and `told` are the working function's at the block's numbers, `at` and `limitedAt` the definition's
+  written : (list : ScalingList) (by : TransformSkipParams → ℕ → ℤ) (told : TransformSkipParams → ℕ → Bool) (at : ℕ → ℤ) → Ready narrow n q b x (entriesOf list) (length levels) (length out) p
+      → Counted (by p) (told p) (n * n) out after m → ((i : ℕ) → by (transformSkipOf (log2Size n) q b x) i ≡ at i)
+      → ((i : ℕ) → told (transformSkipOf (log2Size n) q b x) i ≡ limitedAt list n b x q levels i)
+      → CountWrites (Limited m) after (blockWritten narrow list n q b x levels out at)
+  unfolding blockWritten blockLadder limitedCount
+  written list by told at r c k l =
+      subst (λ (w : CountWritten). CountWrites (Limited m) after w)
+      (sym (first-passed (leftAsLent out) (counted (limitedCount list n b x q levels) (overwrite (n * n) at out)) (rungs narrow n b x (entriesOf list) (length levels) (length out)) (r .passed)))
       (record {
-        answered = refl;
-        out = e ∙ ap (λ (s : TransformSkipParams). overwrite (n * n) (by s) out) (r .is) ∙ overwrite-cong (n * n) (by (transformSkipOf (log2Size n) q b x)) at out (λ i h. k i);
+        answered =
+            ap accepted
+            (c .count ∙ ap (λ (s : TransformSkipParams). countOf (told s) (n * n)) (r .is)
+            ∙ count-cong (told (transformSkipOf (log2Size n) q b x)) (limitedAt list n b x q levels) (n * n) (λ i h. l i));
+        out = c .out ∙ ap (λ (s : TransformSkipParams). overwrite (n * n) (by s) out) (r .is) ∙ overwrite-cong (n * n) (by (transformSkipOf (log2Size n) q b x)) at out (λ i h. k i);
       })
 
-  pub flat-writes : Ready narrow n q b x 64 (length levels) (length out) p → after ≡ overwrite (n * n) (flatAt (p .dequant) levels) out
-      → Writes Done after (dequantized narrow flat n q b x levels out)
+  pub flat-writes : Ready narrow n q b x 64 (length levels) (length out) p → Counted (flatAt (p .dequant) levels) (flatLimitedAt (p .dequant) levels) (n * n) out after m
+      → CountWrites (Limited m) after (dequantized narrow flat n q b x levels out)
   unfolding dequantized transformSkipOf
-  flat-writes r e = written flat (λ s. flatAt (s .dequant) levels) (scaledAt flat n b x q levels) r e (flat-at n q b x levels)
+  flat-writes r c =
+      written flat (λ s. flatAt (s .dequant) levels) (λ s. flatLimitedAt (s .dequant) levels) (scaledAt flat n b x q levels) r c (flat-at n q b x levels) (flat-limited-at n q b x levels)
 
-  pub flat-skips : Ready narrow n q b x 64 (length levels) (length out) p → after ≡ overwrite (n * n) (flatResidualAt p levels) out
-      → Writes Done after (transformSkipped narrow flat n q b x levels out)
+  pub flat-skips : Ready narrow n q b x 64 (length levels) (length out) p → Counted (flatResidualAt p levels) (flatLimitedAt (p .dequant) levels) (n * n) out after m
+      → CountWrites (Limited m) after (transformSkipped narrow flat n q b x levels out)
   unfolding transformSkipped transformSkipOf flatResidualAt skippedAt
-  flat-skips r e =
-      written flat (λ s. flatResidualAt s levels) (skippedAt flat n b x q levels) r e
-      (λ i. ap (tsResidual (tsShift (transformRange b x) b (log2Size n))) (flat-at n q b x levels i))
+  flat-skips r c =
+      written flat (λ s. flatResidualAt s levels) (λ s. flatLimitedAt (s .dequant) levels) (skippedAt flat n b x q levels) r c
+      (λ i. ap (tsResidual (tsShift (transformRange b x) b (log2Size n))) (flat-at n q b x levels i)) (flat-limited-at n q b x levels)
 
   pub listed-writes : (es : List ℕ) (d : ℕ) → Ready narrow n q b x (length es) (length levels) (length out) p
-      → after ≡ overwrite (n * n) (listedAt (p .dequant) (listed es d) n levels) out
-      → Writes Done after (dequantized narrow (listed es d) n q b x levels out)
+      → Counted (listedAt (p .dequant) (listed es d) n levels) (listedLimitedAt (p .dequant) (listed es d) n levels) (n * n) out after m
+      → CountWrites (Limited m) after (dequantized narrow (listed es d) n q b x levels out)
   unfolding dequantized transformSkipOf
-  listed-writes es d r e =
-      written (listed es d) (λ s. listedAt (s .dequant) (listed es d) n levels) (scaledAt (listed es d) n b x q levels) r e (listed-at (listed es d) n q b x levels)
+  listed-writes es d r c =
+      written (listed es d) (λ s. listedAt (s .dequant) (listed es d) n levels) (λ s. listedLimitedAt (s .dequant) (listed es d) n levels) (scaledAt (listed es d) n b x q levels) r c
+      (listed-at (listed es d) n q b x levels) (listed-limited-at (listed es d) n q b x levels)
 
   pub listed-skips : (es : List ℕ) (d : ℕ) → Ready narrow n q b x (length es) (length levels) (length out) p
-      → after ≡ overwrite (n * n) (listedResidualAt p (listed es d) n levels) out
-      → Writes Done after (transformSkipped narrow (listed es d) n q b x levels out)
+      → Counted (listedResidualAt p (listed es d) n levels) (listedLimitedAt (p .dequant) (listed es d) n levels) (n * n) out after m
+      → CountWrites (Limited m) after (transformSkipped narrow (listed es d) n q b x levels out)
   unfolding transformSkipped transformSkipOf listedResidualAt skippedAt
-  listed-skips es d r e =
-      written (listed es d) (λ s. listedResidualAt s (listed es d) n levels) (skippedAt (listed es d) n b x q levels) r e
-      (λ i. ap (tsResidual (tsShift (transformRange b x) b (log2Size n))) (listed-at (listed es d) n q b x levels i))
+  listed-skips es d r c =
+      written (listed es d) (λ s. listedResidualAt s (listed es d) n levels) (λ s. listedLimitedAt (s .dequant) (listed es d) n levels) (skippedAt (listed es d) n b x q levels) r c
+      (λ i. ap (tsResidual (tsShift (transformRange b x) b (log2Size n))) (listed-at (listed es d) n q b x levels i)) (listed-limited-at (listed es d) n q b x levels)

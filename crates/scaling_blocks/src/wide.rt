@@ -1,15 +1,15 @@
 // The loops over a block with 32-bit output.
 ghost use mathlib.Core.Path.{_≡_};
-ghost use Prim.Native.Nat.{_+_, _*_, _<_, _≤_};
+ghost use Prim.Native.Nat.{_*_, _≤_};
 ghost use lib.ListN.{length};
 ghost use Rattle.integers.specs.Lists.{overwrite};
 ghost use Rattle.h265.specs.ScalingFactor.ScalingList.{listed};
 ghost use Rattle.scaling_values.specs.Factor.{WholeList};
 ghost use Rattle.scaling_values.specs.Level.{Manageable};
-ghost use Rattle.scaling_values.specs.Flat.{shortAt, Short};
+ghost use Rattle.scaling_values.specs.Flat.{shortAt, shortLimitedAt, Short};
 ghost use Rattle.scaling_values.specs.Skip.{Skippable};
-ghost use Rattle.scaling_values.specs.Work.{directAt, listedAt, repeatedAt, residualAt, Room, Rows, Coefficients, Continues};
-use crate::repeats;
+ghost use Rattle.scaling_values.specs.Work.{directAt, directLimitedAt, listedAt, listedLimitedAt, residualAt, Counted, Room, Coefficients};
+use crate::spread;
 use parameters::DequantParams;
 use parameters::TransformSkipParams;
 use scaling_values::FlatParams;
@@ -17,105 +17,71 @@ use scaling_values::flat;
 use scaling_values::level;
 use scaling_values::skip;
 
-// The coefficients of a block without a list.
-pub fn scale_flat(levels: &[i32], count: usize, by: FlatParams, out: &mut [i32])
+// The coefficients of a block without a list, and how many were limited.
+pub fn scale_flat(levels: &[i32], count: usize, by: FlatParams, out: &mut [i32]) -> u16
     requires { ⌜ Short by ⌝ }
     requires { ⌜ Room count (length (now levels)) (length (now out)) ⌝ }
-    ensures { λ r. ⌜ now (out .exit) ≡ overwrite count (shortAt by (now (levels .entry))) (now (out .entry)) ⌝ }
+    requires { ⌜ count ≤ 1024 ⌝ }
+    ensures { λ r. ⌜ Counted (shortAt by (now (levels .entry))) (shortLimitedAt by (now (levels .entry))) count (now (out .entry)) (now (out .exit)) r ⌝ }
 {
+    let mut limited: u32 = 0;
     let mut i = 0;
     while i < count {
-        out[i] = flat::scaled_flat(levels[i], by);
-        i += 1;
-    }
-}
-
-// The coefficients of a block of size 4 or 8 with a list: the entry at an index is its m.
-pub fn scale_direct(levels: &[i32], count: usize, by: DequantParams, list: &[u8], out: &mut [i32])
-    requires { ⌜ Manageable by ⌝ }
-    requires { ⌜ Room count (length (now levels)) (length (now out)) ⌝ }
-    requires { ⌜ count ≤ length (now list) ⌝ }
-    ensures { λ r. ⌜ now (out .exit) ≡ overwrite count (directAt by (now (list .entry)) (now (levels .entry))) (now (out .entry)) ⌝ }
-{
-    let mut i = 0;
-    while i < count {
-        let scaled = level::scaled_listed(levels[i], list[i], by);
+        let scaled = flat::scaled_flat(levels[i], by);
         let value = scaled.value;
         out[i] = value;
+        limited += scaled.limited;
         i += 1;
     }
+    limited as u16
 }
 
-// One row of a block of size 16 or 32 with a list, index 0 by its entry too.
-pub fn scale_row(
+// The same with a list whose entries stand at the indices themselves.
+fn scale_direct(
     levels: &[i32],
-    row: usize,
-    n: usize,
-    repeats: u32,
+    count: usize,
     by: DequantParams,
-    list: &[u8],
+    entries: &[u8],
     out: &mut [i32],
-)
+) -> u16
     requires { ⌜ Manageable by ⌝ }
-    requires { ⌜ Room (n * n) (length (now levels)) (length (now out)) ⌝ }
-    requires { ⌜ length (now list) ≡ 64 ⌝ }
-    requires { ⌜ Rows n repeats ⌝ }
-    requires { ⌜ row < n ⌝ }
-    ensures { λ r. ⌜ Continues (repeatedAt by (now (list .entry)) n (now (levels .entry))) (row * n) (row * n + n) (now (out .entry)) (now (out .exit)) ⌝ }
+    requires { ⌜ Room count (length (now levels)) (length (now out)) ⌝ }
+    requires { ⌜ count ≤ length (now entries) ⌝ }
+    requires { ⌜ count ≤ 1024 ⌝ }
+    ensures { λ r. ⌜ Counted (directAt by (now (entries .entry)) (now (levels .entry))) (directLimitedAt by (now (entries .entry)) (now (levels .entry))) count (now (out .entry)) (now (out .exit)) r ⌝ }
 {
-    let at = row * n;
-    let entry = (row >> repeats) * 8;
-    let mut c = 0;
-    while c < n {
-        let m = list[entry + (c >> repeats)];
-        let scaled = level::scaled_listed(levels[at + c], m, by);
+    let mut limited: u32 = 0;
+    let mut i = 0;
+    while i < count {
+        let scaled = level::scaled_listed(levels[i], entries[i], by);
         let value = scaled.value;
-        out[at + c] = value;
-        c += 1;
+        out[i] = value;
+        limited += level::limited_once(scaled);
+        i += 1;
     }
+    limited as u16
 }
 
-// Its rows.
-pub fn scale_rows(
-    levels: &[i32],
-    n: usize,
-    repeats: u32,
-    by: DequantParams,
-    list: &[u8],
-    out: &mut [i32],
-)
-    requires { ⌜ Manageable by ⌝ }
-    requires { ⌜ Room (n * n) (length (now levels)) (length (now out)) ⌝ }
-    requires { ⌜ length (now list) ≡ 64 ⌝ }
-    requires { ⌜ Rows n repeats ⌝ }
-    ensures { λ r. ⌜ now (out .exit) ≡ overwrite (n * n) (repeatedAt by (now (list .entry)) n (now (levels .entry))) (now (out .entry)) ⌝ }
-{
-    let mut row = 0;
-    while row < n {
-        scale_row(levels, row, n, repeats, by, list, out);
-        row += 1;
-    }
-}
-
-// The coefficients of a block of size 16 or 32 with a list.
-pub fn scale_repeated(
+// The coefficients of a block with a list, and how many were limited. At sizes 4 and 8 the entry at an index is its m.
+pub fn scale_listed(
     levels: &[i32],
     n: usize,
     by: DequantParams,
     list: &[u8],
     dc: u8,
     out: &mut [i32],
-)
+) -> u16
     requires { ⌜ Manageable by ⌝ }
     requires { ⌜ Room (n * n) (length (now levels)) (length (now out)) ⌝ }
     requires { ⌜ WholeList (length (now list)) n ⌝ }
-    requires { ⌜ 16 ≤ n ⌝ }
-    ensures { λ r. ⌜ now (out .exit) ≡ overwrite (n * n) (listedAt by (listed (now (list .entry)) dc) n (now (levels .entry))) (now (out .entry)) ⌝ }
+    ensures { λ r. ⌜ Counted (listedAt by (listed (now (list .entry)) dc) n (now (levels .entry))) (listedLimitedAt by (listed (now (list .entry)) dc) n (now (levels .entry))) (n * n) (now (out .entry)) (now (out .exit)) r ⌝ }
 {
-    scale_rows(levels, n, repeats::repeats_of(n), by, list, out);
-    let scaled = level::scaled_listed(levels[0], dc, by);
-    let value = scaled.value;
-    out[0] = value;
+    if n <= 8 {
+        return scale_direct(levels, n * n, by, list, out);
+    }
+    let mut entries = [0u8; 1024];
+    spread::spread(list, n, dc, &mut entries);
+    scale_direct(levels, n * n, by, &entries, out)
 }
 
 // Coefficients turned into residuals, where they stand.

@@ -1,13 +1,14 @@
 // Replays scaling and transform skip from standard input. A case is a text, which is written as it is, and a byte that says which: 0 m, 1 one level, else a block:
 // 2 and 3 scaling without a list and with one, 4 and 5 transform skip, with 32-bit output, and 6 to 9 the same with 16-bit output. Then come size, index, QP′ and level, of
 // 8, 8, 4 and 4 bytes; depth, flag and DC, a byte each; the lengths of list, levels and output, two bytes each; list and levels. An output is lent with 7
-// throughout. The text goes on with the answer, and the value or the output. tests/scaling_cases.py writes cases and text.
+// throughout. The text goes on with the answer, and the value with what was limited, or the count of limited coefficients and the output. tests/scaling_cases.py writes cases and text.
 ghost use Prim.Native.Nat.{_≤_};
 use libc::STDIN_FILENO;
 use parameters::QpPrime;
 use refusal::Answer;
 use scaling::FactorAnswer;
 use scaling::LevelAnswer;
+use scaling_blocks::CountAnswer;
 
 struct Case {
     which: u8,
@@ -51,6 +52,28 @@ fn factor(case: Case, list: &[u8]) {
     }
 }
 
+fn put_limited(limited: bool) {
+    if limited {
+        cases::put(1);
+    } else {
+        cases::put(0);
+    }
+}
+
+// The answer, and how many coefficients were limited.
+fn put_count(answer: CountAnswer) {
+    match answer {
+        CountAnswer::Limited(limited) => {
+            cases::put_answer(Answer::Done);
+            cases::put(limited as u64);
+        }
+        CountAnswer::Refused(why) => {
+            cases::put_refusal(why);
+            cases::put(0);
+        }
+    }
+}
+
 // With DC as m.
 fn level(case: Case) {
     let qp = QpPrime(case.qp);
@@ -65,12 +88,14 @@ fn level(case: Case) {
         LevelAnswer::Level(scaled) => {
             cases::put_answer(Answer::Done);
             cases::put_signed(scaled.value);
+            put_limited(scaled.level_limited);
+            put_limited(scaled.result_limited);
         }
         LevelAnswer::Refused(why) => cases::put_refusal(why),
     }
 }
 
-fn scale_wide(case: Case, list: &[u8], levels: &[i32], out: &mut [i32]) -> Answer {
+fn scale_wide(case: Case, list: &[u8], levels: &[i32], out: &mut [i32]) -> CountAnswer {
     let which = case.which;
     let n = case.n;
     let qp = QpPrime(case.qp);
@@ -110,7 +135,7 @@ fn scale_wide(case: Case, list: &[u8], levels: &[i32], out: &mut [i32]) -> Answe
     }
 }
 
-fn scale_narrow(case: Case, list: &[u8], levels: &[i32], out: &mut [i16]) -> Answer {
+fn scale_narrow(case: Case, list: &[u8], levels: &[i32], out: &mut [i16]) -> CountAnswer {
     let which = case.which;
     let n = case.n;
     let qp = QpPrime(case.qp);
@@ -151,12 +176,12 @@ fn scale_narrow(case: Case, list: &[u8], levels: &[i32], out: &mut [i16]) -> Ans
 }
 
 fn wide(case: Case, list: &[u8], levels: &[i32], out: &mut [i32]) {
-    cases::put_answer(scale_wide(case, list, levels, out));
+    put_count(scale_wide(case, list, levels, out));
     cases::put_wide(out);
 }
 
 fn narrow(case: Case, list: &[u8], levels: &[i32], out: &mut [i16]) {
-    cases::put_answer(scale_narrow(case, list, levels, out));
+    put_count(scale_narrow(case, list, levels, out));
     cases::put_narrow(out);
 }
 

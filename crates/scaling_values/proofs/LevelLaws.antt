@@ -4,16 +4,18 @@
 --   levelBy-within                a coefficient is at most 2^22 in size
 --   flatLevel-…, listedLevel-…    the same of a level without a list, and of one with the m of a list
 --   raised-high, raised-within    a limit by one end after the other is the limit
+--   moved-outside                 a limit changes what lies outside its ends, and nothing else
 --   dequantOf-manageable          the numbers of every block are manageable
 --   flatLevel-eq, listedLevel-eq  the machine's numbers of a block give clause 8.6's coefficient
+--   outsideBy-eq, listedResult-eq, listedLimited-eq   and tell what was limited
 use mathlib.Core.Path.{_≡_, refl, sym, ap, subst, _∙_}
-use mathlib.Core.Bool.{Bool, true, false, cond}
+use mathlib.Core.Bool.{Bool, true, false, _||_, cond}
 use Prim.Native.Nat.{ℕ, _+_, _-_, _*_}
 use native.Mathlib.Nat.{mul-le-mul-left}
 use native.Mathlib.Omega.{arith}
 use lib.IntN.{ℤ, pos, negsuc, natAbs, _*ℤ_, *ℤ-comm, pos-*ℤ-pos}
 use lib.Pow.{pow-mono}
-use lib.Signed.{ltZ, _≤ℤ_, clashℤ}
+use lib.Signed.{ltZ, _≤ℤ_, ≤ℤ-refl, clashℤ}
 use mir.Syntax.{Width, w32}
 use mir.Val.{SFits}
 use Rattle.integers.specs.Clip.{clip3}
@@ -21,17 +23,18 @@ use Rattle.integers.specs.Shift.{shiftRight, roundShift}
 use Rattle.integers.specs.Within.{Within}
 use Rattle.integers.proofs.LinearLaws.{le-in}
 use Rattle.integers.proofs.OrderLaws.{*ℤ-assoc}
-use Rattle.integers.proofs.MachineLaws.{ltZ-true, sfits-posPart, sfits-negPart}
+use Rattle.integers.proofs.MachineLaws.{ltZ-true, ltZ-false, ltZ-of-le, sfits-posPart, sfits-negPart}
 use Rattle.integers.proofs.BoundLaws.{within-fits, within-pos, within-le}
-use Rattle.integers.proofs.ClipLaws.{clip3-cases, clip3-within}
-use Rattle.h265.specs.Range.{transformRange, clipCoeff}
+use Rattle.integers.proofs.ClipLaws.{clip3-low, clip3-high, clip3-id, clip3-cases, clip3-within}
+use Rattle.h265.specs.Range.{transformRange, clipCoeff, outsideRange}
 use Rattle.h265.proofs.RangeLaws.{transformRange-least, transformRange-most, coeffMin-within, coeffMax-within, coeffMin-≤-coeffMax}
 use Rattle.h265.proofs.QuantizationLaws.{clipQpPrime-bound, scaleOfQp-bound}
 use Rattle.h265.specs.Quantization.{clipQpPrime, scaleOfQp}
 use Rattle.h265.specs.Scaling.{bdShift, scaledValue, scaleLevel}
+use Rattle.h265.specs.Limited.{levelLimited, resultLimited, limitedLevel}
 use Rattle.parameters.specs.declared.DequantParams.{DequantParams}
 use Rattle.parameters.specs.Parameters.{dequantOf, KnownSize}
-use Rattle.scaling_values.specs.Level.{levelBy, flatLevel, listedLevel, Manageable, Ends}
+use Rattle.scaling_values.specs.Level.{levelBy, flatLevel, listedLevel, outsideBy, resultBy, listedResult, listedLimited, Manageable, Ends}
 
 -- ---- ranges
 pub between-fits : {w : Width} (lo hi x : ℤ) → SFits w lo → SFits w hi → lo ≤ℤ x → x ≤ℤ hi → SFits w x
@@ -82,6 +85,20 @@ module _ (lo hi x : ℤ) (h : lo ≤ℤ hi) where
       by-test true q = refl
       by-test false q = rw q
 
+-- ---- what a limit changes
+module _ (lo hi x : ℤ) (h : lo ≤ℤ hi) where
+  pub moved-outside : {v : ℤ} → v ≡ clip3 lo hi x → (ltZ x v || ltZ v x) ≡ (ltZ x lo || ltZ hi x)
+  moved-outside {v} e = ap (λ (y : ℤ). ltZ x y || ltZ y x) e ∙ by-tests (ltZ x lo) (ltZ hi x) refl refl
+    where
+      by-tests : (a b : Bool) → ltZ x lo ≡ a → ltZ hi x ≡ b → (ltZ x (clip3 lo hi x) || ltZ (clip3 lo hi x) x) ≡ a || b
+      by-tests true b p q = rw (clip3-low lo hi x (ltZ-true p), p)
+      by-tests false true p q = rw (clip3-high lo hi x (ltZ-false p) (ltZ-true q), q) (by-end (ltZ x hi))
+        where
+          by-end : (c : Bool) → (c || true) ≡ true
+          by-end true = refl
+          by-end false = refl
+      by-tests false false p q = rw (clip3-id lo hi x (ltZ-false p) (ltZ-false q), ltZ-of-le (≤ℤ-refl x))
+
 -- ---- clause 8.6
 pub dequantOf-manageable : (l : ℕ) (q : ℤ) (b : ℕ) (x : Bool) → KnownSize l b → Manageable (dequantOf l q b x)
 unfolding dequantOf bdShift
@@ -121,3 +138,18 @@ module _ (l : ℕ) (q : ℤ) (b : ℕ) (x : Bool) where
   unfolding listedLevel dequantOf
   listedLevel-eq m level =
       levelBy-eq m (shiftRight (pos (16 * scale)) 4 *ℤ pos m) level (ap (λ (z : ℤ). z *ℤ pos m) base-eq ∙ *ℤ-comm (pos scale) (pos m))
+
+  -- what was limited
+  pub outsideBy-eq : (z : ℤ) → outsideBy (dequantOf l q b x) z ≡ outsideRange (transformRange b x) z
+  unfolding outsideBy dequantOf outsideRange
+  outsideBy-eq z = refl
+
+  pub listedResult-eq : (m : ℕ) (level : ℤ)
+      → listedResult (dequantOf l q b x) m level ≡ scaledValue (bdShift b l (transformRange b x)) (natAbs (clipQpPrime b q)) m (clipCoeff (transformRange b x) level)
+  unfolding listedResult resultBy dequantOf scaledValue roundShift clipCoeff
+  listedResult-eq m level = rw (base-eq, *ℤ-comm (pos scale) (pos m), *ℤ-assoc)
+
+  pub listedLimited-eq : (m : ℕ) (level : ℤ)
+      → listedLimited (dequantOf l q b x) m level ≡ limitedLevel (transformRange b x) (bdShift b l (transformRange b x)) (natAbs (clipQpPrime b q)) m level
+  unfolding listedLimited limitedLevel levelLimited resultLimited
+  listedLimited-eq m level = rw (outsideBy-eq level, outsideBy-eq (listedResult (dequantOf l q b x) m level), listedResult-eq m level)

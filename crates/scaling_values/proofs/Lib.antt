@@ -1,6 +1,8 @@
 -- Laws that belong to no one function.
 pub mod FactorLaws
+pub mod CountLaws
 pub mod LevelLaws
+pub mod DivisionLaws
+pub mod ThresholdLaws
 pub mod FlatLaws
-pub mod PlainLaws
 pub mod SkipLaws

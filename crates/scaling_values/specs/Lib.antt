@@ -1,6 +1,5 @@
 pub mod Factor
 pub mod Level
-pub mod Plain
 pub mod Flat
 pub mod Skip
 pub mod Work

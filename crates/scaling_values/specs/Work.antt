@@ -1,14 +1,17 @@
 -- Whole blocks by the machine's numbers, as the working functions below the refusals have them.
 --   flatAt, listedAt                 the coefficient at an index of a block of levels
---   directAt                         the same at sizes 4 and 8
---   repeatedAt                       the same at sizes 16 and 32 by the list alone, at index 0 too
---   flatResidualAt, listedResidualAt the residual there
+--   directAt                         the same by entries that stand at the index itself
+--   flatLimitedAt, listedLimitedAt, directLimitedAt   level or result was limited there
+--   spreadAt                         the entry of a list that stands for an index at sizes 16 and 32, at index 0 too
+--   flatResidualAt, listedResidualAt the residual at an index
 --   residualAt                       the residual of the coefficient at an index
+--   Counted f g k xs ys r            ys is xs with its first k elements replaced by f, and g holds at r of the first k indices
 --   Room count input output          both buffers hold the block
 --   Rows n r                         a size at which an entry stands for 2^r columns and rows
 --   Coefficients count xs            the first elements are coefficients
---   Continues f i j ys zs            where ys has f at the indices below i, zs has f at those below j
+--   Fills f i j xs ys                where xs has f at the indices below i, ys has f at those below j
 use mathlib.Core.Path.{_≡_}
+use mathlib.Core.Bool.{Bool}
 use mathlib.Core.List.{List}
 use Prim.Native.Nat.{ℕ, _-_, _≤_, _<_}
 use lib.Dec.{T}
@@ -16,12 +19,13 @@ use lib.IntN.{ℤ, pos}
 use lib.ListN.{length, getD}
 use Rattle.integers.specs.Lists.{overwrite}
 use Rattle.integers.specs.Within.{Within}
+use Rattle.h265.specs.Limited.{countOf}
 use Rattle.h265.specs.Range.{isSize, log2Size}
 use Rattle.h265.specs.ScalingFactor.{ScalingList, repeatedPosition, scalingFactor}
 use Rattle.h265.specs.TransformSkip.{tsResidual}
 use Rattle.parameters.specs.declared.DequantParams.{DequantParams}
 use Rattle.parameters.specs.declared.TransformSkipParams.{TransformSkipParams}
-use Rattle.scaling_values.specs.Level.{flatLevel, listedLevel}
+use Rattle.scaling_values.specs.Level.{flatLevel, listedLevel, listedLimited}
 
 unfoldable pub flatAt : DequantParams → List ℤ → ℕ → ℤ
 flatAt p levels i = flatLevel p (getD levels i (pos 0))
@@ -32,8 +36,17 @@ listedAt p list n levels i = listedLevel p (scalingFactor list n i) (getD levels
 unfoldable pub directAt : DequantParams → List ℕ → List ℤ → ℕ → ℤ
 directAt p entries levels i = listedLevel p (getD entries i 0) (getD levels i (pos 0))
 
-unfoldable pub repeatedAt : DequantParams → List ℕ → ℕ → List ℤ → ℕ → ℤ
-repeatedAt p entries n levels i = listedLevel p (getD entries (repeatedPosition n i) 0) (getD levels i (pos 0))
+unfoldable pub flatLimitedAt : DequantParams → List ℤ → ℕ → Bool
+flatLimitedAt p levels i = listedLimited p 16 (getD levels i (pos 0))
+
+unfoldable pub listedLimitedAt : DequantParams → ScalingList → ℕ → List ℤ → ℕ → Bool
+listedLimitedAt p list n levels i = listedLimited p (scalingFactor list n i) (getD levels i (pos 0))
+
+unfoldable pub directLimitedAt : DequantParams → List ℕ → List ℤ → ℕ → Bool
+directLimitedAt p entries levels i = listedLimited p (getD entries i 0) (getD levels i (pos 0))
+
+unfoldable pub spreadAt : List ℕ → ℕ → ℕ → ℕ
+spreadAt entries n i = getD entries (repeatedPosition n i) 0
 
 unfoldable pub flatResidualAt : TransformSkipParams → List ℤ → ℕ → ℤ
 flatResidualAt p levels i = tsResidual (p .«tr_shift») (flatAt (p .dequant) levels i)
@@ -43,6 +56,10 @@ listedResidualAt p list n levels i = tsResidual (p .«tr_shift») (listedAt (p .
 
 unfoldable pub residualAt : ℤ → List ℤ → ℕ → ℤ
 residualAt t coefficients i = tsResidual t (getD coefficients i (pos 0))
+
+pub record Counted (f : ℕ → ℤ) (g : ℕ → Bool) (k : ℕ) (xs ys : List ℤ) (r : ℕ) : Type 0 where
+  pub out : ys ≡ overwrite k f xs
+  pub count : r ≡ countOf g k
 
 pub record Room (count input output : ℕ) : Type 0 where
   pub levels : count ≤ input
@@ -56,6 +73,6 @@ pub record Rows (n r : ℕ) : Type 0 where
 pub record Coefficients (count : ℕ) (xs : List ℤ) : Type 0 where
   pub at : (i : ℕ) → i < count → Within 4194304 (getD xs i (pos 0))
 
-pub record Continues (f : ℕ → ℤ) (i j : ℕ) (ys zs : List ℤ) : Type 0 where
-  pub same : length zs ≡ length ys
-  pub more : (xs : List ℤ) → i ≤ length xs → ys ≡ overwrite i f xs → zs ≡ overwrite j f xs
+pub record Fills (f : ℕ → ℕ) (i j : ℕ) (xs ys : List ℕ) : Type 0 where
+  pub same : length ys ≡ length xs
+  pub more : ((k : ℕ) → k < i → getD xs k 0 ≡ f k) → (k : ℕ) → k < j → getD ys k 0 ≡ f k

@@ -1,37 +1,38 @@
-// One level without a list in 32 bits, at every range. Levels from `top` on all give coefficients past the range, so that a level limited to `top` has
-// the same coefficient, and 32 bits hold its product.
+// One level without a list in 32 bits, at every range. Two levels of a block bound those that nothing limits, so that one pair of tests before
+// the product tells what was limited, nothing is limited after it, and 32 bits hold it.
 ghost use mathlib.Core.Path.{_≡_};
-ghost use Rattle.integers.specs.Clip.{clip3};
-ghost use Rattle.scaling_values.specs.Flat.{shortLevel, Dividend, Tops, Regular, FlatFor, Short};
+ghost use Rattle.scaling_values.specs.Flat.{Regular, Divided, TopOf, LowOf, FlatFor, Short, FlatScaled};
 ghost use Rattle.scaling_values.specs.Level.{Manageable};
+use crate::FlatLevel;
 use crate::FlatParams;
+use crate::level;
 use parameters::DequantParams;
 
-fn limited(lo: i32, hi: i32, x: i32) -> i32
-    ensures { λ r. ⌜ r ≡ clip3 lo hi x ⌝ }
+// The largest level that nothing limits.
+fn top_level(base: u32, add: u32, most: u32, shift: u32) -> u32
+    requires { ⌜ Divided base add shift most ⌝ }
+    ensures { λ r. ⌜ TopOf base add shift most r ⌝ }
 {
-    if x < lo {
-        return lo;
-    }
-    if hi < x {
-        return hi;
-    }
-    x
-}
-
-// The largest level that need be told from smaller ones: the largest of the range, or one whose coefficient lies past it. The one division of a block.
-fn top_level(base: u32, most: u32, shift: u32) -> u32
-    requires { ⌜ Dividend base most shift ⌝ }
-    ensures { λ r. ⌜ Tops base most shift r ⌝ }
-{
-    let enough = ((most + 1) << shift) / base + 1;
+    let enough = (((most + 1) << shift) - 1 - add) / base;
     if most < enough {
         return most;
     }
     enough
 }
 
-// The numbers for it: the 4 bits of m = 16 are shifted out of factor and rounding.
+// The size of the least one.
+fn low_level(base: u32, add: u32, most: u32, shift: u32) -> u32
+    requires { ⌜ Divided base add shift most ⌝ }
+    ensures { λ r. ⌜ LowOf base add shift most r ⌝ }
+{
+    let enough = (((most + 1) << shift) + add) / base;
+    if most < enough {
+        return most + 1;
+    }
+    enough
+}
+
+// The numbers of a block: the 4 bits of m = 16 are shifted out of factor and rounding.
 pub fn flat_params(by: DequantParams) -> FlatParams
     requires { ⌜ Manageable by ⌝ }
     requires { ⌜ Regular by ⌝ }
@@ -40,27 +41,43 @@ pub fn flat_params(by: DequantParams) -> FlatParams
     let base = integers::shift_right(by.factor, 4);
     let add = integers::shift_right(by.add, 4);
     let shift = by.shift - 4;
-    let top = top_level(base as u32, by.clip_max as u32, shift) as i32;
+    let most = by.clip_max as u32;
+    let largest = top_level(base as u32, add as u32, most, shift);
+    let least = low_level(base as u32, add as u32, most, shift);
+    let top = largest as i32;
+    let low = 0 - (least as i32);
+    let under = level::scaled_listed(low - 1, 16, by);
+    let over = level::scaled_listed(top + 1, 16, by);
     FlatParams {
         base: base as i32,
         add: add as i32,
         shift,
-        low: 0 - top - 1,
+        low,
         top,
-        clip_min: by.clip_min as i32,
-        clip_max: by.clip_max as i32,
+        under: under.value,
+        over: over.value,
     }
 }
 
 // A level without a list.
-pub fn scaled_flat(level: i32, by: FlatParams) -> i32
+pub fn scaled_flat(level: i32, by: FlatParams) -> FlatLevel
     requires { ⌜ Short by ⌝ }
-    ensures { λ r. ⌜ r ≡ shortLevel by level ⌝ }
+    ensures { λ r. ⌜ FlatScaled by level r ⌝ }
 {
-    let near = limited(by.low, by.top, level);
-    limited(
-        by.clip_min,
-        by.clip_max,
-        (near * by.base + by.add) >> by.shift,
-    )
+    if level < by.low {
+        return FlatLevel {
+            value: by.under,
+            limited: 1,
+        };
+    }
+    if by.top < level {
+        return FlatLevel {
+            value: by.over,
+            limited: 1,
+        };
+    }
+    FlatLevel {
+        value: (level * by.base + by.add) >> by.shift,
+        limited: 0,
+    }
 }

@@ -2,27 +2,29 @@
 // Internal: no refusal; callers meet each `requires`.
 pub mod flat;
 pub mod level;
-pub mod plain;
 pub mod skip;
 
+// The coefficient of a level, whether the level was limited, and whether the result was.
 pub struct ScaledLevel {
     pub value: i32,
+    pub level_limited: bool,
+    pub result_limited: bool,
 }
 
-// The numbers of a block without a list whose factor fits 16 bits.
-pub struct PlainParams {
-    pub base: i16,
-    pub add: i32,
-    pub shift: u32,
+// The coefficient of a level without a list, and 1 where the level or the result was limited.
+pub struct FlatLevel {
+    pub value: i32,
+    pub limited: u32,
 }
 
-// The numbers of any block without a list, in 32 bits.
+// The numbers of a block without a list: `low` and `top` are the least and the largest level that nothing limits, `under` and `over` the
+// coefficients past them.
 pub struct FlatParams {
     pub base: i32,
     pub add: i32,
     pub shift: u32,
     pub low: i32,
     pub top: i32,
-    pub clip_min: i32,
-    pub clip_max: i32,
+    pub under: i32,
+    pub over: i32,
 }

@@ -1,15 +1,15 @@
 // Scaling and transform skip of whole blocks with 32-bit output, with and without a list.
 ghost use mathlib.Core.Path.{_≡_};
 ghost use Rattle.h265.specs.ScalingFactor.ScalingList.{flat, listed};
-ghost use Rattle.scaling_blocks.specs.Blocks.{bits32, dequantized, transformSkipped, Writes};
+ghost use Rattle.scaling_blocks.specs.Blocks.{bits32, dequantized, transformSkipped, CountWrites};
 use parameters::QpPrime;
 use parameters::TransformSkipAnswer;
-use refusal::Answer;
+use scaling_blocks::CountAnswer;
 use scaling_blocks::refuse;
 use scaling_blocks::wide;
 use scaling_values::flat;
 
-// The coefficients of a block without a list.
+// The coefficients of a block without a list, and how many were limited.
 pub fn dequantize_into_scalar_i32(
     levels: &[i32],
     n: usize,
@@ -17,8 +17,8 @@ pub fn dequantize_into_scalar_i32(
     bit_depth: u8,
     extended_precision: bool,
     out: &mut [i32],
-) -> Answer
-    ensures { λ r. ⌜ Writes r (now (out .exit)) (dequantized bits32 flat n («qp_prime» .0) «bit_depth» «extended_precision» (now (levels .entry)) (now (out .entry))) ⌝ }
+) -> CountAnswer
+    ensures { λ r. ⌜ CountWrites r (now (out .exit)) (dequantized bits32 flat n («qp_prime» .0) «bit_depth» «extended_precision» (now (levels .entry)) (now (out .entry))) ⌝ }
 {
     let found = refuse::block_params(
         false,
@@ -33,14 +33,13 @@ pub fn dequantize_into_scalar_i32(
     match found {
         TransformSkipAnswer::Params(by) => {
             let dequant = by.dequant;
-            wide::scale_flat(levels, n * n, flat::flat_params(dequant), out);
-            Answer::Done
+            CountAnswer::Limited(wide::scale_flat(levels, n * n, flat::flat_params(dequant), out))
         }
-        TransformSkipAnswer::Refused(why) => Answer::Refused(why),
+        TransformSkipAnswer::Refused(why) => CountAnswer::Refused(why),
     }
 }
 
-// The coefficients of a block with a list.
+// The coefficients of a block with a list, and how many were limited.
 pub fn dequantize_scaled_into_scalar_i32(
     levels: &[i32],
     n: usize,
@@ -50,8 +49,8 @@ pub fn dequantize_scaled_into_scalar_i32(
     list: &[u8],
     dc: u8,
     out: &mut [i32],
-) -> Answer
-    ensures { λ r. ⌜ Writes r (now (out .exit)) (dequantized bits32 (listed (now (list .entry)) dc) n («qp_prime» .0) «bit_depth» «extended_precision» (now (levels .entry)) (now (out .entry))) ⌝ }
+) -> CountAnswer
+    ensures { λ r. ⌜ CountWrites r (now (out .exit)) (dequantized bits32 (listed (now (list .entry)) dc) n («qp_prime» .0) «bit_depth» «extended_precision» (now (levels .entry)) (now (out .entry))) ⌝ }
 {
     let found = refuse::block_params(
         false,
@@ -65,20 +64,14 @@ pub fn dequantize_scaled_into_scalar_i32(
     );
     match found {
         TransformSkipAnswer::Params(by) => {
-            if n <= 8 {
-                let dequant = by.dequant;
-                wide::scale_direct(levels, n * n, dequant, list, out);
-            } else {
-                let dequant = by.dequant;
-                wide::scale_repeated(levels, n, dequant, list, dc, out);
-            }
-            Answer::Done
+            let dequant = by.dequant;
+            CountAnswer::Limited(wide::scale_listed(levels, n, dequant, list, dc, out))
         }
-        TransformSkipAnswer::Refused(why) => Answer::Refused(why),
+        TransformSkipAnswer::Refused(why) => CountAnswer::Refused(why),
     }
 }
 
-// The residuals of a block without a list.
+// The residuals of a block without a list, and how many of its coefficients were limited.
 pub fn dequantize_transform_skip_into_scalar_i32(
     levels: &[i32],
     n: usize,
@@ -86,8 +79,8 @@ pub fn dequantize_transform_skip_into_scalar_i32(
     bit_depth: u8,
     extended_precision: bool,
     out: &mut [i32],
-) -> Answer
-    ensures { λ r. ⌜ Writes r (now (out .exit)) (transformSkipped bits32 flat n («qp_prime» .0) «bit_depth» «extended_precision» (now (levels .entry)) (now (out .entry))) ⌝ }
+) -> CountAnswer
+    ensures { λ r. ⌜ CountWrites r (now (out .exit)) (transformSkipped bits32 flat n («qp_prime» .0) «bit_depth» «extended_precision» (now (levels .entry)) (now (out .entry))) ⌝ }
 {
     let found = refuse::block_params(
         false,
@@ -103,15 +96,15 @@ pub fn dequantize_transform_skip_into_scalar_i32(
         TransformSkipAnswer::Params(by) => {
             let count = n * n;
             let dequant = by.dequant;
-            wide::scale_flat(levels, count, flat::flat_params(dequant), out);
+            let limited = wide::scale_flat(levels, count, flat::flat_params(dequant), out);
             wide::skip_block(count, by, out);
-            Answer::Done
+            CountAnswer::Limited(limited)
         }
-        TransformSkipAnswer::Refused(why) => Answer::Refused(why),
+        TransformSkipAnswer::Refused(why) => CountAnswer::Refused(why),
     }
 }
 
-// The residuals of a block with a list.
+// The residuals of a block with a list, and how many of its coefficients were limited.
 pub fn dequantize_transform_skip_scaled_into_scalar_i32(
     levels: &[i32],
     n: usize,
@@ -121,8 +114,8 @@ pub fn dequantize_transform_skip_scaled_into_scalar_i32(
     list: &[u8],
     dc: u8,
     out: &mut [i32],
-) -> Answer
-    ensures { λ r. ⌜ Writes r (now (out .exit)) (transformSkipped bits32 (listed (now (list .entry)) dc) n («qp_prime» .0) «bit_depth» «extended_precision» (now (levels .entry)) (now (out .entry))) ⌝ }
+) -> CountAnswer
+    ensures { λ r. ⌜ CountWrites r (now (out .exit)) (transformSkipped bits32 (listed (now (list .entry)) dc) n («qp_prime» .0) «bit_depth» «extended_precision» (now (levels .entry)) (now (out .entry))) ⌝ }
 {
     let found = refuse::block_params(
         false,
@@ -137,16 +130,11 @@ pub fn dequantize_transform_skip_scaled_into_scalar_i32(
     match found {
         TransformSkipAnswer::Params(by) => {
             let count = n * n;
-            if n <= 8 {
-                let dequant = by.dequant;
-                wide::scale_direct(levels, count, dequant, list, out);
-            } else {
-                let dequant = by.dequant;
-                wide::scale_repeated(levels, n, dequant, list, dc, out);
-            }
+            let dequant = by.dequant;
+            let limited = wide::scale_listed(levels, n, dequant, list, dc, out);
             wide::skip_block(count, by, out);
-            Answer::Done
+            CountAnswer::Limited(limited)
         }
-        TransformSkipAnswer::Refused(why) => Answer::Refused(why),
+        TransformSkipAnswer::Refused(why) => CountAnswer::Refused(why),
     }
 }

@@ -1,38 +1,38 @@
--- `scaling_narrow::dequantize_into_scalar_i16` meets its contract: refused where the numbers of the block are, else what `scale_plain` wrote is what
--- the definition says, since the numbers of a block with 16-bit output are plain.
-use mathlib.Core.Path.{_≡_, sym, ap, subst, _∙_}
+-- `scaling_narrow::dequantize_into_scalar_i16` meets its contract: refused where the numbers of the block are, else what was written and counted is
+-- what the definition says.
+use mathlib.Core.Path.{_≡_, sym, ap, _∙_}
 use Prim.Native.Nat.{_*_}
 use native.Mathlib.Omega.{arith}
 use borrow.Author.Needs.{needs}
 use lib.ListN.{length}
-use Rattle.integers.specs.Lists.{overwrite}
+use mir.Syntax.{w16}
 use Rattle.h265.specs.ScalingFactor.ScalingList.{flat}
 use Rattle.h265.specs.Scaling.{scaledAt}
 use Rattle.refusal.specs.Outcome.{refused}
 use Rattle.parameters.specs.Answers.{noTransformSkip, transformSkipOutcome}
-use Rattle.scaling_values.specs.declared.PlainParams.{PlainParams}
 use Rattle.scaling_blocks.specs.Blocks.{bits16, dequantized, blockParams}
-use Rattle.scaling_values.specs.Plain.{plainAt, Plain, Small}
-use Rattle.scaling_blocks.proofs.BlockLaws.{Ready, block-ready, block-refused, flat-writes, narrow-plain}
-use Rattle.scaling_values.proofs.PlainLaws.{plainOf-small, plain-overwrite}
+use Rattle.scaling_values.specs.Level.{Ends}
+use Rattle.scaling_blocks.proofs.BlockLaws.{Ready, block-ready, ready-regular, block-refused, narrow-ends, flat-writes}
+use Rattle.scaling_values.proofs.FlatLaws.{flatFor-short, flatFor-fits, flat-counted}
 use Rattle.scaling_narrow.proofs.dequantize_into_scalar_i16.Statement.{statement}
 use Rattle.scaling_narrow.proofs.dequantize_into_scalar_i16.Tie as tie
 
 -- what the numbers answered
-ready : (c : tie.After-found) → let a = c .before .before .before .args in Ready bits16 (a .n) (a .qp-prime .0) (a .bit-depth) (a .extended-precision) 64 (length (a .levels .now)) (length (a .out .now)) (c .found .given .0 .0)
+ready : (c : tie.After-found)
+    → let a = c .before .before .before .args in Ready bits16 (a .n) (a .qp-prime .0) (a .bit-depth) (a .extended-precision) 64 (length (a .levels .now)) (length (a .out .now)) (c .found .given .0 .0)
 ready c =
     let a = c .before .before .before .args in
     block-ready bits16 (a .n) (a .qp-prime .0) (a .bit-depth) (a .extended-precision) 64 (length (a .levels .now)) (length (a .out .now)) (c .found .given .0 .0)
     (sym (ap transformSkipOutcome (c .found .given .1)) ∙ c .before .before .block-params .ensures)
 
-plain : (c : tie.After-found) → Plain (c .found .given .0 .0 .dequant)
-plain c =
-    let a = c .before .before .before .args in
-    narrow-plain (a .n) (a .qp-prime .0) (a .bit-depth) (a .extended-precision) 64 (length (a .levels .now)) (length (a .out .now)) (c .found .given .0 .0) (ready c)
-
 is-refused : (c : tie.After-found2)
     → let a = c .before .before .before .args in refused noTransformSkip (c .found2 .given .0 .0) ≡ blockParams bits16 (a .n) (a .qp-prime .0) (a .bit-depth) (a .extended-precision) 64 (length (a .levels .now)) (length (a .out .now))
 is-refused c = sym (ap transformSkipOutcome (c .found2 .given .1)) ∙ c .before .before .block-params .ensures
+
+ends : (c : tie.After-found) → Ends w16 (c .found .given .0 .0 .dequant)
+ends c =
+    let a = c .before .before .before .args in
+    narrow-ends (a .n) (a .qp-prime .0) (a .bit-depth) (a .extended-precision) 64 (length (a .levels .now)) (length (a .out .now)) (c .found .given .0 .0) (ready c)
 
 block-params-requires : tie.Need-block-params-requires
 block-params-requires c κs = search needs
@@ -40,16 +40,17 @@ block-params-requires c κs = search needs
 enum-known-found : tie.Need-enum-known-found
 enum-known-found c = search needs
 
-mul-scale-plain : tie.Need-mul-scale-plain
-mul-scale-plain c = omega (arith, ready (c .before .before) .square)
+mul-scale-flat : tie.Need-mul-scale-flat
+mul-scale-flat c = omega (arith, ready (c .before .before) .square)
 
-plain-params-requires : tie.Need-plain-params-requires
-plain-params-requires c κs = plain (c .before .before)
+flat-params-requires : tie.Need-flat-params-requires
+flat-params-requires c κs = let r = ready (c .before .before) in (r .skippable .scaling, ready-regular r)
 
-scale-plain-requires : tie.Need-scale-plain-requires
-scale-plain-requires c κs =
+scale-flat-requires : tie.Need-scale-flat-requires
+scale-flat-requires c κs =
     let f = c .before .before .before .before in
-    (subst Small (sym (c .before .plain-params .ensures)) (plainOf-small (plain f)), ready f .room)
+    let r = ready f in
+    (flatFor-short (ready-regular r) (c .before .flat-params .ensures) (r .skippable .scaling), (r .room, (r .square, flatFor-fits (ready-regular r) (c .before .flat-params .ensures) (ends f))))
 
 enum-known-found-2 : tie.Need-enum-known-found-2
 enum-known-found-2 c = search needs
@@ -59,13 +60,11 @@ same-length c = search needs
 
 returns : tie.Need-returns
 returns c =
-    let k = c .before .before .before in
-    let f = k .before .before .before in
+    let w = c .before in
+    let f = w .before .before .before .before .before in
     let a = f .before .before .before .args in
-    flat-writes bits16 (a .n) (a .qp-prime .0) (a .bit-depth) (a .extended-precision) (a .levels .now) (a .out .now) _ (f .found .given .0 .0) (ready f)
-    (c .before .scale-plain .ensures
-    ∙ ap (λ (p : PlainParams). overwrite (a .n * a .n) (plainAt p (a .levels .now)) (a .out .now)) (k .plain-params .ensures)
-    ∙ plain-overwrite (plain f) (a .n * a .n) (a .levels .now) (a .out .now))
+    flat-writes bits16 (a .n) (a .qp-prime .0) (a .bit-depth) (a .extended-precision) (a .levels .now) (a .out .now) _ (f .found .given .0 .0) _ (ready f)
+    (flat-counted (ready-regular (ready f)) (w .before .before .flat-params .ensures) (a .levels .now) (w .scale-flat .ensures))
 
 returns-2 : tie.Need-returns-2
 unfolding dequantized
@@ -79,5 +78,12 @@ pub dequantize-into-scalar-i16-spec : {M : Type 1} → statement M
 dequantize-into-scalar-i16-spec =
     tie.close
     (tie.spec
-    block-params-requires enum-known-found mul-scale-plain plain-params-requires scale-plain-requires enum-known-found-2
-    same-length returns returns-2)
+    block-params-requires
+    enum-known-found
+    mul-scale-flat
+    flat-params-requires
+    scale-flat-requires
+    enum-known-found-2
+    same-length
+    returns
+    returns-2)

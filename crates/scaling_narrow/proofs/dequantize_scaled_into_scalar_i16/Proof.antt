@@ -1,20 +1,18 @@
--- `scaling_narrow::dequantize_scaled_into_scalar_i16` meets its contract: refused where the numbers of the block are, else the coefficients that were written are the definition's.
+-- `scaling_narrow::dequantize_scaled_into_scalar_i16` meets its contract: refused where the numbers of the block are, else what was written and counted is
+-- what the definition says.
 use mathlib.Core.Path.{_≡_, sym, ap, _∙_}
 use Prim.Native.Nat.{_*_}
-use native.Mathlib.Nat.{mul-le-mul}
 use native.Mathlib.Omega.{arith}
 use borrow.Author.Needs.{needs}
 use lib.ListN.{length}
 use mir.Syntax.{w16}
-use Rattle.h265.specs.Scaling.{scaledAt}
 use Rattle.h265.specs.ScalingFactor.ScalingList.{listed}
+use Rattle.h265.specs.Scaling.{scaledAt}
 use Rattle.refusal.specs.Outcome.{refused}
 use Rattle.parameters.specs.Answers.{noTransformSkip, transformSkipOutcome}
 use Rattle.scaling_blocks.specs.Blocks.{bits16, dequantized, blockParams}
 use Rattle.scaling_values.specs.Level.{Ends}
-use Rattle.scaling_blocks.proofs.BlockLaws.{Ready, block-ready, block-refused, listed-writes, narrow-ends}
-use Rattle.scaling_values.proofs.FactorLaws.{size-large}
-use Rattle.scaling_blocks.proofs.WorkLaws.{direct-overwrite}
+use Rattle.scaling_blocks.proofs.BlockLaws.{Ready, block-ready, block-refused, narrow-ends, listed-writes}
 use Rattle.scaling_narrow.proofs.dequantize_scaled_into_scalar_i16.Statement.{statement}
 use Rattle.scaling_narrow.proofs.dequantize_scaled_into_scalar_i16.Tie as tie
 
@@ -41,22 +39,11 @@ block-params-requires c κs = search needs
 enum-known-found : tie.Need-enum-known-found
 enum-known-found c = search needs
 
-mul-scale-direct : tie.Need-mul-scale-direct
-mul-scale-direct c = omega (arith, ready (c .before .before .before) .square)
-
-scale-direct-requires : tie.Need-scale-direct-requires
-scale-direct-requires c κs =
-    let t = c .before .before in
-    let f = t .before .before in
+scale-listed-requires : tie.Need-scale-listed-requires
+scale-listed-requires c κs =
+    let f = c .before .before .before in
     let r = ready f in
-    (r .skippable .scaling, (r .room, (omega (arith, r .whole .whole, mul-le-mul (t .if1 .taken) (t .if1 .taken)), ends f)))
-
-scale-repeated-requires : tie.Need-scale-repeated-requires
-scale-repeated-requires c κs =
-    let t = c .before .before in
-    let f = t .before .before in
-    let r = ready f in
-    (r .skippable .scaling, (r .room, (r .whole, (size-large (f .before .before .before .before .args .n) (r .whole .size) (omega (arith, t .if1 .left)), ends f))))
+    (r .skippable .scaling, (r .room, (r .whole, ends f)))
 
 enum-known-found-2 : tie.Need-enum-known-found-2
 enum-known-found-2 c = search needs
@@ -66,24 +53,15 @@ same-length c = search needs
 
 returns : tie.Need-returns
 returns c =
-    let t = c .before .before .before .before in
-    let f = t .before .before in
+    let w = c .before in
+    let f = w .before .before .before .before in
     let a = f .before .before .before .before .args in
-    listed-writes bits16 (a .n) (a .qp-prime .0) (a .bit-depth) (a .extended-precision) (a .levels .now) (a .out .now) _ (f .found .given .0 .0) (a .list .now) (a .dc) (ready f)
-    (c .before .scale-direct .ensures ∙ direct-overwrite (f .found .given .0 .0 .dequant) (a .list .now) (a .dc) (a .n) (a .levels .now) (a .out .now) (ready f .whole .size) (t .if1 .taken))
-
-same-length-2 : tie.Need-same-length-2
-same-length-2 c = search needs
+    listed-writes bits16 (a .n) (a .qp-prime .0) (a .bit-depth) (a .extended-precision) (a .levels .now) (a .out .now) _ (f .found .given .0 .0) _ (a .list .now) (a .dc) (ready f)
+    (w .scale-listed .ensures)
 
 returns-2 : tie.Need-returns-2
-returns-2 c =
-    let f = c .before .before .before .before .before .before in
-    let a = f .before .before .before .before .args in
-    listed-writes bits16 (a .n) (a .qp-prime .0) (a .bit-depth) (a .extended-precision) (a .levels .now) (a .out .now) _ (f .found .given .0 .0) (a .list .now) (a .dc) (ready f) (c .before .scale-repeated .ensures)
-
-returns-3 : tie.Need-returns-3
 unfolding dequantized
-returns-3 c =
+returns-2 c =
     let f = c .before in
     let a = f .before .before .before .before .args in
     block-refused bits16 (listed (a .list .now) (a .dc)) (a .n) (a .qp-prime .0) (a .bit-depth) (a .extended-precision) (a .levels .now) (a .out .now)
@@ -95,12 +73,8 @@ dequantize-scaled-into-scalar-i16-spec =
     (tie.spec
     block-params-requires
     enum-known-found
-    mul-scale-direct
-    scale-direct-requires
-    scale-repeated-requires
+    scale-listed-requires
     enum-known-found-2
     same-length
     returns
-    same-length-2
-    returns-2
-    returns-3)
+    returns-2)

@@ -1,24 +1,24 @@
--- `scaling_narrow::dequantize_transform_skip_into_scalar_i16` meets its contract: refused where the numbers of the block are, else the residuals that were written are the definition's.
-use mathlib.Core.Path.{_≡_, sym, ap, _∙_, subst}
+-- `scaling_narrow::dequantize_transform_skip_into_scalar_i16` meets its contract: refused where the numbers of the block are, else the residuals that were written and the coefficients that were counted are
+-- what the definition says.
+use mathlib.Core.Path.{_≡_, sym, ap, _∙_}
 use Prim.Native.Nat.{_*_}
 use native.Mathlib.Omega.{arith}
 use borrow.Author.Needs.{needs}
 use lib.IntN.{pos}
 use lib.ListN.{length}
 use lib.Signed.{_≤ℤ_}
+use mir.Syntax.{w16}
 use Rattle.integers.proofs.ListsLaws.{overwrite-length}
-use Rattle.integers.specs.Lists.{overwrite}
 use Rattle.h265.specs.ScalingFactor.ScalingList.{flat}
 use Rattle.h265.specs.TransformSkip.{skippedAt}
 use Rattle.refusal.specs.Outcome.{refused}
 use Rattle.parameters.specs.Answers.{noTransformSkip, transformSkipOutcome}
 use Rattle.scaling_blocks.specs.Blocks.{bits16, transformSkipped, blockParams}
-use Rattle.scaling_values.specs.Plain.{plainAt, Plain, Small}
-use Rattle.scaling_values.specs.Work.{flatAt, flatResidualAt}
-use Rattle.scaling_values.specs.declared.PlainParams.{PlainParams}
-use Rattle.scaling_blocks.proofs.BlockLaws.{Ready, block-ready, block-refused, flat-skips, narrow-plain, narrow-shift}
-use Rattle.scaling_values.proofs.PlainLaws.{plainOf-small, plain-overwrite}
-use Rattle.scaling_blocks.proofs.WorkLaws.{residuals-of}
+use Rattle.scaling_values.specs.Level.{Ends}
+use Rattle.scaling_values.specs.Work.{flatAt, flatLimitedAt, flatResidualAt, Counted}
+use Rattle.scaling_blocks.proofs.BlockLaws.{Ready, block-ready, ready-regular, block-refused, narrow-ends, narrow-shift, flat-skips}
+use Rattle.scaling_blocks.proofs.WorkLaws.{skip-counted}
+use Rattle.scaling_values.proofs.FlatLaws.{flatFor-short, flatFor-fits, flat-counted}
 use Rattle.scaling_narrow.proofs.dequantize_transform_skip_into_scalar_i16.Statement.{statement}
 use Rattle.scaling_narrow.proofs.dequantize_transform_skip_into_scalar_i16.Tie as tie
 
@@ -34,10 +34,10 @@ is-refused : (c : tie.After-found2)
     → let a = c .before .before .before .args in refused noTransformSkip (c .found2 .given .0 .0) ≡ blockParams bits16 (a .n) (a .qp-prime .0) (a .bit-depth) (a .extended-precision) 64 (length (a .levels .now)) (length (a .out .now))
 is-refused c = sym (ap transformSkipOutcome (c .found2 .given .1)) ∙ c .before .before .block-params .ensures
 
-plain : (c : tie.After-found) → Plain (c .found .given .0 .0 .dequant)
-plain c =
+ends : (c : tie.After-found) → Ends w16 (c .found .given .0 .0 .dequant)
+ends c =
     let a = c .before .before .before .args in
-    narrow-plain (a .n) (a .qp-prime .0) (a .bit-depth) (a .extended-precision) 64 (length (a .levels .now)) (length (a .out .now)) (c .found .given .0 .0) (ready c)
+    narrow-ends (a .n) (a .qp-prime .0) (a .bit-depth) (a .extended-precision) 64 (length (a .levels .now)) (length (a .out .now)) (c .found .given .0 .0) (ready c)
 
 shifts : (c : tie.After-found) → pos 1 ≤ℤ c .found .given .0 .0 .«tr_shift»
 shifts c =
@@ -53,22 +53,22 @@ enum-known-found c = search needs
 mul-count : tie.Need-mul-count
 mul-count c = omega (arith, ready (c .before) .square)
 
-plain-params-requires : tie.Need-plain-params-requires
-plain-params-requires c κs = plain (c .before .before)
+flat-params-requires : tie.Need-flat-params-requires
+flat-params-requires c κs = let r = ready (c .before .before) in (r .skippable .scaling, ready-regular r)
 
-scale-plain-requires : tie.Need-scale-plain-requires
-scale-plain-requires c κs =
+scale-flat-requires : tie.Need-scale-flat-requires
+scale-flat-requires c κs =
     let f = c .before .before .before .before in
-    (subst Small (sym (c .before .plain-params .ensures)) (plainOf-small (plain f)), ready f .room)
+    let r = ready f in
+    (flatFor-short (ready-regular r) (c .before .flat-params .ensures) (r .skippable .scaling), (r .room, (r .square, flatFor-fits (ready-regular r) (c .before .flat-params .ensures) (ends f))))
 
 skip-block-requires : tie.Need-skip-block-requires
 skip-block-requires c κs =
     let w = c .before .before in
-    let k = w .before .before in
-    let f = k .before .before .before in
+    let f = w .before .before .before .before .before in
     let a = f .before .before .before .args in
-    let written = w .scale-plain .ensures ∙ ap (λ (p : PlainParams). overwrite (a .n * a .n) (plainAt p (a .levels .now)) (a .out .now)) (k .plain-params .ensures) ∙ plain-overwrite (plain f) (a .n * a .n) (a .levels .now) (a .out .now) in
     let r = ready f in
+    let written = (flat-counted (ready-regular (ready f)) (w .before .before .flat-params .ensures) (a .levels .now) (w .scale-flat .ensures)) .out in
     (r .skippable, (omega (arith, ap length written, overwrite-length (a .n * a .n) (flatAt (f .found .given .0 .0 .dequant) (a .levels .now)) (a .out .now) (r .room .places), r .room .places), shifts f))
 
 enum-known-found-2 : tie.Need-enum-known-found-2
@@ -81,12 +81,10 @@ returns : tie.Need-returns
 unfolding flatResidualAt
 returns c =
     let w = c .before .before .before .before in
-    let k = w .before .before in
-    let f = k .before .before .before in
+    let f = w .before .before .before .before .before in
     let a = f .before .before .before .args in
-    let written = w .scale-plain .ensures ∙ ap (λ (p : PlainParams). overwrite (a .n * a .n) (plainAt p (a .levels .now)) (a .out .now)) (k .plain-params .ensures) ∙ plain-overwrite (plain f) (a .n * a .n) (a .levels .now) (a .out .now) in
-    flat-skips bits16 (a .n) (a .qp-prime .0) (a .bit-depth) (a .extended-precision) (a .levels .now) (a .out .now) _ (f .found .given .0 .0) (ready f)
-    (residuals-of (a .n * a .n) (flatAt (f .found .given .0 .0 .dequant) (a .levels .now)) (a .out .now) written (f .found .given .0 .0 .«tr_shift») (c .before .skip-block .ensures))
+    flat-skips bits16 (a .n) (a .qp-prime .0) (a .bit-depth) (a .extended-precision) (a .levels .now) (a .out .now) _ (f .found .given .0 .0) _ (ready f)
+    (skip-counted (flat-counted (ready-regular (ready f)) (w .before .before .flat-params .ensures) (a .levels .now) (w .scale-flat .ensures)) (f .found .given .0 .0 .«tr_shift») (c .before .skip-block .ensures))
 
 returns-2 : tie.Need-returns-2
 unfolding transformSkipped
@@ -103,8 +101,8 @@ dequantize-transform-skip-into-scalar-i16-spec =
     block-params-requires
     enum-known-found
     mul-count
-    plain-params-requires
-    scale-plain-requires
+    flat-params-requires
+    scale-flat-requires
     skip-block-requires
     enum-known-found-2
     same-length

@@ -1,8 +1,7 @@
--- `scaling_narrow::dequantize_transform_skip_scaled_into_scalar_i16` meets its contract: refused where the numbers of the block are, else the residuals that were written are the definition's.
+-- `scaling_narrow::dequantize_transform_skip_scaled_into_scalar_i16` meets its contract: refused where the numbers of the block are, else the residuals that were written and the coefficients that were counted are
+-- what the definition says.
 use mathlib.Core.Path.{_≡_, sym, ap, _∙_}
-use mathlib.Core.Logic.{⊎-elim}
 use Prim.Native.Nat.{_*_}
-use native.Mathlib.Nat.{mul-le-mul}
 use native.Mathlib.Omega.{arith}
 use borrow.Author.Needs.{needs}
 use lib.IntN.{pos}
@@ -10,17 +9,15 @@ use lib.ListN.{length}
 use lib.Signed.{_≤ℤ_}
 use mir.Syntax.{w16}
 use Rattle.integers.proofs.ListsLaws.{overwrite-length}
-use Rattle.integers.specs.Lists.{overwrite}
 use Rattle.h265.specs.ScalingFactor.ScalingList.{listed}
 use Rattle.h265.specs.TransformSkip.{skippedAt}
 use Rattle.refusal.specs.Outcome.{refused}
 use Rattle.parameters.specs.Answers.{noTransformSkip, transformSkipOutcome}
 use Rattle.scaling_blocks.specs.Blocks.{bits16, transformSkipped, blockParams}
 use Rattle.scaling_values.specs.Level.{Ends}
-use Rattle.scaling_values.specs.Work.{listedAt, listedResidualAt}
-use Rattle.scaling_blocks.proofs.BlockLaws.{Ready, block-ready, block-refused, listed-skips, narrow-ends, narrow-shift}
-use Rattle.scaling_values.proofs.FactorLaws.{size-large}
-use Rattle.scaling_blocks.proofs.WorkLaws.{direct-overwrite, residuals-of}
+use Rattle.scaling_values.specs.Work.{listedAt, listedLimitedAt, listedResidualAt, Counted}
+use Rattle.scaling_blocks.proofs.BlockLaws.{Ready, block-ready, block-refused, narrow-ends, narrow-shift, listed-skips}
+use Rattle.scaling_blocks.proofs.WorkLaws.{skip-counted}
 use Rattle.scaling_narrow.proofs.dequantize_transform_skip_scaled_into_scalar_i16.Statement.{statement}
 use Rattle.scaling_narrow.proofs.dequantize_transform_skip_scaled_into_scalar_i16.Tie as tie
 
@@ -55,58 +52,35 @@ enum-known-found c = search needs
 mul-count : tie.Need-mul-count
 mul-count c = omega (arith, ready (c .before) .square)
 
-scale-direct-requires : tie.Need-scale-direct-requires
-scale-direct-requires c κs =
-    let t = c .before .before in
-    let f = t .before .before in
+scale-listed-requires : tie.Need-scale-listed-requires
+scale-listed-requires c κs =
+    let f = c .before .before .before in
     let r = ready f in
-    (r .skippable .scaling, (r .room, (omega (arith, r .whole .whole, mul-le-mul (t .if1 .taken) (t .if1 .taken)), ends f)))
-
-scale-repeated-requires : tie.Need-scale-repeated-requires
-scale-repeated-requires c κs =
-    let t = c .before .before in
-    let f = t .before .before in
-    let r = ready f in
-    (r .skippable .scaling, (r .room, (r .whole, (size-large (f .before .before .before .before .args .n) (r .whole .size) (omega (arith, t .if1 .left)), ends f))))
-
--- the coefficients that were written, by the one way or the other
-written : (c : tie.Joined1)
-    → let f = c .before .before in let a = f .before .before .before .before .args in c .if1 .out ≡ overwrite (a .n * a .n) (listedAt (f .found .given .0 .0 .dequant) (listed (a .list .now) (a .dc)) (a .n) (a .levels .now)) (a .out .now)
-written c =
-    let f = c .before .before in
-    let a = f .before .before .before .before .args in
-    ⊎-elim
-    (λ w. w .5 ∙ w .3 .ensures ∙ direct-overwrite (f .found .given .0 .0 .dequant) (a .list .now) (a .dc) (a .n) (a .levels .now) (a .out .now) (ready f .whole .size) (w .0 .taken))
-    (λ w. w .5 ∙ w .3 .ensures) (c .if1 .came)
+    (r .skippable .scaling, (r .room, (r .whole, ends f)))
 
 skip-block-requires : tie.Need-skip-block-requires
 skip-block-requires c κs =
-    let j = c .before in
-    let f = j .before .before in
+    let w = c .before .before in
+    let f = w .before .before .before .before in
     let a = f .before .before .before .before .args in
     let r = ready f in
-    (r .skippable, (omega (arith, ap length (written j), overwrite-length (a .n * a .n) (listedAt (f .found .given .0 .0 .dequant) (listed (a .list .now) (a .dc)) (a .n) (a .levels .now)) (a .out .now) (r .room .places), r .room .places), shifts f))
+    let written = (w .scale-listed .ensures) .out in
+    (r .skippable, (omega (arith, ap length written, overwrite-length (a .n * a .n) (listedAt (f .found .given .0 .0 .dequant) (listed (a .list .now) (a .dc)) (a .n) (a .levels .now)) (a .out .now) (r .room .places), r .room .places), shifts f))
 
 enum-known-found-2 : tie.Need-enum-known-found-2
 enum-known-found-2 c = search needs
 
 same-length : tie.Need-same-length
-same-length c =
-    let j = c .before .before .before in
-    let f = j .before .before in
-    let a = f .before .before .before .before .args in
-    let room = ready f .room .places in
-    ap length (residuals-of (a .n * a .n) (listedAt (f .found .given .0 .0 .dequant) (listed (a .list .now) (a .dc)) (a .n) (a .levels .now)) (a .out .now) (written j) (f .found .given .0 .0 .«tr_shift») (c .before .skip-block .ensures))
-    ∙ overwrite-length (a .n * a .n) _ (a .out .now) room
+same-length c = search needs
 
 returns : tie.Need-returns
 unfolding listedResidualAt
 returns c =
-    let j = c .before .before .before in
-    let f = j .before .before in
+    let w = c .before .before .before .before in
+    let f = w .before .before .before .before in
     let a = f .before .before .before .before .args in
-    listed-skips bits16 (a .n) (a .qp-prime .0) (a .bit-depth) (a .extended-precision) (a .levels .now) (a .out .now) _ (f .found .given .0 .0) (a .list .now) (a .dc) (ready f)
-    (residuals-of (a .n * a .n) (listedAt (f .found .given .0 .0 .dequant) (listed (a .list .now) (a .dc)) (a .n) (a .levels .now)) (a .out .now) (written j) (f .found .given .0 .0 .«tr_shift») (c .before .skip-block .ensures))
+    listed-skips bits16 (a .n) (a .qp-prime .0) (a .bit-depth) (a .extended-precision) (a .levels .now) (a .out .now) _ (f .found .given .0 .0) _ (a .list .now) (a .dc) (ready f)
+    (skip-counted (w .scale-listed .ensures) (f .found .given .0 .0 .«tr_shift») (c .before .skip-block .ensures))
 
 returns-2 : tie.Need-returns-2
 unfolding transformSkipped
@@ -123,8 +97,7 @@ dequantize-transform-skip-scaled-into-scalar-i16-spec =
     block-params-requires
     enum-known-found
     mul-count
-    scale-direct-requires
-    scale-repeated-requires
+    scale-listed-requires
     skip-block-requires
     enum-known-found-2
     same-length

@@ -1,16 +1,17 @@
--- `scaling_wide::dequantize_into_scalar_i32` meets its contract: refused where the numbers of the block are, else the coefficients that were written are the definition's.
+-- `scaling_wide::dequantize_into_scalar_i32` meets its contract: refused where the numbers of the block are, else what was written and counted is
+-- what the definition says.
 use mathlib.Core.Path.{_≡_, sym, ap, _∙_}
 use Prim.Native.Nat.{_*_}
 use native.Mathlib.Omega.{arith}
 use borrow.Author.Needs.{needs}
 use lib.ListN.{length}
-use Rattle.h265.specs.Scaling.{scaledAt}
 use Rattle.h265.specs.ScalingFactor.ScalingList.{flat}
+use Rattle.h265.specs.Scaling.{scaledAt}
 use Rattle.refusal.specs.Outcome.{refused}
 use Rattle.parameters.specs.Answers.{noTransformSkip, transformSkipOutcome}
 use Rattle.scaling_blocks.specs.Blocks.{bits32, dequantized, blockParams}
-use Rattle.scaling_blocks.proofs.BlockLaws.{Ready, block-ready, block-refused, flat-writes, ready-regular}
-use Rattle.scaling_values.proofs.FlatLaws.{flatFor-short, short-overwrite}
+use Rattle.scaling_blocks.proofs.BlockLaws.{Ready, block-ready, ready-regular, block-refused, flat-writes}
+use Rattle.scaling_values.proofs.FlatLaws.{flatFor-short, flat-counted}
 use Rattle.scaling_wide.proofs.dequantize_into_scalar_i32.Statement.{statement}
 use Rattle.scaling_wide.proofs.dequantize_into_scalar_i32.Tie as tie
 
@@ -40,8 +41,9 @@ flat-params-requires c κs = let r = ready (c .before .before) in (r .skippable 
 
 scale-flat-requires : tie.Need-scale-flat-requires
 scale-flat-requires c κs =
-    let r = ready (c .before .before .before .before) in
-    (flatFor-short (ready-regular r) (c .before .flat-params .ensures) (r .skippable .scaling), r .room)
+    let f = c .before .before .before .before in
+    let r = ready f in
+    (flatFor-short (ready-regular r) (c .before .flat-params .ensures) (r .skippable .scaling), (r .room, r .square))
 
 enum-known-found-2 : tie.Need-enum-known-found-2
 enum-known-found-2 c = search needs
@@ -52,11 +54,10 @@ same-length c = search needs
 returns : tie.Need-returns
 returns c =
     let w = c .before in
-    let k = w .before .before in
-    let f = k .before .before .before in
+    let f = w .before .before .before .before .before in
     let a = f .before .before .before .args in
-    let written = w .scale-flat .ensures ∙ short-overwrite (ready-regular (ready f)) (k .flat-params .ensures) (a .n * a .n) (a .levels .now) (a .out .now) in
-    flat-writes bits32 (a .n) (a .qp-prime .0) (a .bit-depth) (a .extended-precision) (a .levels .now) (a .out .now) _ (f .found .given .0 .0) (ready f) written
+    flat-writes bits32 (a .n) (a .qp-prime .0) (a .bit-depth) (a .extended-precision) (a .levels .now) (a .out .now) _ (f .found .given .0 .0) _ (ready f)
+    (flat-counted (ready-regular (ready f)) (w .before .before .flat-params .ensures) (a .levels .now) (w .scale-flat .ensures))
 
 returns-2 : tie.Need-returns-2
 unfolding dequantized

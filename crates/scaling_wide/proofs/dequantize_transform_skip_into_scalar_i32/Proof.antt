@@ -1,4 +1,5 @@
--- `scaling_wide::dequantize_transform_skip_into_scalar_i32` meets its contract: refused where the numbers of the block are, else the residuals that were written are the definition's.
+-- `scaling_wide::dequantize_transform_skip_into_scalar_i32` meets its contract: refused where the numbers of the block are, else the residuals that were written and the coefficients that were counted are
+-- what the definition says.
 use mathlib.Core.Path.{_≡_, sym, ap, _∙_}
 use Prim.Native.Nat.{_*_}
 use native.Mathlib.Omega.{arith}
@@ -10,10 +11,10 @@ use Rattle.h265.specs.TransformSkip.{skippedAt}
 use Rattle.refusal.specs.Outcome.{refused}
 use Rattle.parameters.specs.Answers.{noTransformSkip, transformSkipOutcome}
 use Rattle.scaling_blocks.specs.Blocks.{bits32, transformSkipped, blockParams}
-use Rattle.scaling_values.specs.Work.{flatAt, flatResidualAt}
-use Rattle.scaling_blocks.proofs.BlockLaws.{Ready, block-ready, block-refused, flat-skips, ready-regular}
-use Rattle.scaling_values.proofs.FlatLaws.{flatFor-short, short-overwrite}
-use Rattle.scaling_blocks.proofs.WorkLaws.{residuals-of, coefficients-of, flatAt-within}
+use Rattle.scaling_values.specs.Work.{flatAt, flatLimitedAt, flatResidualAt, Counted}
+use Rattle.scaling_blocks.proofs.BlockLaws.{Ready, block-ready, ready-regular, block-refused, flat-skips}
+use Rattle.scaling_blocks.proofs.WorkLaws.{skip-counted, coefficients-of, flatAt-within}
+use Rattle.scaling_values.proofs.FlatLaws.{flatFor-short, flat-counted}
 use Rattle.scaling_wide.proofs.dequantize_transform_skip_into_scalar_i32.Statement.{statement}
 use Rattle.scaling_wide.proofs.dequantize_transform_skip_into_scalar_i32.Tie as tie
 
@@ -43,17 +44,17 @@ flat-params-requires c κs = let r = ready (c .before .before) in (r .skippable 
 
 scale-flat-requires : tie.Need-scale-flat-requires
 scale-flat-requires c κs =
-    let r = ready (c .before .before .before .before) in
-    (flatFor-short (ready-regular r) (c .before .flat-params .ensures) (r .skippable .scaling), r .room)
+    let f = c .before .before .before .before in
+    let r = ready f in
+    (flatFor-short (ready-regular r) (c .before .flat-params .ensures) (r .skippable .scaling), (r .room, r .square))
 
 skip-block-requires : tie.Need-skip-block-requires
 skip-block-requires c κs =
     let w = c .before .before in
-    let k = w .before .before in
-    let f = k .before .before .before in
+    let f = w .before .before .before .before .before in
     let a = f .before .before .before .args in
-    let written = w .scale-flat .ensures ∙ short-overwrite (ready-regular (ready f)) (k .flat-params .ensures) (a .n * a .n) (a .levels .now) (a .out .now) in
     let r = ready f in
+    let written = (flat-counted (ready-regular (ready f)) (w .before .before .flat-params .ensures) (a .levels .now) (w .scale-flat .ensures)) .out in
     (r .skippable, (omega (arith, ap length written, overwrite-length (a .n * a .n) (flatAt (f .found .given .0 .0 .dequant) (a .levels .now)) (a .out .now) (r .room .places), r .room .places), coefficients-of (a .n * a .n) (flatAt (f .found .given .0 .0 .dequant) (a .levels .now)) (a .out .now) written (λ i. flatAt-within (a .levels .now) i (r .skippable .scaling))))
 
 enum-known-found-2 : tie.Need-enum-known-found-2
@@ -66,12 +67,10 @@ returns : tie.Need-returns
 unfolding flatResidualAt
 returns c =
     let w = c .before .before .before .before in
-    let k = w .before .before in
-    let f = k .before .before .before in
+    let f = w .before .before .before .before .before in
     let a = f .before .before .before .args in
-    let written = w .scale-flat .ensures ∙ short-overwrite (ready-regular (ready f)) (k .flat-params .ensures) (a .n * a .n) (a .levels .now) (a .out .now) in
-    flat-skips bits32 (a .n) (a .qp-prime .0) (a .bit-depth) (a .extended-precision) (a .levels .now) (a .out .now) _ (f .found .given .0 .0) (ready f)
-    (residuals-of (a .n * a .n) (flatAt (f .found .given .0 .0 .dequant) (a .levels .now)) (a .out .now) written (f .found .given .0 .0 .«tr_shift») (c .before .skip-block .ensures))
+    flat-skips bits32 (a .n) (a .qp-prime .0) (a .bit-depth) (a .extended-precision) (a .levels .now) (a .out .now) _ (f .found .given .0 .0) _ (ready f)
+    (skip-counted (flat-counted (ready-regular (ready f)) (w .before .before .flat-params .ensures) (a .levels .now) (w .scale-flat .ensures)) (f .found .given .0 .0 .«tr_shift») (c .before .skip-block .ensures))
 
 returns-2 : tie.Need-returns-2
 unfolding transformSkipped

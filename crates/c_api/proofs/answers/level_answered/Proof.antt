@@ -1,11 +1,11 @@
--- `c_api::answers::level_answered` meets its contract: the scaled level, or what `refused` answers with the value 0.
+-- `c_api::answers::level_answered` meets its contract: the scaled level, or what `refused` answers with zeros.
 use mathlib.Core.Path.{sym, ap, _∙_}
 use borrow.Author.Needs.{needs}
-use lib.IntN.{ℤ, pos}
+use lib.IntN.{ℤ}
 use mir.Syntax.{w32}
 use mir.Val.{SFits}
 use Rattle.integers.proofs.MachineLaws.{round-trip}
-use Rattle.scaling.specs.Answers.{levelOutcome}
+use Rattle.scaling.specs.Answers.{levelOutcome, noLevel}
 use Rattle.c_api.proofs.AnswersLaws.{withValue}
 use Rattle.c_api.proofs.answers.level_answered.Statement.{statement}
 use Rattle.c_api.proofs.answers.level_answered.Tie as tie
@@ -26,7 +26,7 @@ returns c =
     rw (round-trip f) (sym (ap levelOutcome (c .before .before .answer .given .1)))
 
 returns-2 : tie.Need-returns-2
-returns-2 c = ap (withValue (pos 0)) (c .refused .ensures) ∙ sym (ap levelOutcome (c .before .before .answer2 .given .1))
+returns-2 c = ap (withValue noLevel) (c .refused .ensures) ∙ sym (ap levelOutcome (c .before .before .answer2 .given .1))
 
 pub level-answered-spec : {M : Type 1} → statement M
 level-answered-spec =

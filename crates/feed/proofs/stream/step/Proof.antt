@@ -16,17 +16,17 @@ use Rattle.feed_records.proofs.StateLaws.{capped-id}
 use Rattle.feed.proofs.stream.step.Statement.{statement}
 use Rattle.feed.proofs.stream.step.Tie as tie
 
-room : (c : tie.Else1) → let a = c .before .before .before .args in 3 * length (a .body .now) ≤ length (a .out .now)
+room : (c : tie.Else1) → let a = c .before .before .before .args in 4 * length (a .body .now) ≤ length (a .out .now)
 room c = omega arith
 
-room-ok : (c : tie.Else1) → let a = c .before .before .before .args in ltb (length (a .out .now)) (3 * length (a .body .now)) ≡ false
-room-ok c = let a = c .before .before .before .args in le-ltb (length (a .out .now)) (3 * length (a .body .now)) (room c)
+room-ok : (c : tie.Else1) → let a = c .before .before .before .args in ltb (length (a .out .now)) (4 * length (a .body .now)) ≡ false
+room-ok c = let a = c .before .before .before .args in le-ltb (length (a .out .now)) (4 * length (a .body .now)) (room c)
 
 returns : tie.Need-returns
 unfolding stepping
 returns c =
     let a = c .before .before .before .args in
-    rw (lt-ltb (length (a .out .now)) (3 * length (a .body .now)) (omega arith))
+    rw (lt-ltb (length (a .out .now)) (4 * length (a .body .now)) (omega arith))
     (record { answered = refl; state = sym (capped-id (stateOf (a .state)) (omega arith) (omega arith)); wrote = wrote-none _ 0; counts = counts 0 (a .out .now) (omega arith) })
 
 take-record-requires : tie.Need-take-record-requires

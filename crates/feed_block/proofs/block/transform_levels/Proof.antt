@@ -28,7 +28,7 @@ array-share-prefix-coeff c = let s = c .before .before .before in omega (arith, 
 scaled : (c : tie.After-scale)
     → let a = c .before .before .args in take (a .n * a .n) (c .scale .last .1 .1 .1 .1 .0) ≡ coefficients (listIn (a .s .listed) (a .s .entries) (a .s .dc)) (a .p) (a .n) (a .levels .now)
 unfolding coefficients
-scaled c = let n = c .before .before .args .n in ap (take (n * n)) (c .scale .ensures) ∙ overwrite-take (n * n) _ _
+scaled c = let n = c .before .before .args .n in ap (take (n * n)) (c .scale .ensures .out) ∙ overwrite-take (n * n) _ _
 
 slice-aggregate-transformed : tie.Need-slice-aggregate-transformed
 slice-aggregate-transformed c = let e = c .before .before in sym (ap length (scaled e) ∙ coefficients-length _ _ (e .before .before .args .n) _)
@@ -53,7 +53,9 @@ same-length : tie.Need-same-length
 same-length c = search needs
 
 returns : tie.Need-returns
-returns c = rw (scaled (c .before .before .before .before .before)) at (c .before .transformed .ensures)
+returns c =
+    let e = c .before .before .before .before .before in
+    record { out = rw (scaled e) at (c .before .transformed .ensures); limited = e .scale .ensures .limited }
 
 pub transform-levels-spec : {M : Type 1} → statement M
 transform-levels-spec =

@@ -2,21 +2,27 @@
 use borrow.Author.Needs.{needs}
 use mathlib.Core.Path.{_≡_, sym, ap, _∙_}
 use mathlib.Core.Bool.{false}
-use Prim.Native.Nat.{_*_}
-use native.Mathlib.Nat.{le-refl}
+use Prim.Native.Nat.{ℕ, _+_, _*_, _≤_}
+use native.Mathlib.Nat.{le-refl, mul-le-mul}
 use native.Mathlib.Omega.{arith}
+use lib.Dec.{T}
 use lib.ListN.{length, take}
+use Rattle.h265.specs.Range.{isSize}
 use Rattle.integers.proofs.ListsLaws.{tabulate-length}
 use Rattle.refusal.specs.Condition.{depthRefused}
 use Rattle.feed_block.specs.Format.{levelsOf}
 use Rattle.feed_block.specs.Block.{dstRefused, blockResidual}
 use Rattle.feed_records.specs.Record.{levelsBy}
 use Rattle.feed_records.specs.Taken.{stateOf}
-use Rattle.h265.proofs.RangeLaws.{size-square}
+use Rattle.h265.proofs.RangeLaws.{size-bound, size-square}
+use Rattle.text.proofs.WroteLaws.{wrote-more}
 use Rattle.feed_block.proofs.BufferLaws.{overwrite-take}
 use Rattle.feed_records.proofs.StateLaws.{silent-takes, block-takes}
 use Rattle.feed_records.proofs.records.take_block.Statement.{statement}
 use Rattle.feed_records.proofs.records.take_block.Tie as tie
+
+size-least : (n : ℕ) → T (isSize n) → 4 * 4 ≤ n * n
+size-least n t = mul-le-mul (size-bound n t .0) (size-bound n t .0)
 
 depth-refused-requires : tie.Need-depth-refused-requires
 depth-refused-requires c κs = search needs
@@ -35,7 +41,7 @@ computed : (c : tie.After-residual-of)
 unfolding blockResidual
 computed c =
     let n = c .before .before .before .before .before .before .before .before .args .n in
-    ap (take (n * n)) (c .residual-of .ensures) ∙ overwrite-take (n * n) _ _
+    ap (take (n * n)) (c .residual-of .ensures .out) ∙ overwrite-take (n * n) _ _
 
 returns : tie.Need-returns
 unfolding levelsBy
@@ -79,6 +85,12 @@ put-block-requires c κs =
     let s = e .before .before .before .before .before .before .before .before in
     (rw (computed e, tabulate-length (s .args .n * s .args .n)) (le-refl _), omega (arith, s .pre .1 .0, s .pre .1 .1))
 
+put-limited-requires : tie.Need-put-limited-requires
+put-limited-requires c κs =
+    let b = c .before .before .before in
+    let s = b .before .before .before .before .before .before .before .before .before .before .before .before in
+    omega (arith, size-least (s .args .n) (s .pre .0), s .pre .1 .0, s .pre .1 .1, b .put-block .ensures .bound, b .put-block .kept .1 .1 .0)
+
 with-block-requires : tie.Need-with-block-requires
 with-block-requires c κs = search needs
 
@@ -91,12 +103,16 @@ same-length c = search needs
 returns-3 : tie.Need-returns-3
 unfolding levelsBy
 returns-3 c =
-    let b = c .before .before .before .before in
+    let l = c .before .before .before .before in
+    let b = l .before .before .before .before in
     let e = b .before .before .before .before in
     let d = e .before .before in
     let s = e .before .before .before .before .before .before .before .before in
+    let rows = rw (computed e) at (b .put-block .ensures) in
+    let limited = rw (e .residual-of .ensures .limited) at (l .put-limited .ensures) in
     rw (depth-ok (d .before .before), dst-ok d, c .moved .ensures)
-    (block-takes _ _ _ (c .before .with-block .ensures) (omega (arith, s .pre .1 .0)) (rw (computed e) at (b .put-block .ensures)))
+    (block-takes {e = s .args .at + (12 * (s .args .n * s .args .n) + 29)} _ _ _ (c .before .with-block .ensures) (omega (arith, size-least (s .args .n) (s .pre .0), s .pre .1 .0))
+    (record { wrote = wrote-more (rows .wrote) (limited .wrote); bound = omega (arith, rows .bound, limited .bound) }))
 
 pub take-block-spec : {M : Type 1} → statement M
 take-block-spec =
@@ -114,6 +130,7 @@ take-block-spec =
     array-share-prefix-residual
     slice-aggregate-put-block
     put-block-requires
+    put-limited-requires
     with-block-requires
     moved-requires
     same-length

@@ -22,7 +22,7 @@ value-is : (c : tie.After-scaled-listed)
 value-is c =
     let s = c .before .before in
     let a = s .args in
-    rw (rw (round-trip (s .fits .x)) at (c .before .sided .ensures), round-trip (within-fits {w = w32} tt (sided-within (a .x) (a .size) (s .pre .1)))) at (c .scaled-listed .ensures)
+    rw (rw (round-trip (s .fits .x)) at (c .before .sided .ensures), round-trip (within-fits {w = w32} tt (sided-within (a .x) (a .size) (s .pre .1)))) at (c .scaled-listed .ensures .value)
 
 value-fits : (c : tie.After-scaled-listed) → SFits w32 (c .scaled-listed .result .value)
 value-fits c =

@@ -15,7 +15,7 @@ returns : tie.Need-returns
 returns c =
     let d = c .before .before in
     let s = d .before in
-    let e = rw (round-trip (s .fits .level)) at (d .scaled-listed .ensures) in
+    let e = rw (round-trip (s .fits .level)) at (d .scaled-listed .ensures .value) in
     equal-bits (d .scaled-listed .result .value) (s .args .x) (scaled-fits (s .args .m) (s .args .level) (s .pre) e) (s .fits .x)
     ∙ ap (λ (z : ℤ). equal z (s .args .x)) e
 

@@ -5,7 +5,7 @@ use Rattle.integers.proofs.MachineLaws.{round-trip}
 use Rattle.refusal.specs.Outcome.{accepted, refused}
 use Rattle.parameters.specs.Answers.{noDequant, dequantOutcome}
 use Rattle.parameters.specs.Parameters.{dequantParams}
-use Rattle.scaling.proofs.AnswerLaws.{level-refused, level-ready}
+use Rattle.scaling.proofs.AnswerLaws.{scaled-ext, level-refused, level-ready}
 use Rattle.scaling.proofs.level.scale_level.Statement.{statement}
 use Rattle.scaling.proofs.level.scale_level.Tie as tie
 
@@ -38,7 +38,8 @@ returns c =
     let f = c .before .before in
     let s = f .before .before .before in
     let a = s .args in
-    ap accepted (rw (round-trip (s .fits .level)) at (c .scaled-listed .ensures))
+    let told = rw (round-trip (s .fits .level)) at (c .scaled-listed .ensures) in
+    ap accepted (scaled-ext (told .value) (told .before) (told .after))
     ∙ level-ready (a .level) (a .m) (a .n) (a .qp-prime .0) (a .bit-depth) (a .extended-precision) (f .found .given .0 .0) (is-accepted f) .1
 
 returns-2 : tie.Need-returns-2

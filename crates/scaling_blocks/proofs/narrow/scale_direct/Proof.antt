@@ -1,5 +1,7 @@
--- `scaling_blocks::narrow::scale_direct` meets its contract. The loop's invariant: the first i places hold their coefficients, and the others are as lent.
-use mathlib.Core.Path.{_≡_}
+-- `scaling_blocks::narrow::scale_direct` meets its contract. The loop's invariant: the first i places hold their coefficients, the others are as lent, and
+-- of the first i levels so many were limited.
+use mathlib.Core.Path.{_≡_, _∙_, ap₂}
+use mathlib.Core.Bool.{Bool, _||_, cond}
 use Prim.Native.Nat.{_-_, _≤_}
 use native.Mathlib.Omega.{arith}
 use borrow.Author.Needs.{needs}
@@ -9,19 +11,22 @@ use mir.Syntax.{w16, w32}
 use mir.Val.{SFits}
 use Rattle.integers.proofs.MachineLaws.{round-trip}
 use Rattle.integers.proofs.ListsLaws.{Stored, stored-none, stored-more, stored-length, stored-all}
-use Rattle.scaling_values.specs.Work.{directAt}
+use Rattle.scaling_values.specs.Level.{listedLimited}
+use Rattle.scaling_values.specs.Work.{directAt, directLimitedAt}
+use Rattle.scaling_values.proofs.CountLaws.{Tally, tally-none, tally-more, tally-small, tally-room, tally-all}
 use Rattle.scaling_blocks.proofs.WorkLaws.{directAt-fits, cast-fits, cast-as}
 use Rattle.scaling_blocks.proofs.narrow.scale_direct.Statement.{statement}
 use Rattle.scaling_blocks.proofs.narrow.scale_direct.Tie as tie
 
 abbrev Inv-loop : tie.InvT-loop
-Inv-loop levels count by list out₀ i₀ out i = Stored (directAt by list levels) out₀ i out × (i ≤ count)
+Inv-loop levels count by entries out₀ limited₀ i₀ out limited i =
+    Stored (directAt by entries levels) out₀ i out × (Tally (directLimitedAt by entries levels) i limited × (i ≤ count))
 
 abbrev μ-loop : tie.MeasureT-loop
-μ-loop levels count by list out₀ i₀ out i = count - i
+μ-loop levels count by entries out₀ limited₀ i₀ out limited i = count - i
 
 loop-holds : tie.Need-loop-holds Inv-loop μ-loop
-loop-holds c = (stored-none, omega arith)
+loop-holds c = (stored-none, (tally-none, omega arith))
 
 mul-scaled-listed : tie.Need-mul-scaled-listed Inv-loop μ-loop
 mul-scaled-listed c = search needs
@@ -40,26 +45,43 @@ level-fits : (c : tie.After-scaled-listed-arg Inv-loop μ-loop) → let l = c .b
 level-fits c = record { sfits = c .scaled-listed-arg .given }
 
 value-is : (c : tie.After-scaled-listed Inv-loop μ-loop)
-    → let l = c .before .before .before .before in let s = l .before .before in c .scaled-listed .result .value ≡ directAt (s .args .by) (s .args .list .now) (s .args .levels .now) (l .loop .i)
+    → let l = c .before .before .before .before in let s = l .before .before in c .scaled-listed .result .value ≡ directAt (s .args .by) (s .args .entries .now) (s .args .levels .now) (l .loop .i)
 unfolding directAt
-value-is c = rw (round-trip (level-fits (c .before .before))) at (c .scaled-listed .ensures)
+value-is c = rw (round-trip (level-fits (c .before .before))) at (c .scaled-listed .ensures .value)
 
-value-fits : (c : tie.After-scaled-listed Inv-loop μ-loop) → let l = c .before .before .before .before in let s = l .before .before in SFits w16 (directAt (s .args .by) (s .args .list .now) (s .args .levels .now) (l .loop .i))
+value-fits : (c : tie.After-scaled-listed Inv-loop μ-loop) → let l = c .before .before .before .before in let s = l .before .before in SFits w16 (directAt (s .args .by) (s .args .entries .now) (s .args .levels .now) (l .loop .i))
 value-fits c =
     let l = c .before .before .before .before in
     let s = l .before .before in
-    directAt-fits (s .args .levels .now) (l .loop .i) (s .pre .1 .1 .1) (s .args .list .now)
+    directAt-fits (s .args .levels .now) (l .loop .i) (s .pre .1 .1 .1 .1) (s .args .entries .now)
 
 cast-out : tie.Need-cast-out Inv-loop μ-loop
-cast-out c = cast-fits (value-is (c .before .before)) (value-fits (c .before .before)) w32 tt
+cast-out c = cast-fits (value-is (c .before)) (value-fits (c .before)) w32 tt
 
-mul-t15 : tie.Need-mul-t15 Inv-loop μ-loop
-mul-t15 c = search needs
+mul-t11 : tie.Need-mul-t11 Inv-loop μ-loop
+mul-t11 c = search needs
 
 slice-set-from-out : tie.Need-slice-set-from-out Inv-loop μ-loop
 slice-set-from-out c =
-    let l = c .before .before .before .before .before .before in
+    let l = c .before .before .before .before .before in
     omega (arith, stored-length (l .loop .inv .0), l .before .before .pre .1 .0)
+
+limited-once-requires : tie.Need-limited-once-requires Inv-loop μ-loop
+limited-once-requires c κs = search needs
+
+limited-is : (c : tie.After-limited-once Inv-loop μ-loop)
+    → let l = c .before .before .before .before .before .before in let s = l .before .before in c .limited-once .result ≡ cond (directLimitedAt (s .args .by) (s .args .entries .now) (s .args .levels .now) (l .loop .i)) 1 0
+unfolding directLimitedAt listedLimited
+limited-is c =
+    let v = c .before .before in
+    let told = rw (round-trip (level-fits (v .before .before))) at (v .scaled-listed .ensures) in
+    c .limited-once .ensures ∙ ap₂ (λ (x : Bool) (y : Bool). cond (x || y) 1 0) (told .before) (told .after)
+
+add-limited : tie.Need-add-limited Inv-loop μ-loop
+add-limited c =
+    let l = c .before .before .before .before .before .before in
+    let m : l .before .before .args .count ≤ 1024 = l .before .before .pre .1 .1 .1 .0 in
+    omega (arith, m, tally-room (l .loop .inv .1 .0) (limited-is c))
 
 add-i : tie.Need-add-i Inv-loop μ-loop
 add-i c = omega arith
@@ -69,14 +91,25 @@ loop-less c = omega arith
 
 loop-again : tie.Need-loop-again Inv-loop μ-loop
 loop-again c =
-    let l = c .before .before .before .before .before .before in
-    (stored-more (l .loop .inv .0) (omega (arith, l .before .before .pre .1 .0)) (cast-as (value-is (c .before .before)) (value-fits (c .before .before)) w32 tt), omega arith)
+    let v = c .before .before in
+    let l = v .before .before .before .before in (
+      stored-more (l .loop .inv .0) (omega (arith, l .before .before .pre .1 .0)) (cast-as (value-is v) (value-fits v) w32 tt),
+      (tally-more (l .loop .inv .1 .0) (limited-is c), omega arith),
+    )
+
+cast-result : tie.Need-cast-result Inv-loop μ-loop
+cast-result c =
+    let l = c .before in
+    let m : l .before .before .args .count ≤ 1024 = l .before .before .pre .1 .1 .1 .0 in
+    omega (arith, m, tally-small (l .loop .inv .1 .0))
 
 same-length : tie.Need-same-length Inv-loop μ-loop
 same-length c = stored-length (c .before .loop .inv .0)
 
 returns : tie.Need-returns Inv-loop μ-loop
-returns c = stored-all (c .before .loop .inv .0) (omega arith)
+returns c =
+    let l = c .before in
+    record { out = stored-all (l .loop .inv .0) (omega arith); count = tally-all (l .loop .inv .1 .0) (omega arith) }
 
 pub scale-direct-spec : {M : Type 1} → statement M
 scale-direct-spec =
@@ -90,10 +123,13 @@ scale-direct-spec =
     shared-slice-read-scaled-listed
     scaled-listed-requires
     cast-out
-    mul-t15
+    mul-t11
     slice-set-from-out
+    limited-once-requires
+    add-limited
     add-i
     loop-less
     loop-again
+    cast-result
     same-length
     returns)

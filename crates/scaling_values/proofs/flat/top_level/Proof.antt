@@ -1,15 +1,14 @@
--- `scaling_values::flat::top_level` meets its contract: nothing wraps, and the quotient with one more is the first whose product reaches the dividend.
+-- `scaling_values::flat::top_level` meets its contract: nothing wraps, and the quotient is the last whose product stays below the end.
 use mathlib.Core.Path.{_≡_}
 use Prim.Native.Nat.{_+_, _*_, _%_, _^_}
-use native.Mathlib.Nat.{mod-eq-of-lt, mul-le-mul-left, div-le-self}
+use native.Mathlib.Nat.{mod-eq-of-lt, mul-le-mul-left}
 use native.Mathlib.Omega.{arith}
 use borrow.Author.Needs.{needs}
 use lib.Pow.{pow-pos}
-use Rattle.scaling_values.proofs.FlatLaws.{tops-most, tops-quotient}
+use Rattle.scaling_values.proofs.DivisionLaws.{top-most, top-quotient, half-below}
 use Rattle.scaling_values.proofs.flat.top_level.Statement.{statement}
 use Rattle.scaling_values.proofs.flat.top_level.Tie as tie
 
--- the dividend does not wrap
 dividend-is : (c : tie.Start) → let a = c .args in ((a .most + 1) * 2 ^ a .shift) % 4294967296 ≡ (a .most + 1) * 2 ^ a .shift
 dividend-is c = mod-eq-of-lt (omega (arith, c .pre .small))
 
@@ -19,20 +18,23 @@ add-enough c = omega (arith, c .pre .small, mul-le-mul-left (c .args .most + 1) 
 shl-enough : tie.Need-shl-enough
 shl-enough c = c .pre .shift
 
+sub-enough : tie.Need-sub-enough
+sub-enough c = rw (dividend-is c) (omega (arith, half-below (c .pre)))
+
+sub-enough-2 : tie.Need-sub-enough-2
+sub-enough-2 c = rw (dividend-is c) (omega (arith, half-below (c .pre)))
+
 div-enough : tie.Need-div-enough
 div-enough c = search needs
 
-add-enough-2 : tie.Need-add-enough-2
-add-enough-2 c = rw (dividend-is c) (omega (arith, c .pre .small, div-le-self ((c .args .most + 1) * 2 ^ c .args .shift) (c .args .base)))
-
 returns : tie.Need-returns
-returns c = tops-most (c .before .pre) (rw (dividend-is (c .before)) at (c .if1 .taken))
+returns c = top-most (c .before .pre) (rw (dividend-is (c .before)) at (c .if1 .taken))
 
 returns-2 : tie.Need-returns-2
 returns-2 c =
     let s = c .before in
-    rw (dividend-is s) (tops-quotient (s .pre) (omega (arith, rw (dividend-is s) at (c .if1 .left))))
+    rw (dividend-is s) (top-quotient (s .pre) (omega (arith, rw (dividend-is s) at (c .if1 .left))))
 
 pub top-level-spec : {M : Type 1} → statement M
 top-level-spec =
-    tie.close (tie.spec add-enough shl-enough div-enough add-enough-2 returns returns-2)
+    tie.close (tie.spec add-enough shl-enough sub-enough sub-enough-2 div-enough returns returns-2)

@@ -1,8 +1,8 @@
 -- `scaling_values::level::scaled` meets its contract: 64 bits hold the product and the sum, since the level is limited first, and the
--- limited result fits 32.
-use mathlib.Core.Path.{_≡_, _∙_}
+-- limited result fits 32; a limit changed a number exactly where it lies outside the range.
+use mathlib.Core.Path.{_≡_, _∙_, sym, ap}
 use borrow.Author.Needs.{needs, sfits-of}
-use lib.IntN.{_*ℤ_}
+use lib.IntN.{ℤ, _*ℤ_}
 use mir.Syntax.{w64}
 use mir.Val.{SFits}
 use Prim.Native.Nat.{_*_}
@@ -11,8 +11,8 @@ use Rattle.integers.specs.Within.{Within}
 use Rattle.integers.proofs.MachineLaws.{round-trip, round-trip-widen, sfits-widen-trip}
 use Rattle.integers.proofs.BoundLaws.{within-fits, within-eq, within-mul, within-add}
 use Rattle.integers.proofs.ClipLaws.{clip3-within}
-use Rattle.scaling_values.specs.Level.{levelBy}
-use Rattle.scaling_values.proofs.LevelLaws.{levelBy-fits, manageable-ends}
+use Rattle.scaling_values.specs.Level.{levelBy, resultBy, outsideBy}
+use Rattle.scaling_values.proofs.LevelLaws.{levelBy-fits, manageable-ends, moved-outside}
 use Rattle.scaling_values.proofs.level.scaled.Statement.{statement}
 use Rattle.scaling_values.proofs.level.scaled.Tie as tie
 
@@ -25,8 +25,8 @@ most-fits c = within-fits tt (c .pre .0 .most)
 add-fits : (c : tie.Start) → SFits w64 (c .args .by .add)
 add-fits c = within-fits tt (c .pre .0 .add)
 
-cast-limited : tie.Need-cast-limited
-cast-limited c = sfits-widen-trip (c .fits .level) tt
+cast-given : tie.Need-cast-given
+cast-given c = sfits-widen-trip (c .fits .level) tt
 
 limited-requires : tie.Need-limited-requires
 limited-requires c κs = let s = c .before .before in rw (round-trip (least-fits s), round-trip (most-fits s)) (s .pre .0 .ordered)
@@ -34,7 +34,7 @@ limited-requires c κs = let s = c .before .before in rw (round-trip (least-fits
 limited-is : (c : tie.After-limited) → let a = c .before .before .before .args in c .limited .result ≡ clip3 (a .by .«clip_min») (a .by .«clip_max») (a .level)
 limited-is c =
     let s = c .before .before .before in
-    rw (round-trip (least-fits s), round-trip (most-fits s), round-trip-widen w64 (s .fits .level) tt) at (c .limited .ensures)
+    rw (round-trip (least-fits s), round-trip (most-fits s), round-trip (cast-given s), round-trip (s .fits .level)) at (c .limited .ensures)
 
 limited-within : (c : tie.After-limited) → Within 4194304 (c .limited .result)
 limited-within c =
@@ -64,20 +64,18 @@ limited-requires-2 c κs =
     let s = c .before .before .before .before .before .before .before .before in
     rw (round-trip (least-fits s), round-trip (most-fits s)) (s .pre .0 .ordered)
 
--- the result in the contract's terms
-result-is : (c : tie.After-limited2) → let a = c .before .before .before .before .before .before .before .before .before .args in c .limited2 .result ≡ levelBy (a .by) (a .factor) (a .level)
-unfolding levelBy
-result-is c =
-    let d = c .before .before .before in
-    let t = d .before in
+-- the numbers on the way, in the contract's terms
+abbrev start : tie.After-limited2 → tie.Start
+start c = c .before .before .before .before .before .before .before .before .before
+
+shifted-is : (c : tie.After-shift-right) → let a = c .before .before .before .before .before .before .args in c .shift-right .result ≡ resultBy (a .by) (a .factor) (a .level)
+unfolding resultBy
+shifted-is c =
+    let t = c .before in
     let b = t .before .before in
     let s = b .before .before .before in
     rw (
-      c .limited2 .ensures,
-      round-trip (least-fits s),
-      round-trip (most-fits s),
-      round-trip (sfits-of (d .shift-right .ok)),
-      d .shift-right .ensures,
+      c .shift-right .ensures,
       round-trip (add-shift-right t),
       round-trip (mul-shift-right b),
       round-trip (sfits-of (b .limited .ok)),
@@ -86,23 +84,58 @@ result-is c =
       limited-is b,
     )
 
-cast-t8 : tie.Need-cast-t8
-cast-t8 c =
-    let s = c .before .before .before .before .before .before .before .before .before in
+limit-is : (c : tie.After-limited2) → let a = c .before .before .before .before .before .before .before .before .before .args in c .limited2 .result ≡ clip3 (a .by .«clip_min») (a .by .«clip_max») (resultBy (a .by) (a .factor) (a .level))
+limit-is c =
+    let d = c .before .before .before in
+    let s = d .before .before .before .before .before .before in
+    rw (round-trip (least-fits s), round-trip (most-fits s), round-trip (sfits-of (d .shift-right .ok))) at (c .limited2 .ensures)
+    ∙ ap (λ (z : ℤ). clip3 (s .args .by .«clip_min») (s .args .by .«clip_max») z) (shifted-is d)
+
+result-is : (c : tie.After-limited2) → let a = c .before .before .before .before .before .before .before .before .before .args in c .limited2 .result ≡ levelBy (a .by) (a .factor) (a .level)
+unfolding levelBy resultBy
+result-is c = limit-is c
+
+cast-t10 : tie.Need-cast-t10
+cast-t10 c =
+    let s = start c in
     rw (round-trip (sfits-of (c .limited2 .ok)), result-is c) (levelBy-fits (s .args .factor) (s .args .level) (manageable-ends (s .pre .0)))
 
+moved-requires : tie.Need-moved-requires
+moved-requires c κs = search needs
+
+moved-requires-2 : tie.Need-moved-requires-2
+moved-requires-2 c κs = search needs
+
 returns : tie.Need-returns
-returns c = round-trip (cast-t8 c) ∙ round-trip (sfits-of (c .limited2 .ok)) ∙ result-is c
+unfolding outsideBy
+returns c =
+    let m = c .before in
+    let l = m .before in
+    let d = l .before .before .before in
+    let b = d .before .before .before in
+    let s = start l in
+    let by = s .args .by in
+    record {
+      value = round-trip (cast-t10 l) ∙ round-trip (sfits-of (l .limited2 .ok)) ∙ result-is l;
+      before =
+          rw (round-trip (cast-given s), round-trip (s .fits .level), round-trip (sfits-of (b .limited .ok))) at (m .moved .ensures)
+          ∙ moved-outside (by .«clip_min») (by .«clip_max») (s .args .level) (s .pre .0 .ordered) (limited-is b);
+      after =
+          rw (round-trip (sfits-of (d .shift-right .ok)), round-trip (sfits-of (l .limited2 .ok)), shifted-is d) at (c .moved2 .ensures)
+          ∙ moved-outside (by .«clip_min») (by .«clip_max») (resultBy by (s .args .factor) (s .args .level)) (s .pre .0 .ordered) (limit-is l);
+    }
 
 pub scaled-spec : {M : Type 1} → statement M
 scaled-spec =
     tie.close
     (tie.spec
-    cast-limited
+    cast-given
     limited-requires
     mul-shift-right
     add-shift-right
     shift-right-requires
     limited-requires-2
-    cast-t8
+    cast-t10
+    moved-requires
+    moved-requires-2
     returns)

@@ -12,7 +12,7 @@ use Rattle.integers.specs.Within.{Within}
 use Rattle.integers.proofs.MachineLaws.{round-trip}
 use Rattle.integers.proofs.BoundLaws.{within-fits, within-eq, within-mul, within-pos}
 use Rattle.integers.proofs.ShiftLaws.{shiftRight-within}
-use Rattle.scaling_values.specs.Level.{listedLevel}
+use Rattle.scaling_values.specs.Level.{listedLevel, listedResult}
 use Rattle.scaling_values.proofs.level.scaled_listed.Statement.{statement}
 use Rattle.scaling_values.proofs.level.scaled_listed.Tie as tie
 
@@ -43,11 +43,12 @@ scaled-requires c κs =
     (c .before .before .pre, rw (round-trip (mul-scaled c), round-trip (sfits-of (c .shift-right .ok)), m-is (c .before .before)) (product-within c))
 
 returns : tie.Need-returns
-unfolding listedLevel
+unfolding listedLevel listedResult
 returns c =
     let b = c .before in
     let s = b .before .before in
-    rw (round-trip (mul-scaled b), round-trip (sfits-of (b .shift-right .ok)), m-is s, round-trip (s .fits .level), base-is b) at (c .scaled .ensures)
+    let numbers = rw (round-trip (mul-scaled b), round-trip (sfits-of (b .shift-right .ok)), m-is s, round-trip (s .fits .level), base-is b) at (c .scaled .ensures) in
+    record { value = numbers .value; before = numbers .before; after = numbers .after }
 
 pub scaled-listed-spec : {M : Type 1} → statement M
 scaled-listed-spec = tie.close (tie.spec shift-right-requires cast-scaled mul-scaled scaled-requires returns)

@@ -1,0 +1,51 @@
+// The entries of a list laid out as a block of size 16 or 32 has them, so that one loop serves every size.
+ghost use mathlib.Core.Path.{_≡_};
+ghost use Prim.Native.Nat.{_+_, _*_, _<_, _≤_};
+ghost use lib.ListN.{length};
+ghost use Rattle.h265.specs.ScalingFactor.{scalingFactor};
+ghost use Rattle.h265.specs.ScalingFactor.ScalingList.{listed};
+ghost use Rattle.scaling_values.specs.Factor.{WholeList};
+ghost use Rattle.scaling_values.specs.Work.{spreadAt, Rows, Fills};
+use crate::repeats;
+
+// The first of the rows that share their entries.
+fn spread_row(list: &[u8], row: usize, n: usize, repeats: u32, entries: &mut [u8])
+    requires { ⌜ n * n ≤ length (now entries) ⌝ }
+    requires { ⌜ length (now list) ≡ 64 ⌝ }
+    requires { ⌜ Rows n repeats ⌝ }
+    requires { ⌜ row < n ⌝ }
+    ensures { λ r. ⌜ Fills (spreadAt (now (list .entry)) n) (row * n) (row * n + n) (now (entries .entry)) (now (entries .exit)) ⌝ }
+{
+    let at = row * n;
+    let entry = (row >> repeats) * 8;
+    let mut c = 0;
+    while c < n {
+        entries[at + c] = list[entry + (c >> repeats)];
+        c += 1;
+    }
+}
+
+// Its rows.
+fn spread_rows(list: &[u8], n: usize, repeats: u32, entries: &mut [u8])
+    requires { ⌜ n * n ≤ length (now entries) ⌝ }
+    requires { ⌜ length (now list) ≡ 64 ⌝ }
+    requires { ⌜ Rows n repeats ⌝ }
+    ensures { λ r. ⌜ Fills (spreadAt (now (list .entry)) n) 0 (n * n) (now (entries .entry)) (now (entries .exit)) ⌝ }
+{
+    let mut row = 0;
+    while row < n {
+        spread_row(list, row, n, repeats, entries);
+        row += 1;
+    }
+}
+
+// The m of every index: the entries, and the DC number at index 0.
+pub(crate) fn spread(list: &[u8], n: usize, dc: u8, entries: &mut [u8])
+    requires { ⌜ n * n ≤ length (now entries) ⌝ }
+    requires { ⌜ WholeList (length (now list)) n ⌝ }
+    requires { ⌜ 16 ≤ n ⌝ }
+    ensures { λ r. ⌜ Fills (scalingFactor (listed (now (list .entry)) dc) n) 0 (n * n) (now (entries .entry)) (now (entries .exit)) ⌝ }
+{
+    spread_rows(list, n, repeats::repeats_of(n), entries);
+    entries[0] = dc;
+}
