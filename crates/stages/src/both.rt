@@ -1,20 +1,8 @@
 // Both stages of a block on 16-bit data, a function for each size and for blocks that end after their first rows. Stage two writes 32 bits or,
 // where its values fit, 16.
 ghost use mathlib.Core.Path.{_≡_};
-ghost use Prim.Native.Nat.{_-_, _<_, _≤_, _^_};
 ghost use lib.ListN.{length};
-ghost use Rattle.integers.specs.Shift.{pow2};
-ghost use Rattle.integers.specs.Within.{Within};
 ghost use Rattle.stages.specs.Passes.{BothAsk, BothGives};
-
-// What rounding adds before a shift by s.
-fn half(s: u32) -> i32
-    requires { ⌜ (0 < s) × (s ≤ 12) ⌝ }
-    ensures { λ r. ⌜ (r ≡ pow2 (s - 1)) × Within (2 ^ 27) r ⌝ }
-{
-    let h = 1u32 << (s - 1);
-    h as i32
-}
 
 // Both stages of 8 points.
 pub fn both_8(a: &[i16; 64], nx: usize, s: u32, wide: bool, out: &mut [i32], thin: &mut [i16])
@@ -24,7 +12,7 @@ pub fn both_8(a: &[i16; 64], nx: usize, s: u32, wide: bool, out: &mut [i32], thi
     let mut d = [0i16; 64];
     let mut none = [0i32; 1];
     tiles::stage_8(a, nx, 64, 7, false, &mut none[..], &mut d[..]);
-    tiles::stage_8(&d, 8, half(s), s, wide, out, thin);
+    tiles::stage_8(&d, 8, tiles::half(s), s, wide, out, thin);
 }
 
 // The same where rows and columns from 4 on are zero.
@@ -35,7 +23,7 @@ pub fn both_8q(a: &[i16; 32], nx: usize, s: u32, wide: bool, out: &mut [i32], th
     let mut d = [0i16; 32];
     let mut none = [0i32; 1];
     tiles_quarter::stage_8q(a, nx, 64, 7, false, &mut none[..], &mut d[..]);
-    tiles_quarter::stage_8q(&d, 8, half(s), s, wide, out, thin);
+    tiles_quarter::stage_8q(&d, 8, tiles::half(s), s, wide, out, thin);
 }
 
 // Both stages of 16 points.
@@ -46,7 +34,7 @@ pub fn both_16(a: &[i16; 256], nx: usize, s: u32, wide: bool, out: &mut [i32], t
     let mut d = [0i16; 256];
     let mut none = [0i32; 1];
     tiles::stage_16(a, nx, 64, 7, false, &mut none[..], &mut d[..]);
-    tiles::stage_16(&d, 16, half(s), s, wide, out, thin);
+    tiles::stage_16(&d, 16, tiles::half(s), s, wide, out, thin);
 }
 
 // The same where rows and columns from 4 on are zero.
@@ -57,7 +45,7 @@ pub fn both_16q(a: &[i16; 64], nx: usize, s: u32, wide: bool, out: &mut [i32], t
     let mut d = [0i16; 64];
     let mut none = [0i32; 1];
     tiles_quarter::stage_16q(a, nx, 64, 7, false, &mut none[..], &mut d[..]);
-    tiles_quarter::stage_16q(&d, 16, half(s), s, wide, out, thin);
+    tiles_quarter::stage_16q(&d, 16, tiles::half(s), s, wide, out, thin);
 }
 
 // Both stages of 32 points.
@@ -68,7 +56,7 @@ pub fn both_32(a: &[i16; 1024], nx: usize, s: u32, wide: bool, out: &mut [i32], 
     let mut d = [0i16; 1024];
     let mut none = [0i32; 1];
     tiles_32::stage_32(a, nx, 64, 7, false, &mut none[..], &mut d[..]);
-    tiles_32::stage_32(&d, 32, half(s), s, wide, out, thin);
+    tiles_32::stage_32(&d, 32, tiles::half(s), s, wide, out, thin);
 }
 
 // The same where rows and columns from 8 on are zero.
@@ -79,5 +67,5 @@ pub fn both_32q(a: &[i16; 256], nx: usize, s: u32, wide: bool, out: &mut [i32], 
     let mut d = [0i16; 256];
     let mut none = [0i32; 1];
     tiles_quarter::stage_32q(a, nx, 64, 7, false, &mut none[..], &mut d[..]);
-    tiles_quarter::stage_32q(&d, 32, half(s), s, wide, out, thin);
+    tiles_quarter::stage_32q(&d, 32, tiles::half(s), s, wide, out, thin);
 }

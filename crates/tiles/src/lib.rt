@@ -3,10 +3,10 @@
 // Internal: no refusal; callers meet each `requires`.
 ghost use mathlib.Core.Path.{_≡_};
 ghost use mathlib.Core.Bool.{true, false};
-ghost use Prim.Native.Nat.{ℕ, _+_, _*_, _/_, _%_, _<_, _≤_, _^_};
+ghost use Prim.Native.Nat.{ℕ, _+_, _*_, _-_, _/_, _%_, _<_, _≤_, _^_};
 ghost use lib.IntN.{pos, _+ℤ_};
 ghost use lib.ListN.{length, getD};
-ghost use Rattle.integers.specs.Shift.{shiftRight};
+ghost use Rattle.integers.specs.Shift.{pow2, shiftRight};
 ghost use Rattle.integers.specs.Within.{Within};
 ghost use Rattle.h265.specs.Range.{clipCoeff};
 ghost use Rattle.transform_1d.specs.Rows.{Placed, Filled};
@@ -19,6 +19,15 @@ pub fn rounded(x: i32, twice: i32, s: u32) -> i32
     ensures { λ r. ⌜ r ≡ shiftRight (x +ℤ twice) s ⌝ }
 {
     (x + twice) >> s
+}
+
+// What rounding adds before a shift by s.
+pub fn half(s: u32) -> i32
+    requires { ⌜ (0 < s) × (s ≤ 12) ⌝ }
+    ensures { λ r. ⌜ (r ≡ pow2 (s - 1)) × Within (2 ^ 11) r ⌝ }
+{
+    let h = 1u32 << (s - 1);
+    h as i32
 }
 
 // x limited to 16 bits.

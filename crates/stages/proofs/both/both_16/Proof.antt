@@ -3,7 +3,7 @@ use mathlib.Core.Path.{refl, _∙_}
 use native.Mathlib.Omega.{arith}
 use borrow.Author.Needs.{needs, sfits-of}
 use mir.Facts.{toZ-ofZ}
-use Rattle.integers.proofs.BoundLaws.{within-eq}
+use Rattle.integers.proofs.BoundLaws.{within-eq, within-le}
 use Rattle.h265.specs.Range.{clipCoeff}
 use Rattle.stages.proofs.BothLaws.{both-rows, wide-not}
 use Rattle.stages.proofs.both.both_16.Statement.{statement}
@@ -18,7 +18,7 @@ two-requires : tie.Need-stage-16-requires-2
 two-requires c κs =
     let p = c .before .before .before .before .before .before .before .before .before .pre in
     let g = c .before .before .before .before .before .before .stage-16 .ensures .thinRows refl in
-    record { long = g .long; half = within-eq (toZ-ofZ (sfits-of (c .before .before .half .ok))) (c .before .before .half .ensures .1); shift = omega (arith, p .most); few = omega arith; room = p .room; thinRoom = p .thinRoom }
+    record { long = g .long; half = within-eq (toZ-ofZ (sfits-of (c .before .before .half .ok))) (within-le (omega arith) (c .before .before .half .ensures .1)); shift = omega (arith, p .most); few = omega arith; room = p .room; thinRoom = p .thinRoom }
 
 returns : tie.Need-returns
 returns c =
