@@ -37,7 +37,7 @@ use Rattle.h265.specs.Matrix.{transMatrix, absSum}
 use Rattle.h265.specs.Transform.{transformLine, blockAt, rowOrder, columnsRead, stageOneSum, stageOneValue, intermediate, stageTwoSum, stageTwo}
 use Rattle.transform_1d.specs.Lanes.{mirrored, laneMatrix, lineSum}
 use Rattle.transform_1d.specs.Rows.{Placed, Filled}
-use Rattle.transform_1d.proofs.RowsLaws.{row-unique, filled-overwrite}
+use Rattle.transform_1d.proofs.RowsLaws.{row-unique, filled-cong, filled-overwrite, zeros-getD}
 use Rattle.transform_1d.proofs.MatrixLaws.{transformLine-within, Laid}
 use Rattle.coefficients.specs.Rows.{RowsUsed}
 use Rattle.stages.specs.Passes.{shiftedResidual, PassAsk, columnValue, rowValue}
@@ -47,14 +47,6 @@ pub transformLine-short : (t : ℕ → ℕ → ℤ) (n k : ℕ) (y : ℕ → ℤ
     → transformLine t n y m ≡ transformLine t k y m
 unfolding transformLine
 transformLine-short t n k y m l h = sum-short n k (λ i. t i m *ℤ y i) l (λ i a b. ap (λ (z : ℤ). t i m *ℤ z) (h i a b) ∙ *ℤ-zero (t i m))
-
-pub zeros-getD : (k i : ℕ) → getD (replicate k (pos 0)) i (pos 0) ≡ pos 0
-zeros-getD zero i = refl
-zeros-getD (suc k) zero = refl
-zeros-getD (suc k) (suc i) = zeros-getD k i
-
-pub filled-cong : {n w r : ℕ} {f g : ℕ → ℕ → ℤ} {xs ys : List ℤ} → ((k c : ℕ) → k < r → c < w → f k c ≡ g k c) → Filled n w f r xs ys → Filled n w g r xs ys
-filled-cong h p = record { long = p .long; done = λ k c a b. p .done k c a b ∙ h k c a b; kept = p .kept }
 
 -- ---- 16 bits: a sum of at most 1862 × 2^15, shifted by 11 or 12
 floor-fits : (x : ℤ) (m : ℕ) → 2048 ≤ m → posPart x + negPart x ≤ 61016064 → (q : ℤ) → Floor x m q → SFits w16 q

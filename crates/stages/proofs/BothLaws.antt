@@ -1,7 +1,7 @@
 -- Laws of both stages by lines over columns: what they give is the residual.
 --   line-two             a line over what stage one stored is the residual
 --   both-rows            so are its rows, by a function of them
---   wide-not, thin-not   one of the two outputs is used
+--   wide-not             one of the two outputs is used
 --   rows-all             a block has no row past its last
 --   rows-rest            where the rest of a block is zero, its first rows are in use
 --   first-rows           a copy of the first rows of a block reads as the block
@@ -27,14 +27,14 @@ use Rattle.h265.specs.Matrix.{transMatrix, absSum}
 use Rattle.h265.specs.Transform.{transformLine, blockAt, rowOrder, columnsRead, stageOneValue, intermediate, stageTwoSum, stageTwo}
 use Rattle.h265.proofs.TransformLaws.{intermediate-cong, stageTwo-cong, columnsRead-in}
 use Rattle.transform_1d.specs.Rows.{Placed, Filled}
-use Rattle.transform_1d.proofs.RowsLaws.{row-unique, filled-overwrite}
+use Rattle.transform_1d.proofs.RowsLaws.{row-unique, filled-cong, filled-overwrite, zeros-getD}
 use Rattle.transform_1d.proofs.MatrixLaws.{transformLine-within}
 use Rattle.coefficients.specs.Rows.{RowsUsed}
 use Rattle.tiles.specs.Tile.{lineValue}
 use Rattle.tiles.proofs.TileLaws.{lineValue-stageTwo, lineValue-intermediate}
 use Rattle.stages.specs.Passes.{shiftedResidual, BlockAsk}
 use Rattle.stages.proofs.FinishLaws.{clip-fits}
-use Rattle.stages.proofs.BlockLaws.{zeros-getD, filled-cong, intermediate-past, roundShift-fits, clipCoeff-within}
+use Rattle.stages.proofs.BlockLaws.{intermediate-past, roundShift-fits, clipCoeff-within}
 
 -- ---- both stages
 module _ (n nx w : ℕ) (xs : List ℤ) {d : List ℤ} (f : Filled n n (λ c m. clipCoeff 15 (lineValue n (pos 64) 7 xs c m)) nx (replicate w (pos 0)) d) where
@@ -60,9 +60,6 @@ module _ (n nx w : ℕ) (xs : List ℤ) {d : List ℤ} (f : Filled n n (λ c m. 
 
 pub wide-not : {A : Type 0} → false ≡ true → A
 wide-not e = absurd (let z : _≡_ {A = ℕ} 0 1 = cc in let b : ⊥ = omega arith in b)
-
-pub thin-not : {A : Type 0} → true ≡ false → A
-thin-not e = absurd (let z : _≡_ {A = ℕ} 0 1 = cc in let b : ⊥ = omega arith in b)
 
 -- ---- the first rows of a block
 pub rows-all : (coeff : List ℤ) (n nx : ℕ) → RowsUsed coeff n nx n

@@ -13,9 +13,10 @@ use Rattle.integers.specs.Shift.{roundShift}
 use Rattle.h265.specs.Range.{clipCoeff}
 use Rattle.h265.specs.Transform.{blockAt, stageOneSum, stageOneValue, intermediate, stageTwoSum, stageTwo}
 use Rattle.transform_1d.specs.Rows.{Filled}
+use Rattle.transform_1d.proofs.RowsLaws.{filled-cong}
 use Rattle.stages_wide.specs.Wide.{limitedBlock}
 use Rattle.stages_wide.specs.Parts.{limitedAt, stageOf, ColumnPlaced}
-use Rattle.stages_wide.proofs.StageLaws.{filled-cong, filled-first, stage-cong}
+use Rattle.stages_wide.proofs.StageLaws.{filled-first, stage-cong}
 use Rattle.stages_wide.proofs.ColumnLaws.{columnPlaced-cong}
 
 pub turned-rows : (t : ℕ → ℕ → ℤ) (n r s : ℕ) (inter : List ℤ) {g₀ g out₀ out : List ℤ} → Filled n n (λ c k. getD inter (k * n + c) (pos 0)) n g₀ g

@@ -19,16 +19,16 @@ use Rattle.integers.specs.Shift.{roundShift}
 use Rattle.integers.specs.Within.{Within}
 use Rattle.integers.proofs.BoundLaws.{within-eq, within-le, within-pos}
 use Rattle.h265.specs.Transform.{transformLine, blockAt}
-use Rattle.tiles_wide.proofs.PassLaws.{zeros-getD}
+use Rattle.tiles_wide.proofs.SplitLaws.{placed-run}
 use Rattle.stages_wide.specs.Wide.{limitedBlock}
 use Rattle.lines_wide.specs.Values.{WideValues, WideOutputs}
 use Rattle.transform_1d.specs.Rows.{Placed, Filled}
-use Rattle.transform_1d.proofs.RowsLaws.{placed-cong, filled-suc}
+use Rattle.transform_1d.proofs.RowsLaws.{placed-cong, filled-suc, filled-cong, zeros-getD}
 use Rattle.transform_1d.proofs.MatrixLaws.{transformLine-cong}
 use Rattle.stages_wide.specs.Parts.{limitedAt, stageOf}
 use Rattle.stages_wide.specs.Products.{limitedUpTo, matrixValue, Picked, RoundAsk, ProductsAsk, LimitedAsk}
 use Rattle.stages_wide.proofs.PartsLaws.{limited-within}
-use Rattle.stages_wide.proofs.StageLaws.{placed-run, place-column, place-inside, filled-cong}
+use Rattle.stages_wide.proofs.StageLaws.{place-column, place-inside}
 
 pub limitedUpTo-in : (r : ℕ) (xs : List ℤ) (w i : ℕ) → i < w → limitedUpTo r xs w i ≡ limitedAt r xs i
 unfolding limitedUpTo

@@ -1,6 +1,6 @@
 -- Laws that bring both stages to the standard's definitions.
 --   intermediate-cong, stageTwo-cong   stages by matrices and data that agree
---   columnsRead-in, -past              a column read, and one that is not
+--   columnsRead-past                   a column that is not read
 --   intermediate-past                  the intermediate of a column that is not read
 --   filled-stages                      both stages of a block
 --   filled-residual                    coefficients in the range need no limit: the residual
@@ -27,15 +27,16 @@ use Rattle.h265.specs.Matrix.{transMatrix, dstMatrix}
 use Rattle.h265.specs.Range.{clipCoeff}
 use Rattle.h265.specs.Transform.{transformLine, blockAt, rowOrder, columnsRead, stageOneSum, stageOneValue, intermediate, stageTwoSum, stageTwoShift, stageTwo, residual}
 use Rattle.h265.proofs.RangeLaws.{clipCoeff-id}
+use Rattle.h265.proofs.TransformLaws.{columnsRead-in}
 use Rattle.transform_1d.specs.MatrixOf.{matrixOf}
 use Rattle.transform_1d.specs.Rows.{Filled}
 use Rattle.transform_1d.specs.declared.Kind.{Kind}
 use Rattle.transform_1d.specs.declared.Kind.the-variants.{Dct, Dst}
-use Rattle.transform_1d.proofs.RowsLaws.{row-unique, filled-overwrite}
+use Rattle.transform_1d.proofs.RowsLaws.{row-unique, filled-cong, filled-overwrite}
 use Rattle.transform_1d.proofs.MatrixLaws.{transformLine-cong}
 use Rattle.stages_wide.specs.Wide.{limitedBlock, WideAsk, DepthAsk, CoeffsInRange}
 use Rattle.stages_wide.specs.Parts.{stageOf, ColumnPlaced, SizeAsk, StagesAsk, bothStages}
-use Rattle.stages_wide.proofs.StageLaws.{clipCoeff-zero, stage-cong, filled-cong}
+use Rattle.stages_wide.proofs.StageLaws.{clipCoeff-zero, stage-cong}
 
 module _ (t u : ℕ → ℕ → ℤ) (n : ℕ) where
   pub intermediate-cong : (r : ℕ) (d e : ℕ → ℕ → ℤ) (m c : ℕ) → ((k : ℕ) → k < n → t k m ≡ u k m) → ((k : ℕ) → k < n → d k c ≡ e k c)
@@ -47,10 +48,6 @@ module _ (t u : ℕ → ℕ → ℤ) (n : ℕ) where
       → stageTwo t n s f m j ≡ stageTwo u n s g m j
   unfolding stageTwo stageTwoSum
   stageTwo-cong s f g m j h k = ap (λ (z : ℤ). roundShift z s) (transformLine-cong t u n (λ c. f m c) (λ c. g m c) j h k)
-
-pub columnsRead-in : (nx : ℕ) (d : ℕ → ℕ → ℤ) (k c : ℕ) → c < nx → columnsRead nx d k c ≡ d k c
-unfolding columnsRead
-columnsRead-in nx d k c h = rw (lt-ltb c nx h)
 
 columnsRead-past : (nx : ℕ) (d : ℕ → ℕ → ℤ) (k c : ℕ) → nx ≤ c → columnsRead nx d k c ≡ pos 0
 unfolding columnsRead

@@ -1,9 +1,8 @@
 -- Laws of a stage: lines over limited values, as rows.
---   placed-run                 what a run from place 0 on has placed
 --   clipCoeff-zero             0 is inside every range
 --   line-short                 what a line leaves out is zero
 --   place-column, place-inside the places of a line down a column of a block, and that they are inside it
---   filled-first, filled-cong  the one row of one line; rows of equal values
+--   filled-first               the one row of one line
 --   stage-cong                 lines over equal values
 --   past-rows                  a list of q rows reads as zero past them
 --   pass-rows, short-rows      what a pass over the first q rows gives, where the rows after them are zero, or are not there
@@ -25,15 +24,13 @@ use Rattle.h265.specs.Range.{clipCoeff, coeffMin, coeffMax}
 use Rattle.h265.specs.Transform.{transformLine, blockAt}
 use Rattle.h265.proofs.RangeLaws.{clipCoeff-id}
 use Rattle.h265.proofs.TransformLaws.{transformLine-cong}
-use Rattle.transform_1d.specs.Rows.{Placed, Filled}
+use Rattle.transform_1d.specs.Rows.{Filled}
+use Rattle.transform_1d.proofs.RowsLaws.{filled-cong}
 use Rattle.tiles.specs.Tile.{lineValue}
 use Rattle.tiles_wide.specs.Split.{limitedList, PassGives}
 use Rattle.tiles_wide.proofs.PassLaws.{limited-in, limited-past}
 use Rattle.stages_wide.specs.Wide.{limitedBlock}
 use Rattle.stages_wide.specs.Parts.{stageOf}
-
-pub placed-run : {w : ℕ} {f : ℕ → ℤ} {xs ys : List ℤ} → Placed 0 w f xs ys → (i : ℕ) → i < w → getD ys i (pos 0) ≡ f i
-placed-run {ys = ys} p i h = ap (λ (k : ℕ). getD ys k (pos 0)) (sym (zero-add i)) ∙ p .done i h
 
 pub clipCoeff-zero : (r : ℕ) → clipCoeff r (pos 0) ≡ pos 0
 unfolding coeffMin coeffMax
@@ -67,9 +64,6 @@ place-inside n lead stride c k h i j =
 
 pub filled-first : {n : ℕ} {g : ℕ → ℕ → ℤ} {xs ys : List ℤ} → Filled n n g 1 xs ys → (m : ℕ) → m < n → getD ys m (pos 0) ≡ g 0 m
 filled-first {n} {ys = ys} p m h = ap (λ (i : ℕ). getD ys i (pos 0)) (let e : m ≡ 0 * n + m = omega arith in e) ∙ p .done 0 m (omega arith) h
-
-pub filled-cong : {n w rows : ℕ} {f g : ℕ → ℕ → ℤ} {xs ys : List ℤ} → ((r c : ℕ) → r < rows → c < w → f r c ≡ g r c) → Filled n w f rows xs ys → Filled n w g rows xs ys
-filled-cong e p = record { long = p .long; done = λ r c i j. p .done r c i j ∙ e r c i j; kept = p .kept }
 
 pub stage-cong : (t : ℕ → ℕ → ℤ) (n s : ℕ) (y z : ℕ → ℕ → ℤ) (c d m : ℕ) → ((k : ℕ) → k < n → y k c ≡ z k d) → stageOf t n y s c m ≡ stageOf t n z s d m
 stage-cong t n s y z c d m h = ap (λ (v : ℤ). roundShift v s) (transformLine-cong t n (λ k. y k c) (λ k. z k d) m h)

@@ -36,6 +36,7 @@ use Rattle.h265.specs.Range.{clipCoeff}
 use Rattle.h265.specs.Transform.{transformLine, blockAt}
 use Rattle.h265.proofs.TransformLaws.{transformLine-cong}
 use Rattle.transform_1d.specs.Rows.{Placed, Filled}
+use Rattle.transform_1d.proofs.RowsLaws.{filled-cong, zeros-getD}
 use Rattle.transform_1d.proofs.MatrixLaws.{transformLine-within}
 use Rattle.tiles.specs.Tile.{lineValue}
 use Rattle.tiles_wide.specs.Split.{highOf, lowOf, limitedList, Narrow, JoinAsk, PassGives}
@@ -109,11 +110,6 @@ unfolding limitedList
 limited-past r w xs i h =
     List·getD-eq-default (tabulate w (λ i. clipCoeff r (getD xs i (pos 0)))) (pos 0) (omega (arith, tabulate-length w (λ i. clipCoeff r (getD xs i (pos 0)))))
 
-pub zeros-getD : (k i : ℕ) → getD (replicate k (pos 0)) i (pos 0) ≡ pos 0
-zeros-getD zero i = refl
-zeros-getD (suc k) zero = refl
-zeros-getD (suc k) (suc i) = zeros-getD k i
-
 -- a list of w places that a run has filled reads as zero past them
 pub run-past : {w : ℕ} {f : ℕ → ℤ} {ys : List ℤ} → Placed 0 w f (replicate w (pos 0)) ys → (i : ℕ) → w ≤ i → getD ys i (pos 0) ≡ pos 0
 run-past {w} p i h = p .kept i (λ j l e. omega arith) ∙ zeros-getD w i
@@ -172,9 +168,6 @@ joined-rows {n} {f} {g} {e} {r} by {zs} {hs} {xs} {ys} {os} o p q j v =
     }
 
 -- ---- what the stages' proofs cite
-pub filled-cong : {n w r : ℕ} {f g : ℕ → ℕ → ℤ} {xs ys : List ℤ} → ((k c : ℕ) → k < r → c < w → f k c ≡ g k c) → Filled n w f r xs ys → Filled n w g r xs ys
-filled-cong h p = record { long = p .long; done = λ k c a b. p .done k c a b ∙ h k c a b; kept = p .kept }
-
 pub thin-not : {A : Type 0} → true ≡ false → A
 thin-not e = absurd (let z : _≡_ {A = ℕ} 0 1 = cc in let b : ⊥ = omega arith in b)
 

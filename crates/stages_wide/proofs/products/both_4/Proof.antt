@@ -2,7 +2,7 @@
 use borrow.Author.Needs.{needs}
 use native.Mathlib.Omega.{arith}
 use Rattle.transform_1d.specs.MatrixOf.{matrixOf}
-use Rattle.tiles_wide.proofs.PassLaws.{zeros-getD}
+use Rattle.transform_1d.proofs.RowsLaws.{zeros-getD}
 use Rattle.stages_wide.proofs.ResultLaws.{filled-stages}
 use Rattle.stages_wide.proofs.ProductsLaws.{limitedAsk-four, four-rows}
 use Rattle.stages_wide.proofs.products.both_4.Statement.{statement}

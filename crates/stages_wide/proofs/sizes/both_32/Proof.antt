@@ -2,7 +2,7 @@
 use native.Mathlib.Omega.{arith}
 use borrow.Author.Needs.{needs}
 use Rattle.h265.specs.Matrix.{transMatrix}
-use Rattle.tiles_wide.proofs.PassLaws.{zeros-getD}
+use Rattle.transform_1d.proofs.RowsLaws.{zeros-getD}
 use Rattle.stages_wide.proofs.StageLaws.{pass-rows}
 use Rattle.stages_wide.proofs.ResultLaws.{filled-stages}
 use Rattle.stages_wide.proofs.sizes.both_32.Statement.{statement}
