@@ -18,7 +18,7 @@ WRAPPERS = {"c_api"}
 SUPPORT = {"cases"}
 
 # how many statements stand under two names, as tests/same_laws.py counts them: it only goes down
-SAME_LAWS = 14
+SAME_LAWS = 12
 
 # in halves, so that the rule does not find itself
 MARKS = re.compile(r"\b(" + "|".join(("TO" "DO", "FIX" "ME", "X" "XX")) + r")\b")
