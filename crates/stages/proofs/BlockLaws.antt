@@ -37,26 +37,16 @@ use Rattle.h265.specs.Matrix.{transMatrix, absSum}
 use Rattle.h265.specs.Transform.{transformLine, blockAt, rowOrder, columnsRead, stageOneSum, stageOneValue, intermediate, stageTwoSum, stageTwo}
 use Rattle.transform_1d.specs.Lanes.{mirrored, laneMatrix, lineSum}
 use Rattle.transform_1d.specs.Rows.{Placed, Filled}
-use Rattle.transform_1d.proofs.KernelLaws.{laneMatrix-low, laneMatrix-high}
-use Rattle.transform_1d.proofs.RowsLaws.{row-unique, filled-overwrite}
-use Rattle.transform_1d.proofs.MatrixLaws.{transformLine-within, transMatrix-mirror-8, transMatrix-mirror-16, Laid}
+use Rattle.transform_1d.proofs.RowsLaws.{row-unique, filled-cong, filled-overwrite, zeros-getD}
+use Rattle.transform_1d.proofs.MatrixLaws.{transformLine-within, Laid}
 use Rattle.coefficients.specs.Rows.{RowsUsed}
-use Rattle.stages.specs.Passes.{shiftedResidual, PassAsk, columnValue, rowValue, folded, foldedLane}
+use Rattle.stages.specs.Passes.{shiftedResidual, PassAsk, columnValue, rowValue}
 use Rattle.stages.proofs.FinishLaws.{clip-fits}
-use Rattle.stages.proofs.PassesLaws.{folded-low, folded-high, folded-inside, folded-back, foldedLane-low, foldedLane-high}
 
 pub transformLine-short : (t : ℕ → ℕ → ℤ) (n k : ℕ) (y : ℕ → ℤ) (m : ℕ) → k ≤ n → ((i : ℕ) → k ≤ i → i < n → y i ≡ pos 0)
     → transformLine t n y m ≡ transformLine t k y m
 unfolding transformLine
 transformLine-short t n k y m l h = sum-short n k (λ i. t i m *ℤ y i) l (λ i a b. ap (λ (z : ℤ). t i m *ℤ z) (h i a b) ∙ *ℤ-zero (t i m))
-
-zeros-getD : (k i : ℕ) → getD (replicate k (pos 0)) i (pos 0) ≡ pos 0
-zeros-getD zero i = refl
-zeros-getD (suc k) zero = refl
-zeros-getD (suc k) (suc i) = zeros-getD k i
-
-pub filled-cong : {n w r : ℕ} {f g : ℕ → ℕ → ℤ} {xs ys : List ℤ} → ((k c : ℕ) → k < r → c < w → f k c ≡ g k c) → Filled n w f r xs ys → Filled n w g r xs ys
-filled-cong h p = record { long = p .long; done = λ k c a b. p .done k c a b ∙ h k c a b; kept = p .kept }
 
 -- ---- 16 bits: a sum of at most 1862 × 2^15, shifted by 11 or 12
 floor-fits : (x : ℤ) (m : ℕ) → 2048 ≤ m → posPart x + negPart x ≤ 61016064 → (q : ℤ) → Floor x m q → SFits w16 q
@@ -71,7 +61,7 @@ roundShift-fits s {x} h l w =
       | no d ↦ rw (let e : s ≡ 12 = omega arith in e) (floor-fits (x +ℤ pos 2048) 4096 (omega arith) (omega (arith, within-in w, parts-add-le x (pos 2048))) (shrZ (x +ℤ pos 2048) 4096) (shr-floor (x +ℤ pos 2048) 4096 (omega arith)))
     ]
 
-clipCoeff-within : (x : ℤ) → Within 32768 (clipCoeff 15 x)
+pub clipCoeff-within : (x : ℤ) → Within 32768 (clipCoeff 15 x)
 unfolding clipCoeff coeffMin coeffMax
 clipCoeff-within x = clip3-within (negsuc 32767) (pos 32767) x (record { le = tt }) (record { within = omega arith }) (record { within = omega arith })
 
@@ -144,50 +134,6 @@ lanes-folded {xs = xs} {place} {lane} F =
 
 pub unfolds-plain : {t : ℕ → ℕ → ℤ} {n : ℕ} {xs : List ℤ} → Laid t n xs → Unfolds t n xs (λ m. m) (λ p. p)
 unfolds-plain T = record { inside = λ m h. h; back = λ m h. refl; reads = T .reads }
-
-lane-low : (n m : ℕ) → m < n / 2 → foldedLane n (folded n m) ≡ m
-lane-low n m h = ap (foldedLane n) (folded-low n m h) ∙ foldedLane-low n m h
-
-lane-high : (n m : ℕ) → n ≡ 2 * (n / 2) → n ≤ 32 → m < n → n / 2 ≤ m → foldedLane n (folded n m) ≡ 32 - n + m
-lane-high n m e l h k =
-    ap (foldedLane n) (folded-high n m k) ∙ foldedLane-high n (n + n / 2 - 1 - m) (omega arith)
-    ∙ (let f : 31 + n / 2 - (n + n / 2 - 1 - m) ≡ 32 - n + m = omega arith in f)
-
--- up to 16 points a mirrored lane reads the right half
-pub unfolds-half : {t : ℕ → ℕ → ℤ} (n : ℕ) {xs : List ℤ} → Laid t n xs → n ≡ 2 * (n / 2) → n ≤ 16
-    → ((k j : ℕ) → k < n → j < n / 2 → t k (n - 1 - j) ≡ mirrored k (t k j)) → Unfolds t n xs (folded n) (foldedLane n)
-unfolds-half {t} n {xs} T e l mirror =
-    record {
-      inside = folded-inside n;
-      back = λ m h. folded-back n m e h;
-      reads = λ k m hk hm.
-          elim (decLt m (n / 2)) [
-            | yes y ↦ ap (laneMatrix xs k) (lane-low n m y) ∙ T .reads k m hk hm
-            | no d ↦ ap (laneMatrix xs k) (lane-high n m e (omega arith) hm (omega arith) ∙ (let f : 32 - n + m ≡ 31 - (n - 1 - m) = omega arith in f))
-                ∙ laneMatrix-high xs k (n - 1 - m) (omega arith)
-                ∙ ap (mirrored k) (sym (laneMatrix-low xs k (n - 1 - m) (omega arith)) ∙ T .reads k (n - 1 - m) hk (omega arith))
-                ∙ sym (mirror k (n - 1 - m) hk (omega arith))
-                ∙ ap (t k) (let f : n - 1 - (n - 1 - m) ≡ m = omega arith in f)
-          ];
-    }
-
-pub unfolds-8 : {xs : List ℤ} → Laid (transMatrix 8) 8 xs → Unfolds (transMatrix 8) 8 xs (folded 8) (foldedLane 8)
-unfolds-8 T = unfolds-half 8 T refl (omega arith) transMatrix-mirror-8
-
-pub unfolds-16 : {xs : List ℤ} → Laid (transMatrix 16) 16 xs → Unfolds (transMatrix 16) 16 xs (folded 16) (foldedLane 16)
-unfolds-16 T = unfolds-half 16 T refl (omega arith) transMatrix-mirror-16
-
-pub unfolds-32 : {xs : List ℤ} → Laid (transMatrix 32) 32 xs → Unfolds (transMatrix 32) 32 xs (folded 32) (foldedLane 32)
-unfolds-32 {xs} T =
-    record {
-      inside = folded-inside 32;
-      back = λ m h. folded-back 32 m refl h;
-      reads = λ k m hk hm.
-          elim (decLt m 16) [
-            | yes y ↦ ap (laneMatrix xs k) (lane-low 32 m y) ∙ T .reads k m hk hm
-            | no d ↦ ap (laneMatrix xs k) (lane-high 32 m refl (omega arith) hm (omega arith) ∙ (let e : 32 - 32 + m ≡ m = omega arith in e)) ∙ T .reads k m hk hm
-          ];
-    }
 
 -- ---- stage one
 module _ {t : ℕ → ℕ → ℤ} {n : ℕ} {xs : List ℤ} (T : Laid t n xs) {coeff a : List ℤ} {nx ny : ℕ} (src : Source n nx ny coeff a) where

@@ -2,4 +2,5 @@
 pub mod FinishLaws
 pub mod PassesLaws
 pub mod BlockLaws
+pub mod BothLaws
 pub mod PlainLaws

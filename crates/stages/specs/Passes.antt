@@ -5,26 +5,23 @@
 --   PassAsk           what a pass over lines of n points asks: it reads columns of x and writes rows of d
 --   columnValue       the intermediate at row m and column c, from a line over column c
 --   rowValue          the residual at row m and column j, from a line over row m
---   folded n m        where output m of n stands in a folded row: the right half in reverse
---   foldedLane n p    the output of a line, as `laneOutput` counts them, that stands at place p of a folded row
---   foldedColumn, foldedRow   `columnValue` and `rowValue` where the intermediate stands folded
---   foldedOutput, turnedRow   `foldedRow` where the outputs stand folded too, and once they are put in order
---   Run at w xs r             r begins with the w elements of xs from place at on
---   Turned n rows xs ys       ys is xs with its first rows, n long, put in order
+--   BothAsk           what both stages ask of a block's first q rows, of which columns from q on are not read
+--   BothGives         what they give: residuals as rows of one list, or limited to 16 bits of another
 use mathlib.Core.Path.{_≡_}
-use mathlib.Core.Bool.{cond}
+use mathlib.Core.Bool.{Bool, true, false}
 use mathlib.Core.List.{List}
-use Prim.Native.Nat.{ℕ, _+_, _-_, _*_, _/_, _^_, _<_, _≤_}
-use lib.Dec.{ltb}
+use Prim.Native.Nat.{ℕ, _+_, _*_, _^_, _<_, _≤_}
 use lib.IntN.{ℤ, pos}
 use lib.ListN.{getD, length}
 use mir.Syntax.{w16}
 use mir.Val.{SFits}
 use Rattle.integers.specs.Shift.{roundShift}
 use Rattle.integers.specs.Within.{Within}
+use Rattle.h265.specs.Matrix.{transMatrix}
 use Rattle.h265.specs.Range.{clipCoeff}
 use Rattle.h265.specs.Transform.{blockAt, columnsRead, intermediate, stageTwo}
 use Rattle.transform_1d.specs.Lanes.{lineSum, SmallEntries}
+use Rattle.transform_1d.specs.Rows.{Filled}
 
 unfoldable pub shiftedResidual : (ℕ → ℕ → ℤ) → ℕ → ℕ → ℕ → List ℤ → ℕ → ℕ → ℤ
 shiftedResidual t n s nx xs m j = stageTwo t n s (intermediate t n 15 (columnsRead nx (blockAt n xs))) m j
@@ -54,28 +51,14 @@ columnValue t x n groups c m = clipCoeff 15 (roundShift (lineSum t x c n groups 
 abbrev pub rowValue : List ℤ → List ℤ → ℕ → ℕ → ℕ → ℕ → ℕ → ℤ
 rowValue t x n groups s m j = roundShift (lineSum t x m n groups j) s
 
-unfoldable pub folded : ℕ → ℕ → ℕ
-folded n m = cond (ltb m (n / 2)) m (n + n / 2 - 1 - m)
+pub record BothAsk (q n s nx : ℕ) (xs : List ℤ) (wide : Bool) (outLength thinLength : ℕ) : Type 0 where
+  pub long : length xs ≡ q * n
+  pub least : 0 < s
+  pub most : s ≤ 12
+  pub columns : nx ≤ q
+  pub room : wide ≡ true → n * n ≤ outLength
+  pub thinRoom : wide ≡ false → n * n ≤ thinLength
 
-unfoldable pub foldedLane : ℕ → ℕ → ℕ
-foldedLane n p = cond (ltb p (n / 2)) p (31 + n / 2 - p)
-
-abbrev pub foldedColumn : List ℤ → List ℤ → ℕ → ℕ → ℕ → ℕ → ℤ
-foldedColumn t x n groups c p = columnValue t x n groups c (foldedLane n p)
-
-abbrev pub foldedRow : List ℤ → List ℤ → ℕ → ℕ → ℕ → ℕ → ℕ → ℤ
-foldedRow t x n groups s m j = rowValue t x n groups s (folded n m) j
-
-abbrev pub foldedOutput : List ℤ → List ℤ → ℕ → ℕ → ℕ → ℕ → ℕ → ℤ
-foldedOutput t x n groups s m p = foldedRow t x n groups s m (foldedLane n p)
-
-abbrev pub turnedRow : List ℤ → List ℤ → ℕ → ℕ → ℕ → ℕ → ℕ → ℤ
-turnedRow t x n groups s m j = foldedOutput t x n groups s m (folded n j)
-
-pub record Run (at w : ℕ) (xs r : List ℤ) : Type 0 where
-  pub same : (j : ℕ) → j < w → getD r j (pos 0) ≡ getD xs (at + j) (pos 0)
-
-pub record Turned (n rows : ℕ) (xs ys : List ℤ) : Type 0 where
-  pub long : length ys ≡ length xs
-  pub done : (r j : ℕ) → r < rows → j < n → getD ys (r * n + j) (pos 0) ≡ getD xs (r * n + folded n j) (pos 0)
-  pub rest : (i : ℕ) → rows * n ≤ i → getD ys i (pos 0) ≡ getD xs i (pos 0)
+pub record BothGives (n s nx : ℕ) (xs : List ℤ) (wide : Bool) (out out₂ thin thin₂ : List ℤ) : Type 0 where
+  pub rows : wide ≡ true → Filled n n (shiftedResidual (transMatrix n) n s nx xs) n out out₂
+  pub thinRows : wide ≡ false → Filled n n (λ m j. clipCoeff 15 (shiftedResidual (transMatrix n) n s nx xs m j)) n thin thin₂

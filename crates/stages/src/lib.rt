@@ -14,10 +14,10 @@ ghost use Rattle.stages.specs.Passes.{shiftedResidual, BlockAsk};
 use coefficients::rows_used;
 use transform_1d::Kind;
 
-mod scan; // which rows of 16-bit coefficients are in use, and the narrowing of coefficients
+mod scan; // which rows of 16-bit coefficients are in use, and coefficients narrowed or copied
 mod finish; // rounding and storing of a line's outputs
-mod turn; // rows that stand folded, put in order
-mod passes; // one stage of a block, a function for each size
+mod passes; // one stage of a block of size 4
+mod both; // both stages over 16-bit data
 mod blocks; // both stages of a block, a function for each size
 mod blocks16; // the same, 16 bits wide
 

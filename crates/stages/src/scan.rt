@@ -38,19 +38,6 @@ pub fn rows_used16(coeff: &[i16], n: usize, nx: usize, least: usize) -> usize
     k
 }
 
-// x limited to 16 bits.
-fn limited(x: i32) -> i16
-    ensures { λ r. ⌜ r ≡ clipCoeff 15 x ⌝ }
-{
-    if x > 32767 {
-        return 32767;
-    }
-    if x < -32768 {
-        return -32768;
-    }
-    x as i16
-}
-
 // The first w coefficients, in 16 bits. Columns that are not read may hold anything, so that each is limited: the compiler's pack does that.
 pub fn narrow(coeff: &[i32], w: usize, a: &mut [i16])
     requires { ⌜ (w ≤ length (now coeff)) × (w ≤ length (now a)) ⌝ }
@@ -58,7 +45,19 @@ pub fn narrow(coeff: &[i32], w: usize, a: &mut [i16])
 {
     let mut i: usize = 0;
     while i < w {
-        a[i] = limited(coeff[i]);
+        a[i] = tiles::limited(coeff[i]);
+        i += 1;
+    }
+}
+
+// The first w coefficients as they are.
+pub fn copied(coeff: &[i16], w: usize, a: &mut [i16])
+    requires { ⌜ (w ≤ length (now coeff)) × (w ≤ length (now a)) ⌝ }
+    ensures { λ _. ⌜ Placed 0 w (λ j. getD (now (coeff .entry)) j (pos 0)) (now (a .entry)) (now (a .exit)) ⌝ }
+{
+    let mut i: usize = 0;
+    while i < w {
+        a[i] = coeff[i];
         i += 1;
     }
 }

@@ -1,6 +1,6 @@
 -- Laws of columns that a loop stores.
 --   column-place, column-inside     the places of a column are apart, and inside the block
---   columnPlaced-zero, -suc, -all   no row; one row more; all rows
+--   columnPlaced-zero, -suc, -put, -all   no row; one row more, also by another name of its place; all rows
 --   columnPlaced-cong               a column of equal values
 --   columnPlaced-replaced           a whole column: the list with that column replaced
 --   filled-columns-zero, -all       no column; the same columns by another name of their number
@@ -40,6 +40,10 @@ columnPlaced-suc {n} {c} {m} {f} {xs} {ys} {v} h p l e =
           ];
       kept = λ i k. getD-set-other ys (m * n + c) i v (pos 0) (λ q. k m (omega arith) q) ∙ p .kept i (λ j a q. k j (omega arith) q);
     }
+
+pub columnPlaced-put : {n c m : ℕ} {f : ℕ → ℤ} {xs ys : List ℤ} {v : ℤ} {i : ℕ}
+    → c < n → ColumnPlaced n c f m xs ys → m * n + c ≡ i → i < length xs → v ≡ f m → ColumnPlaced n c f (m + 1) xs (set ys i v)
+columnPlaced-put {n} {c} {m} {f} {xs} {ys} {v} h p q l e = subst (λ (i : ℕ). ColumnPlaced n c f (m + 1) xs (set ys i v)) q (columnPlaced-suc h p (omega arith) e)
 
 pub columnPlaced-all : {n c : ℕ} (m : ℕ) {k : ℕ} {f : ℕ → ℤ} {xs ys : List ℤ} → k ≡ m → ColumnPlaced n c f k xs ys → ColumnPlaced n c f m xs ys
 columnPlaced-all {n} {c} m {f = f} {xs} {ys} e p = subst (λ (k : ℕ). ColumnPlaced n c f k xs ys) e p

@@ -15,12 +15,14 @@ use Rattle.integers.specs.Sum.{sum}
 use Rattle.h265.specs.Matrix.{transMatrix32, transMatrix}
 use Rattle.h265.specs.Range.{clipCoeff}
 use Rattle.h265.specs.Transform.{transformLine, blockAt, columnsRead, stageOneSum, stageOneValue, intermediate, stageTwoSum, stageTwo}
+use Rattle.h265.proofs.TransformLaws.{columnsRead-in}
 use Rattle.transform_1d.specs.Rows.{Placed, Filled}
+use Rattle.tiles_wide.proofs.SplitLaws.{placed-run}
 use Rattle.stages_wide.specs.Wide.{limitedBlock}
 use Rattle.coefficients.specs.Rows.{RowsUsed}
 use Rattle.stages_wide.specs.Parts.{limitedAt, bothStages}
-use Rattle.stages_wide.proofs.StageLaws.{clipCoeff-zero, line-short, placed-run}
-use Rattle.stages_wide.proofs.ResultLaws.{columnsRead-in, intermediate-past}
+use Rattle.stages_wide.proofs.StageLaws.{clipCoeff-zero, line-short}
+use Rattle.stages_wide.proofs.ResultLaws.{intermediate-past}
 
 pub first-inside : {n k : ℕ} → 0 < n → n * n ≤ k → 0 < k
 first-inside h l = omega (arith, l, mul-le-mul h h)

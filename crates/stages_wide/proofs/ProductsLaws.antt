@@ -5,9 +5,7 @@
 --   wideValues-picked, roundAsk-outputs    a line meets what it asks, and its outputs what rounding asks
 --   filled-products, picked-four           one line more; the values of a column of four
 --   limitedAsk-four                        what a stage of 4 points asks
---   matrixValue-laid                       a line by a matrix is the line by a layout that reads back as that matrix
---   layoutOf-kind, filled-four             such a layout for each kind at 4 points, and lines by it
---   limitedAsk-eight, filled-eight         what a stage of 8 points asks and gives, where the layout is the DCT's
+--   four-rows                              what a stage of 4 points gives
 use mathlib.Core.Path.{_≡_, refl, sym, ap, _∙_, subst}
 use mathlib.Core.List.{List, [], _∷_}
 use Prim.Native.Nat.{ℕ, zero, suc, _+_, _*_, _^_, _≤_, _<_}
@@ -20,21 +18,17 @@ use lib.ListN.{length, getD, replicate}
 use Rattle.integers.specs.Shift.{roundShift}
 use Rattle.integers.specs.Within.{Within}
 use Rattle.integers.proofs.BoundLaws.{within-eq, within-le, within-pos}
-use Rattle.h265.specs.Matrix.{transMatrix}
-use Rattle.h265.specs.Transform.{transformLine}
+use Rattle.h265.specs.Transform.{transformLine, blockAt}
+use Rattle.tiles_wide.proofs.SplitLaws.{placed-run}
+use Rattle.stages_wide.specs.Wide.{limitedBlock}
 use Rattle.lines_wide.specs.Values.{WideValues, WideOutputs}
-use Rattle.transform_1d.specs.Lanes.{lanes, laneMatrix}
-use Rattle.transform_1d.specs.MatrixOf.{matrixOf}
 use Rattle.transform_1d.specs.Rows.{Placed, Filled}
-use Rattle.transform_1d.specs.declared.Kind.{Kind}
-use Rattle.transform_1d.specs.declared.Kind.the-variants.{Dct, Dst}
-use Rattle.transform_1d.proofs.RowsLaws.{placed-cong, filled-suc}
+use Rattle.transform_1d.proofs.RowsLaws.{placed-cong, filled-suc, filled-cong, zeros-getD}
 use Rattle.transform_1d.proofs.MatrixLaws.{transformLine-cong}
-use Rattle.stages_wide.specs.Parts.{limitedAt, LayoutOf, StageAsk, StagesAsk, stageValue}
+use Rattle.stages_wide.specs.Parts.{limitedAt, stageOf}
 use Rattle.stages_wide.specs.Products.{limitedUpTo, matrixValue, Picked, RoundAsk, ProductsAsk, LimitedAsk}
 use Rattle.stages_wide.proofs.PartsLaws.{limited-within}
-use Rattle.stages_wide.proofs.StageLaws.{placed-run, line-short, place-inside, filled-cong}
-use Rattle.stages_wide.proofs.LayoutLaws.{zeros-getD, layoutOf-dct, layoutOf-dst}
+use Rattle.stages_wide.proofs.StageLaws.{place-column, place-inside}
 
 pub limitedUpTo-in : (r : ℕ) (xs : List ℤ) (w i : ℕ) → i < w → limitedUpTo r xs w i ≡ limitedAt r xs i
 unfolding limitedUpTo
@@ -111,21 +105,6 @@ picked-four x c = record { long = refl; same = at }
     at (suc (suc (suc (suc k)))) h = absurd (not-suc-le-zero {n = k} (omega arith))
 
 -- ---- what stages ask
-limitedAsk-stage : {n : ℕ} {t : List ℤ} {lines lead stride groups s r w sourceLength highLength lowLength room : ℕ}
-    → StageAsk n t lines lead stride groups s r w sourceLength highLength lowLength room → LimitedAsk n lines lead stride s r w sourceLength room
-limitedAsk-stage a =
-    record {
-      inside = a .inside;
-      whole = a .whole;
-      few = a .few;
-      leadMost = a .leadMost;
-      shiftLeast = a .shiftLeast;
-      shiftMost = a .shiftMost;
-      rangeMost = a .rangeMost;
-      source = a .source;
-      room = a .room;
-    }
-
 pub limitedAsk-four : {lines s r sourceLength room : ℕ} → lines ≤ 4 → 4 ≤ s → s ≤ 12 → r ≤ 22 → 16 ≤ sourceLength → 16 ≤ room → LimitedAsk 4 lines 1 4 s r 16 sourceLength room
 limitedAsk-four h a b d e f =
     record {
@@ -140,39 +119,13 @@ limitedAsk-four h a b d e f =
       room = omega arith;
     }
 
--- ---- a matrix and its layout
-pub matrixValue-laid : (u : ℕ → ℕ → ℤ) (t : List ℤ) (n r w lead stride groups s : ℕ) (xs : List ℤ) (c j : ℕ)
-    → ((k : ℕ) → k < n → laneMatrix t k j ≡ u k j) → 4 * groups ≤ n
-    → ((k : ℕ) → k < 4 * groups → c * lead + k * stride < w) → ((k : ℕ) → 4 * groups ≤ k → k < n → w ≤ c * lead + k * stride)
-    → matrixValue u n (limitedUpTo r xs w) lead stride s c j ≡ stageValue t r xs lead stride groups s c j
-matrixValue-laid u t n r w lead stride groups s xs c j l m reads past =
-    ap (λ (z : ℤ). roundShift z s)
-    (sym (line-short u n (4 * groups) (λ k. limitedUpTo r xs w (c * lead + k * stride)) j m (λ k a b. limitedUpTo-past r xs w (c * lead + k * stride) (past k a b)))
-    ∙ transformLine-cong u (laneMatrix t) (4 * groups) (λ k. limitedUpTo r xs w (c * lead + k * stride)) (λ k. limitedAt r xs (c * lead + k * stride)) j
-    (λ k a. sym (l k (omega arith))) (λ k a. limitedUpTo-in r xs w (c * lead + k * stride) (reads k a)))
-
-pub layoutOf-kind : (kind : Kind) → LayoutOf (matrixOf kind 4) 4 (lanes (matrixOf kind 4) 4)
-unfolding matrixOf
-layoutOf-kind Dct = layoutOf-dct 4 refl (omega arith) refl (omega arith)
-layoutOf-kind Dst = layoutOf-dst refl
-
-pub filled-four : (kind : Kind) (r s : ℕ) (xs : List ℤ) {rows : ℕ} {ys zs : List ℤ} → rows ≤ 4
-    → Filled 4 4 (matrixValue (matrixOf kind 4) 4 (limitedUpTo r xs 16) 1 4 s) rows ys zs → Filled 4 4 (stageValue (lanes (matrixOf kind 4) 4) r xs 1 4 1 s) rows ys zs
-filled-four kind r s xs h f =
+-- ---- a stage of 4 points
+pub four-rows : (t : ℕ → ℕ → ℤ) (r s : ℕ) (xs : List ℤ) {rows : ℕ} {ys zs : List ℤ} → rows ≤ 4
+    → Filled 4 4 (matrixValue t 4 (limitedUpTo r xs 16) 1 4 s) rows ys zs → Filled 4 4 (stageOf t 4 (limitedBlock r 4 xs) s) rows ys zs
+unfolding blockAt
+four-rows t r s xs h f =
     filled-cong
-    (λ c j a b. matrixValue-laid (matrixOf kind 4) (lanes (matrixOf kind 4) 4) 4 r 16 1 4 1 s xs c j (λ k i. layoutOf-kind kind .reads k j i b) (omega arith)
-    (λ k i. place-inside 4 1 4 c k (omega arith) (omega arith) i) (λ k i m. absurd (not-suc-le-zero {n = 0} (omega arith))))
+    (λ c j a b. ap (λ (z : ℤ). roundShift z s)
+    (transformLine-cong t t 4 (λ k. limitedUpTo r xs 16 (c * 1 + k * 4)) (λ k. limitedAt r xs (k * 4 + c)) j (λ k i. refl)
+    (λ k i. limitedUpTo-in r xs 16 (c * 1 + k * 4) (place-inside 4 1 4 c k (omega arith) (omega arith) i) ∙ ap (limitedAt r xs) (place-column 4 c k))))
     f
-
--- ---- 8 points, where a layout is the DCT's
-module _ {n : ℕ} {t : List ℤ} {lines lead stride groups s r w sourceLength highLength lowLength room : ℕ} (e : n ≡ 8)
-    (a : StageAsk n t lines lead stride groups s r w sourceLength highLength lowLength room) where
-  pub limitedAsk-eight : LimitedAsk 8 lines lead stride s r w sourceLength room
-  limitedAsk-eight = subst (λ (m : ℕ). LimitedAsk m lines lead stride s r w sourceLength room) e (limitedAsk-stage a)
-
-  pub filled-eight : (xs : List ℤ) {ys zs : List ℤ}
-      → Filled 8 8 (matrixValue (transMatrix 8) 8 (limitedUpTo r xs w) lead stride s) lines ys zs → Filled n n (stageValue t r xs lead stride groups s) lines ys zs
-  filled-eight xs {ys} {zs} f =
-      filled-cong
-      (λ c j i b. matrixValue-laid (transMatrix n) t n r w lead stride groups s xs c j (λ k h. a .layout .dct (omega (arith, e)) k j h b) (a .most) (λ k h. a .reads c k i h) (λ k h m. a .past c k i h m))
-      (subst (λ (m : ℕ). Filled m m (matrixValue (transMatrix m) m (limitedUpTo r xs w) lead stride s) lines ys zs) (sym e) f)

@@ -1,11 +1,13 @@
 -- Laws that bring both stages to the standard's definitions.
 --   intermediate-cong, stageTwo-cong   stages by matrices and data that agree
---   columnsRead-in, -past              a column read, and one that is not
+--   columnsRead-past                   a column that is not read
 --   intermediate-past                  the intermediate of a column that is not read
---   filled-stages, filled-laid         both stages of a block, by the matrix that a layout reads back as
+--   filled-stages                      both stages of a block
 --   filled-residual                    coefficients in the range need no limit: the residual
 --   filled-sized, filled-count         a size, and a column count, by another name
---   filled-dct, filled-dst, layoutOf-kind-…   a kind of transform by its matrix
+--   filled-dct, filled-dst             a kind of transform by its matrix
+--   sizeAsk-wide, sizeAsk-seven        what one stage asks
+--   columns-…, rows-…, column-…        what a size gives by its own matrix, it gives by that of the kind
 --   depth-shift, stagesAsk-wide        what a depth and a range make of the shift
 --   stagesAsk-size                     a size by another name, with another count
 use mathlib.Core.Path.{_≡_, refl, sym, ap, _∙_, subst}
@@ -25,17 +27,16 @@ use Rattle.h265.specs.Matrix.{transMatrix, dstMatrix}
 use Rattle.h265.specs.Range.{clipCoeff}
 use Rattle.h265.specs.Transform.{transformLine, blockAt, rowOrder, columnsRead, stageOneSum, stageOneValue, intermediate, stageTwoSum, stageTwoShift, stageTwo, residual}
 use Rattle.h265.proofs.RangeLaws.{clipCoeff-id}
-use Rattle.transform_1d.specs.Lanes.{laneMatrix}
+use Rattle.h265.proofs.TransformLaws.{columnsRead-in}
 use Rattle.transform_1d.specs.MatrixOf.{matrixOf}
 use Rattle.transform_1d.specs.Rows.{Filled}
 use Rattle.transform_1d.specs.declared.Kind.{Kind}
 use Rattle.transform_1d.specs.declared.Kind.the-variants.{Dct, Dst}
-use Rattle.transform_1d.proofs.RowsLaws.{row-unique, filled-overwrite}
+use Rattle.transform_1d.proofs.RowsLaws.{row-unique, filled-cong, filled-overwrite}
 use Rattle.transform_1d.proofs.MatrixLaws.{transformLine-cong}
 use Rattle.stages_wide.specs.Wide.{limitedBlock, WideAsk, DepthAsk, CoeffsInRange}
-use Rattle.coefficients.specs.Rows.{RowsUsed}
-use Rattle.stages_wide.specs.Parts.{limitedAt, stageValue, LayoutOf, StagesAsk, Zeros, bothStages}
-use Rattle.stages_wide.proofs.StageLaws.{clipCoeff-zero, line-short, place-column, filled-cong}
+use Rattle.stages_wide.specs.Parts.{stageOf, ColumnPlaced, SizeAsk, StagesAsk, bothStages}
+use Rattle.stages_wide.proofs.StageLaws.{clipCoeff-zero, stage-cong}
 
 module _ (t u : ℕ → ℕ → ℤ) (n : ℕ) where
   pub intermediate-cong : (r : ℕ) (d e : ℕ → ℕ → ℤ) (m c : ℕ) → ((k : ℕ) → k < n → t k m ≡ u k m) → ((k : ℕ) → k < n → d k c ≡ e k c)
@@ -47,10 +48,6 @@ module _ (t u : ℕ → ℕ → ℤ) (n : ℕ) where
       → stageTwo t n s f m j ≡ stageTwo u n s g m j
   unfolding stageTwo stageTwoSum
   stageTwo-cong s f g m j h k = ap (λ (z : ℤ). roundShift z s) (transformLine-cong t u n (λ c. f m c) (λ c. g m c) j h k)
-
-pub columnsRead-in : (nx : ℕ) (d : ℕ → ℕ → ℤ) (k c : ℕ) → c < nx → columnsRead nx d k c ≡ d k c
-unfolding columnsRead
-columnsRead-in nx d k c h = rw (lt-ltb c nx h)
 
 columnsRead-past : (nx : ℕ) (d : ℕ → ℕ → ℤ) (k c : ℕ) → nx ≤ c → columnsRead nx d k c ≡ pos 0
 unfolding columnsRead
@@ -69,51 +66,23 @@ pub intermediate-past : (t : ℕ → ℕ → ℤ) (n r nx : ℕ) (d : ℕ → �
 intermediate-past t n r nx d m c h = intermediate-zero t n r (columnsRead nx d) m c (λ k b. columnsRead-past nx d k c h) ∙ clipCoeff-zero r
 
 -- ---- both stages
-module _ {t : ℕ → ℕ → ℤ} {n : ℕ} {xs : List ℤ} (l : LayoutOf t n xs) (coeff : List ℤ) (r gy gx : ℕ) {nx : ℕ} (u : RowsUsed coeff n nx (4 * gy))
-    (columns : (nx ≤ 4 * gx) × (4 * gx ≤ n)) where
+module _ (t : ℕ → ℕ → ℤ) (n r nx : ℕ) (coeff : List ℤ) {g₀ g : List ℤ} (z : (i : ℕ) → getD g₀ i (pos 0) ≡ pos 0)
+    (f : Filled n n (stageOf t n (limitedBlock r n coeff) 7) nx g₀ g) where
   abbrev read : ℕ → ℕ → ℤ
   read = columnsRead nx (limitedBlock r n coeff)
 
-  read-in : (k c : ℕ) → c < nx → read k c ≡ limitedAt r coeff (k * n + c)
-  unfolding blockAt
-  read-in k c h = columnsRead-in nx (limitedBlock r n coeff) k c h
+  limited-intermediate : (m c : ℕ) → m < n → limitedBlock r n g c m ≡ intermediate t n r read m c
+  unfolding blockAt intermediate stageOneValue stageOneSum
+  limited-intermediate m c i =
+      elim (decLt c nx) [
+        | yes y ↦ ap (clipCoeff r) (f .done c m y i ∙ stage-cong t n 7 (limitedBlock r n coeff) read c c m (λ k l. sym (columnsRead-in nx (limitedBlock r n coeff) k c y)))
+        | no e ↦ ap (clipCoeff r) (f .kept (c * n + m) (λ k b a h q. e (subst (λ (v : ℕ). v < nx) (sym (row-unique n c k m b i h q)) a)) ∙ z (c * n + m))
+            ∙ clipCoeff-zero r ∙ sym (intermediate-past t n r nx (limitedBlock r n coeff) m c (omega arith))
+      ]
 
-  line-one : (c m : ℕ) → c < nx → m < n → stageValue xs r coeff 1 n gy 7 c m ≡ stageOneValue t n read m c
-  unfolding stageOneValue stageOneSum
-  line-one c m h i =
-      ap (λ (z : ℤ). roundShift z 7)
-      (transformLine-cong (laneMatrix xs) t (4 * gy) (λ k. limitedAt r coeff (c * 1 + k * n)) (λ k. read k c) m (λ k a. l .reads k m (omega (arith, u .most)) i)
-      (λ k a. ap (λ (p : ℕ). limitedAt r coeff p) (place-column n c k) ∙ sym (read-in k c h))
-      ∙ line-short t n (4 * gy) (λ k. read k c) m (u .most) (λ k a b. read-in k c h ∙ ap (clipCoeff r) (u .zero k c a b h) ∙ clipCoeff-zero r))
-
-  module _ {g₀ g : List ℤ} (z : Zeros g₀) (f : Filled n n (stageValue xs r coeff 1 n gy 7) nx g₀ g) where
-    limited-intermediate : (m c : ℕ) → m < n → limitedAt r g (c * n + m) ≡ intermediate t n r read m c
-    unfolding intermediate
-    limited-intermediate m c i =
-        elim (decLt c nx) [
-          | yes y ↦ ap (clipCoeff r) (f .done c m y i ∙ line-one c m y i)
-          | no e ↦ ap (clipCoeff r) (f .kept (c * n + m) (λ k b a h q. e (subst (λ (v : ℕ). v < nx) (sym (row-unique n c k m b i h q)) a)) ∙ z .at (c * n + m))
-              ∙ clipCoeff-zero r ∙ sym (intermediate-past t n r nx (limitedBlock r n coeff) m c (omega arith))
-        ]
-
-    line-two : (s m j : ℕ) → m < n → j < n → stageValue xs r g 1 n gx s m j ≡ stageTwo t n s (intermediate t n r read) m j
-    unfolding stageTwo stageTwoSum
-    line-two s m j i h =
-        ap (λ (z : ℤ). roundShift z s)
-        (transformLine-cong (laneMatrix xs) t (4 * gx) (λ k. limitedAt r g (m * 1 + k * n)) (λ c. intermediate t n r read m c) j (λ k a. l .reads k j (omega arith) h)
-        (λ k a. ap (λ (p : ℕ). limitedAt r g p) (place-column n m k) ∙ limited-intermediate m k i)
-        ∙ line-short t n (4 * gx) (λ c. intermediate t n r read m c) j (columns .1) (λ c a b. intermediate-past t n r nx (limitedBlock r n coeff) m c (omega arith)))
-
-    pub filled-stages : (s : ℕ) {out₀ out : List ℤ} → Filled n n (stageValue xs r g 1 n gx s) n out₀ out → Filled n n (bothStages t n s r nx coeff) n out₀ out
-    filled-stages s p = filled-cong (λ m j i h. line-two s m j i h) p
-
-pub filled-laid : {t : ℕ → ℕ → ℤ} {n : ℕ} {xs : List ℤ} → LayoutOf t n xs → (s r nx : ℕ) (coeff : List ℤ) {out₀ out : List ℤ}
-    → Filled n n (bothStages (laneMatrix xs) n s r nx coeff) n out₀ out → Filled n n (bothStages t n s r nx coeff) n out₀ out
-filled-laid {t} {n} {xs} l s r nx coeff p =
-    filled-cong
-    (λ m j i h. stageTwo-cong (laneMatrix xs) t n s _ _ m j (λ k a. l .reads k j a h)
-    (λ c a. intermediate-cong (laneMatrix xs) t n r (columnsRead nx (limitedBlock r n coeff)) (columnsRead nx (limitedBlock r n coeff)) m c (λ k b. l .reads k m b i) (λ k b. refl)))
-    p
+  pub filled-stages : (s : ℕ) {out₀ out : List ℤ} → Filled n n (stageOf t n (limitedBlock r n g) s) n out₀ out → Filled n n (bothStages t n s r nx coeff) n out₀ out
+  unfolding stageTwo stageTwoSum
+  filled-stages s p = filled-cong (λ m j i h. stage-cong t n s (limitedBlock r n g) (λ c k. intermediate t n r read k c) m m j (λ c l. limited-intermediate m c i)) p
 
 pub filled-residual : (t : ℕ → ℕ → ℤ) (n b r nx : ℕ) (xs : List ℤ) {out₀ out : List ℤ} → 0 < n → CoeffsInRange r n nx xs → n * n ≤ length out₀
     → Filled n n (bothStages t n (r + 5 - b) r nx xs) n out₀ out → out ≡ overwrite (n * n) (rowOrder n (residual t n b r nx xs)) out₀
@@ -151,26 +120,64 @@ pub filled-dct : {kind : Kind} {n : ℕ} (s r nx : ℕ) (xs : List ℤ) {out₀ 
 unfolding matrixOf
 filled-dct {n = n} s r nx xs {out₀} {out} k p = subst (λ (κ : Kind). Filled n n (bothStages (matrixOf κ n) n s r nx xs) n out₀ out) (sym k) p
 
-module _ {kind : Kind} {n : ℕ} {xs : List ℤ} where
-  pub layoutOf-kind-dct : kind ≡ Dct → LayoutOf (transMatrix n) n xs → LayoutOf (matrixOf kind n) n xs
-  unfolding matrixOf
-  layoutOf-kind-dct k l = subst (λ (κ : Kind). LayoutOf (matrixOf κ n) n xs) (sym k) l
-
-  pub layoutOf-kind-dst : kind ≡ Dst → n ≡ 4 → LayoutOf dstMatrix 4 xs → LayoutOf (matrixOf kind n) n xs
-  unfolding matrixOf
-  layoutOf-kind-dst k e l =
-      subst (λ (κ : Kind). LayoutOf (matrixOf κ n) n xs) (sym k) (subst (λ (i : ℕ). LayoutOf dstMatrix i xs) (sym e) l)
-
 pub depth-shift : {b r : ℕ} → DepthAsk b r → (4 ≤ r + 5 - b) × (r + 5 - b ≤ 12)
 depth-shift a = (a .below, omega (arith, a .above))
 
 pub stagesAsk-wide : {kind : Kind} {n b r nx sourceLength targetLength : ℕ}
     → WideAsk kind n r sourceLength targetLength → DepthAsk b r → nx ≤ n → StagesAsk n (r + 5 - b) r nx sourceLength targetLength
 stagesAsk-wide w d c =
-    record { least = depth-shift d .0; most = depth-shift d .1; rangeLeast = w .least; rangeMost = w .most; columns = c; source = w .source; room = w .room }
+    record { least = depth-shift d .0; most = depth-shift d .1; rangeLeast = w .least; rangeMost = w .most; parts = omega (arith, d .most); columns = c; source = w .source; room = w .room }
 
 pub stagesAsk-size : {n m s r nx mx sourceLength targetLength : ℕ}
     → n ≡ m → StagesAsk n s r nx sourceLength targetLength → mx ≤ n → StagesAsk m s r mx sourceLength targetLength
 stagesAsk-size {s = s} {r} {mx = mx} {sourceLength} {targetLength} e a c =
     subst (λ (i : ℕ). StagesAsk i s r mx sourceLength targetLength) e
-    record { least = a .least; most = a .most; rangeLeast = a .rangeLeast; rangeMost = a .rangeMost; columns = c; source = a .source; room = a .room }
+    record { least = a .least; most = a .most; rangeLeast = a .rangeLeast; rangeMost = a .rangeMost; parts = a .parts; columns = c; source = a .source; room = a .room }
+
+pub sizeAsk-wide : {kind : Kind} {n m b r sourceLength targetLength : ℕ} → n ≡ m → WideAsk kind n r sourceLength targetLength → DepthAsk b r → SizeAsk m r (r + 5 - b) sourceLength targetLength
+sizeAsk-wide {b = b} {r} {sourceLength} {targetLength} e w d =
+    subst (λ (i : ℕ). SizeAsk i r (r + 5 - b) sourceLength targetLength) e
+    record { rangeLeast = w .least; rangeMost = w .most; parts = omega (arith, d .most); least = depth-shift d .0; most = depth-shift d .1; source = w .source; room = w .room }
+
+pub sizeAsk-seven : {kind : Kind} {n m r sourceLength targetLength : ℕ} → n ≡ m → WideAsk kind n r sourceLength targetLength → SizeAsk m r 7 sourceLength targetLength
+sizeAsk-seven {r = r} {sourceLength} {targetLength} e w =
+    subst (λ (i : ℕ). SizeAsk i r 7 sourceLength targetLength) e
+    record { rangeLeast = w .least; rangeMost = w .most; parts = omega (arith, w .most); least = omega arith; most = omega arith; source = w .source; room = w .room }
+
+-- ---- a size and a kind by their names: a kind above size 4 is the DCT
+kind-matrix : (kind : Kind) (n m : ℕ) → n ≡ m → (kind ≡ Dst → n ≡ 4) → (m ≡ 4 → ⊥) → (P : (ℕ → ℕ → ℤ) → ℕ → Type 0) → P (transMatrix m) m → P (matrixOf kind n) n
+unfolding matrixOf
+kind-matrix Dct n m e d f P p = subst (λ (i : ℕ). P (transMatrix i) i) (sym e) p
+kind-matrix Dst n m e d f P p = absurd (f (sym e ∙ d refl))
+
+kind-four : (kind : Kind) (n : ℕ) → n ≡ 4 → (P : (ℕ → ℕ → ℤ) → ℕ → Type 0) → P (matrixOf kind 4) 4 → P (matrixOf kind n) n
+kind-four kind n e P p = subst (λ (i : ℕ). P (matrixOf kind i) i) (sym e) p
+
+abbrev Columns : ℕ → List ℤ → List ℤ → List ℤ → (ℕ → ℕ → ℤ) → ℕ → Type 0
+Columns r xs ys zs t i = Filled i i (intermediate t i r (limitedBlock r i xs)) i ys zs
+
+abbrev Rows : ℕ → ℕ → List ℤ → List ℤ → List ℤ → (ℕ → ℕ → ℤ) → ℕ → Type 0
+Rows s r xs ys zs t i = Filled i i (stageTwo t i s (limitedBlock r i xs)) i ys zs
+
+abbrev Column : ℕ → ℕ → List ℤ → List ℤ → List ℤ → (ℕ → ℕ → ℤ) → ℕ → Type 0
+Column c r xs ys zs t i = ColumnPlaced i c (λ m. intermediate t i r (limitedBlock r i xs) m c) i ys zs
+
+module _ (kind : Kind) (n r : ℕ) (xs : List ℤ) {ys zs : List ℤ} where
+  pub columns-four : n ≡ 4 → Columns r xs ys zs (matrixOf kind 4) 4 → Columns r xs ys zs (matrixOf kind n) n
+  columns-four e p = kind-four kind n e (Columns r xs ys zs) p
+
+  pub rows-four : (s : ℕ) → n ≡ 4 → Rows s r xs ys zs (matrixOf kind 4) 4 → Rows s r xs ys zs (matrixOf kind n) n
+  rows-four s e p = kind-four kind n e (Rows s r xs ys zs) p
+
+  pub column-four : (c : ℕ) → n ≡ 4 → Column c r xs ys zs (matrixOf kind 4) 4 → Column c r xs ys zs (matrixOf kind n) n
+  column-four c e p = kind-four kind n e (Column c r xs ys zs) p
+
+  module _ (m : ℕ) (e : n ≡ m) (d : kind ≡ Dst → n ≡ 4) (f : m ≡ 4 → ⊥) where
+    pub columns-dct : Columns r xs ys zs (transMatrix m) m → Columns r xs ys zs (matrixOf kind n) n
+    columns-dct p = kind-matrix kind n m e d f (Columns r xs ys zs) p
+
+    pub rows-dct : (s : ℕ) → Rows s r xs ys zs (transMatrix m) m → Rows s r xs ys zs (matrixOf kind n) n
+    rows-dct s p = kind-matrix kind n m e d f (Rows s r xs ys zs) p
+
+    pub column-dct : (c : ℕ) → Column c r xs ys zs (transMatrix m) m → Column c r xs ys zs (matrixOf kind n) n
+    column-dct c p = kind-matrix kind n m e d f (Column c r xs ys zs) p

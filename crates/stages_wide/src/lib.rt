@@ -1,14 +1,11 @@
-// Both stages on 32-bit data, for every range from 15 to 22: extended precision, and blocks that are edited. The lines of the plain
-// range serve here too: where the values of a stage do not all fit 16 bits, each is split into two parts that do.
+// Both stages on 32-bit data, for every range from 15 to 22: extended precision, and blocks that are edited. Every value is limited to the range
+// as it is read.
 // Internal: no refusal; callers meet each `requires`.
-mod parts; // values in 16 bits, or limited to the range and split into two parts
-mod outputs; // the outputs of a line, rounded or joined of both parts
-mod lines; // lines over 16-bit values
-mod passes; // lines over both parts
-mod products; // lines of 4 and 8 points in 32-bit products
-mod blocks; // stages of a block over lent buffers
-mod layouts; // layouts by kind and size
-mod sizes; // both stages with buffers of a size's own length
+mod parts; // values limited to the range, and sums rounded
+mod products; // lines of 4 points in 32-bit products
+mod moves; // blocks turned over, columns taken and put
+mod sizes; // stages of a block, a function for each size
+mod blocks; // both stages of a block of any size, and a block with one coefficient
 
 ghost use mathlib.Core.Path.{_≡_};
 ghost use Prim.Native.Nat.{_+_, _*_, _<_, _≤_};
@@ -17,12 +14,8 @@ ghost use Rattle.integers.specs.Lists.{overwrite};
 ghost use Rattle.h265.specs.Transform.{rowOrder, intermediate, stageTwoShift, stageTwo, residual};
 ghost use Rattle.transform_1d.specs.MatrixOf.{matrixOf};
 ghost use Rattle.stages_wide.specs.Wide.{columnReplaced, limitedBlock, WideAsk, DepthAsk, CoeffsInRange};
-use crate::blocks::column_into;
-use crate::blocks::columns_into;
-use crate::blocks::rows;
-use crate::layouts::layout;
+use crate::blocks::stages_dct;
 use crate::products::both_4;
-use crate::sizes::stages_dct;
 use transform_1d::Kind;
 
 // One column of the intermediate, every coefficient limited as it is read.
@@ -37,8 +30,12 @@ pub fn intermediate_column(
     requires { ⌜ WideAsk kind n range (length (now coeff)) (length (now inter)) × (column < n) ⌝ }
     ensures { λ _. ⌜ now (inter .exit) ≡ columnReplaced n column (λ m. intermediate (matrixOf kind n) n range (limitedBlock range n (now (coeff .entry))) m column) (now (inter .entry)) ⌝ }
 {
-    let t = layout(kind, n);
-    column_into(&t[..], n, range, coeff, column, inter);
+    match n {
+        4 => sizes::column_4(kind, coeff, range, column, inter),
+        8 => sizes::column_8(coeff, range, column, inter),
+        16 => sizes::column_16(coeff, range, column, inter),
+        _ => sizes::column_32(coeff, range, column, inter),
+    }
 }
 
 // The whole intermediate, every coefficient limited as it is read.
@@ -46,8 +43,12 @@ pub fn intermediate_of(kind: Kind, n: usize, range: u32, coeff: &[i32], inter: &
     requires { ⌜ WideAsk kind n range (length (now coeff)) (length (now inter)) ⌝ }
     ensures { λ _. ⌜ now (inter .exit) ≡ overwrite (n * n) (rowOrder n (intermediate (matrixOf kind n) n range (limitedBlock range n (now (coeff .entry))))) (now (inter .entry)) ⌝ }
 {
-    let t = layout(kind, n);
-    columns_into(&t[..], n, range, coeff, inter);
+    match n {
+        4 => sizes::columns_4(kind, coeff, range, inter),
+        8 => sizes::columns_8(coeff, range, inter),
+        16 => sizes::columns_16(coeff, range, inter),
+        _ => sizes::columns_32(coeff, range, inter),
+    }
 }
 
 // The residual of an intermediate, every value limited as it is read. Nothing is limited after stage two.
@@ -55,22 +56,16 @@ pub fn residual_of(kind: Kind, n: usize, bit_depth: u8, range: u32, inter: &[i32
     requires { ⌜ WideAsk kind n range (length (now inter)) (length (now out)) × DepthAsk «bit_depth» range ⌝ }
     ensures { λ _. ⌜ now (out .exit) ≡ overwrite (n * n) (rowOrder n (stageTwo (matrixOf kind n) n (stageTwoShift «bit_depth» range) (limitedBlock range n (now (inter .entry))))) (now (out .entry)) ⌝ }
 {
-    let t = layout(kind, n);
-    let mut h = [0i16; 1024];
-    let mut l = [0i16; 1024];
-    rows(
-        &t[..],
-        n,
-        range + 5 - (bit_depth as u32),
-        range,
-        inter,
-        &mut h[..],
-        &mut l[..],
-        out,
-    );
+    let shift = range + 5 - (bit_depth as u32);
+    match n {
+        4 => sizes::rows_4(kind, inter, range, shift, out),
+        8 => sizes::rows_8(inter, range, shift, out),
+        16 => sizes::rows_16(inter, range, shift, out),
+        _ => sizes::rows_32(inter, range, shift, out),
+    }
 }
 
-// One column of the intermediate and then the residual of the whole: what an edit takes, with one layout for both stages.
+// One column of the intermediate and then the residual of the whole: what an edit takes.
 pub fn column_and_residual(
     kind: Kind,
     n: usize,
@@ -84,20 +79,8 @@ pub fn column_and_residual(
     requires { ⌜ WideAsk kind n range (length (now coeff)) (length (now inter)) × (column < n) × (n * n ≤ length (now out)) × DepthAsk «bit_depth» range ⌝ }
     ensures { λ _. ⌜ (now (inter .exit) ≡ columnReplaced n column (λ m. intermediate (matrixOf kind n) n range (limitedBlock range n (now (coeff .entry))) m column) (now (inter .entry))) × (now (out .exit) ≡ overwrite (n * n) (rowOrder n (stageTwo (matrixOf kind n) n (stageTwoShift «bit_depth» range) (limitedBlock range n (now (inter .exit))))) (now (out .entry))) ⌝ }
 {
-    let t = layout(kind, n);
-    let mut h = [0i16; 1024];
-    let mut l = [0i16; 1024];
-    column_into(&t[..], n, range, coeff, column, inter);
-    rows(
-        &t[..],
-        n,
-        range + 5 - (bit_depth as u32),
-        range,
-        inter,
-        &mut h[..],
-        &mut l[..],
-        out,
-    );
+    intermediate_column(kind, n, range, coeff, column, inter);
+    residual_of(kind, n, bit_depth, range, inter, out);
 }
 
 // The residual of a block whose columns from nx on are zero and are not read.

@@ -1,18 +1,16 @@
-// Lines in 32-bit products, of 4 and 8 points: their sums fit 32 bits in every range.
+// Lines of 4 points in 32-bit products: their sums fit 32 bits in every range.
 ghost use mathlib.Core.Path.{_≡_};
 ghost use Prim.Native.Nat.{ℕ, _+_, _*_, _<_, _≤_};
 ghost use lib.IntN.{pos};
 ghost use lib.ListN.{length, getD};
 ghost use Rattle.integers.specs.Shift.{roundShift};
-ghost use Rattle.h265.specs.Matrix.{transMatrix};
 ghost use Rattle.transform_1d.specs.MatrixOf.{matrixOf};
 ghost use Rattle.transform_1d.specs.Rows.{Placed, Filled};
 ghost use Rattle.stages_wide.specs.Parts.{limitedAt, StagesAsk, bothStages};
-ghost use Rattle.stages_wide.specs.Products.{limitedUpTo, matrixValue, Picked, RoundAsk, ProductsAsk, LimitedAsk};
-use crate::outputs::rounded;
+ghost use Rattle.stages_wide.specs.Products.{limitedUpTo, matrixValue, RoundAsk, ProductsAsk, LimitedAsk};
 use crate::parts::limited;
+use crate::parts::rounded;
 use lines_wide::line_4;
-use lines_wide::line_8;
 use transform_1d::Kind;
 
 // The first w values, limited.
@@ -27,20 +25,6 @@ fn limit(s: &[i32], w: usize, range: u32, x: &mut [i32])
     }
 }
 
-// Eight values, stride apart.
-fn eight(x: &[i32], base: usize, stride: usize) -> [i32; 8]
-    requires { ⌜ ((k : ℕ) → k < 8 → base + k * stride < length (now x)) ⌝ }
-    ensures { λ r. ⌜ Picked 8 (λ k. base + k * stride) (now (x .entry)) r ⌝ }
-{
-    let mut r = [0i32; 8];
-    let mut k: usize = 0;
-    while k < 8 {
-        r[k] = x[base + k * stride];
-        k += 1;
-    }
-    r
-}
-
 // w sums, rounded, from place at on.
 fn put_rounded(z: &[i32], w: usize, shift: u32, out: &mut [i32], at: usize)
     requires { ⌜ RoundAsk w (now z) shift × (at + w ≤ length (now out)) ⌝ }
@@ -51,39 +35,6 @@ fn put_rounded(z: &[i32], w: usize, shift: u32, out: &mut [i32], at: usize)
         out[at + j] = rounded(z[j], shift);
         j += 1;
     }
-}
-
-// Lines of 8 points: line c becomes row c of out.
-fn lines_8(x: &[i32], count: usize, lead: usize, stride: usize, shift: u32, out: &mut [i32])
-    requires { ⌜ ProductsAsk 8 (now x) count lead stride shift (length (now out)) ⌝ }
-    ensures { λ _. ⌜ Filled 8 8 (matrixValue (transMatrix 8) 8 (λ i. getD (now (x .entry)) i (pos 0)) lead stride shift) count (now (out .entry)) (now (out .exit)) ⌝ }
-{
-    let mut c: usize = 0;
-    while c < count {
-        let v = eight(x, c * lead, stride);
-        let z = line_8(v);
-        put_rounded(&z[..], 8, shift, out, c * 8);
-        c += 1;
-    }
-}
-
-// Lines of 8 points over the first w values of s, limited as they are read; what stands past them is read as zero.
-pub fn products_8(
-    s: &[i32],
-    w: usize,
-    count: usize,
-    lead: usize,
-    stride: usize,
-    shift: u32,
-    range: u32,
-    out: &mut [i32],
-)
-    requires { ⌜ LimitedAsk 8 count lead stride shift range w (length (now s)) (length (now out)) ⌝ }
-    ensures { λ _. ⌜ Filled 8 8 (matrixValue (transMatrix 8) 8 (limitedUpTo range (now (s .entry)) w) lead stride shift) count (now (out .entry)) (now (out .exit)) ⌝ }
-{
-    let mut x = [0i32; 64];
-    limit(s, w, range, &mut x[..]);
-    lines_8(&x[..], count, lead, stride, shift, out);
 }
 
 // Lines of 4 points down the first columns of a block: line c becomes row c of out.
@@ -101,7 +52,7 @@ fn columns_4(kind: Kind, x: &[i32], nx: usize, shift: u32, out: &mut [i32])
 }
 
 // One stage of 4 points, values limited as they are read.
-fn stage_4(kind: Kind, s: &[i32], range: u32, nx: usize, shift: u32, out: &mut [i32])
+pub fn stage_4(kind: Kind, s: &[i32], range: u32, nx: usize, shift: u32, out: &mut [i32])
     requires { ⌜ LimitedAsk 4 nx 1 4 shift range 16 (length (now s)) (length (now out)) ⌝ }
     ensures { λ _. ⌜ Filled 4 4 (matrixValue (matrixOf kind 4) 4 (limitedUpTo range (now (s .entry)) 16) 1 4 shift) nx (now (out .entry)) (now (out .exit)) ⌝ }
 {

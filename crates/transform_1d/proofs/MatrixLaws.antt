@@ -2,7 +2,7 @@
 --   transformLine-within     |line| ≤ (sum of the absolute entries) × B, for data of at most B in size
 --   transformLine-cong       lines over matrices and data that agree
 --   transMatrix-absSum, dstMatrix-absSum   247, 479, 940, 1862 for n = 4, 8, 16, 32, and 242
---   transMatrix-mirror-8, -16, -32   the right half of a matrix mirrors the left
+--   transMatrix-mirror-32   the right half of a matrix mirrors the left
 --   Laid, laid, laid-32      all that a block needs of a layout: length, small entries, the matrix that it reads back as
 use mathlib.Core.Path.{_≡_, refl, sym, ap, ap₂, subst}
 use mathlib.Core.List.{List}
@@ -117,14 +117,6 @@ module _ (n : ℕ) where
       let y : ℤ = mirrored k (transMatrix n k j) in
       let b = and-yes (leZ x y) (leZ y x) (allBelow-at (n / 2) (mirrors k) (allBelow-at n (λ k. allBelow (n / 2) (mirrors k)) h k hk) j hj) in
       ≤ℤ-antisym {x = x} {y = y} (record { le = b .0 }) (record { le = b .1 })
-
-pub transMatrix-mirror-8 : (k j : ℕ) → k < 8 → j < 4 → transMatrix 8 k (7 - j) ≡ mirrored k (transMatrix 8 k j)
-unfolding allBelow mirrored transMatrix transMatrix32 foldedEntry foldedAngle folding foldingValues
-transMatrix-mirror-8 = mirror-of 8 tt
-
-pub transMatrix-mirror-16 : (k j : ℕ) → k < 16 → j < 8 → transMatrix 16 k (15 - j) ≡ mirrored k (transMatrix 16 k j)
-unfolding allBelow mirrored transMatrix transMatrix32 foldedEntry foldedAngle folding foldingValues
-transMatrix-mirror-16 = mirror-of 16 tt
 
 pub transMatrix-mirror-32 : (k j : ℕ) → k < 32 → j < 16 → transMatrix 32 k (31 - j) ≡ mirrored k (transMatrix 32 k j)
 unfolding allBelow mirrored transMatrix transMatrix32 foldedEntry foldedAngle folding foldingValues

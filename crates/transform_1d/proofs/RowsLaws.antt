@@ -7,15 +7,17 @@
 --   filled-zero, -suc      no row; one row more, stored as a run
 --   filled-all             the same rows by another name of their number
 --   filled-overwrite       all columns of the first r rows: the list with its first r × n elements replaced
+--   filled-cong            rows of equal values
+--   zeros-getD             a list of zeros reads as zero
 use mathlib.Core.Path.{_≡_, refl, sym, ap, _∙_, subst}
 use mathlib.Core.List.{List}
-use Prim.Native.Nat.{ℕ, _+_, _*_, _-_, _/_, _%_, _≤_, _<_}
+use Prim.Native.Nat.{ℕ, zero, suc, _+_, _*_, _-_, _/_, _%_, _≤_, _<_}
 use native.Mathlib.Nat.{not-suc-le-zero, div-add-mod', mod-lt, div-lt-iff-lt-mul}
 use native.Mathlib.Decide.{ℕ-discrete, decLt}
 use native.Mathlib.Omega.{arith}
 use lib.Arith.{digits-lt, digits-div}
 use lib.IntN.{ℤ, pos}
-use lib.ListN.{length, getD, set, length-set}
+use lib.ListN.{length, getD, set, length-set, replicate}
 use lib.Seq.{ext-getD, getD-set-same, getD-set-other}
 use Rattle.integers.specs.Lists.{overwrite}
 use Rattle.integers.proofs.ListsLaws.{overwrite-length, overwrite-getD, overwrite-getD-past}
@@ -93,3 +95,12 @@ filled-overwrite {n} r {g} {xs} {ys} h p long =
       | no d ↦ p .kept i (λ k c a b e. absurd (let m = digits-lt {q = k} {m = r} {r = c} {c = n} a b in omega arith))
           ∙ sym (overwrite-getD-past (r * n) (rowOrder n g) xs i (pos 0) (omega arith))
     ])
+
+pub filled-cong : {n w r : ℕ} {f g : ℕ → ℕ → ℤ} {xs ys : List ℤ} → ((k c : ℕ) → k < r → c < w → f k c ≡ g k c) → Filled n w f r xs ys → Filled n w g r xs ys
+filled-cong h p = record { long = p .long; done = λ k c a b. p .done k c a b ∙ h k c a b; kept = p .kept }
+
+-- ---- lists of zeros
+pub zeros-getD : (k i : ℕ) → getD (replicate k (pos 0)) i (pos 0) ≡ pos 0
+zeros-getD zero i = refl
+zeros-getD (suc k) zero = refl
+zeros-getD (suc k) (suc i) = zeros-getD k i

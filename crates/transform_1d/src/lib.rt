@@ -99,7 +99,7 @@ const LANES_DST: [i16; 64] = [
 ];
 
 // The 32-point matrix, row by row.
-fn trans_matrix() -> [i16; 1024]
+pub fn trans_matrix() -> [i16; 1024]
     ensures { λ r. ⌜ r ≡ tabulate 1024 (λ i. transMatrix32 (i / 32) (i % 32)) ⌝ }
 {
     TRANS_MATRIX
@@ -220,53 +220,10 @@ fn lane_sums(t: &[i16], s: &[i16], base: usize, stride: usize, groups: usize) ->
     z
 }
 
-// The same with the first group before the loop: sums that need not begin as zeros save 32 points a sixth of a sparse block's time. With
-// fewer points the compiler leaves its 16-bit multiply-add over it.
-fn long_sums(t: &[i16], s: &[i16], base: usize, stride: usize, groups: usize) -> [i32; 32]
-    requires { ⌜ LineAsk 32 (now t) (now s) base stride groups ⌝ }
-    ensures { λ z. ⌜ HalfSums (now (t .entry)) (now (s .entry)) base stride groups z ⌝ }
-{
-    let mut z = [0i32; 32];
-    if groups == 0 {
-        return z;
-    }
-    add_group(&mut z, t, s, base, stride, 0);
-    let mut q: usize = 1;
-    while q < groups {
-        add_group(&mut z, t, s, base, stride, q);
-        q += 1;
-    }
-    z
-}
-
 // The 4-point line; with the DST's layout, the DST's.
 pub fn idct_raw_4(t: &[i16], s: &[i16], base: usize, stride: usize, groups: usize) -> [i32; 32]
     requires { ⌜ LineAsk 4 (now t) (now s) base stride groups ⌝ }
     ensures { λ z. ⌜ LineSums (now (t .entry)) (now (s .entry)) base stride groups z ⌝ }
 {
     lane_sums(t, s, base, stride, groups)
-}
-
-// The 8-point line.
-pub fn idct_raw_8(t: &[i16], s: &[i16], base: usize, stride: usize, groups: usize) -> [i32; 32]
-    requires { ⌜ LineAsk 8 (now t) (now s) base stride groups ⌝ }
-    ensures { λ z. ⌜ LineSums (now (t .entry)) (now (s .entry)) base stride groups z ⌝ }
-{
-    lane_sums(t, s, base, stride, groups)
-}
-
-// The 16-point line.
-pub fn idct_raw_16(t: &[i16], s: &[i16], base: usize, stride: usize, groups: usize) -> [i32; 32]
-    requires { ⌜ LineAsk 16 (now t) (now s) base stride groups ⌝ }
-    ensures { λ z. ⌜ LineSums (now (t .entry)) (now (s .entry)) base stride groups z ⌝ }
-{
-    lane_sums(t, s, base, stride, groups)
-}
-
-// The 32-point line.
-pub fn idct_raw_32(t: &[i16], s: &[i16], base: usize, stride: usize, groups: usize) -> [i32; 32]
-    requires { ⌜ LineAsk 32 (now t) (now s) base stride groups ⌝ }
-    ensures { λ z. ⌜ LineSums (now (t .entry)) (now (s .entry)) base stride groups z ⌝ }
-{
-    long_sums(t, s, base, stride, groups)
 }

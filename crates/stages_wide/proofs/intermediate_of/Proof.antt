@@ -1,50 +1,69 @@
--- `stages_wide::intermediate_of` meets its contract: the layout reads back as the matrix, and all columns stored are the whole block.
-use borrow.Author.Needs.{needs}
-use mathlib.Core.Path.{refl}
-use Prim.Native.Nat.{_-_}
+-- `stages_wide::intermediate_of` meets its contract: a size is 4, 8 or 16, or else 32, and above 4 the kind is the DCT.
+use mathlib.Core.Path.{_≡_}
 use native.Mathlib.Omega.{arith}
-use lib.ListN.{length}
-use Rattle.transform_1d.specs.MatrixOf.{matrixOf}
-use Rattle.transform_1d.specs.Lanes.{laneMatrix}
-use Rattle.stages_wide.specs.Wide.{limitedBlock}
-use Rattle.stages_wide.proofs.SizeLaws.{size-most, square-most}
-use Rattle.h265.specs.Transform.{intermediate}
+use borrow.Author.Needs.{needs}
 use Rattle.transform_1d.proofs.RowsLaws.{filled-overwrite}
-use Rattle.stages_wide.proofs.StageLaws.{filled-cong}
-use Rattle.stages_wide.proofs.ResultLaws.{intermediate-cong}
+use Rattle.stages_wide.proofs.ResultLaws.{sizeAsk-seven, columns-four, columns-dct}
+use Rattle.stages_wide.proofs.SizeLaws.{size-most, size-else}
 use Rattle.stages_wide.proofs.intermediate_of.Statement.{statement}
 use Rattle.stages_wide.proofs.intermediate_of.Tie as tie
 
-layout-requires : tie.Need-layout-requires
-layout-requires c κs = (c .pre .size, c .pre .dst)
+is-32 : (c : tie.At-match-rest) → c .before .args .n ≡ 32
+is-32 c = let r = c .match .rest in size-else (c .before .args .n) (c .before .pre .size) (r .0 .0 .1) (r .0 .1) (r .1)
 
-slice-aggregate-columns-into : tie.Need-slice-aggregate-columns-into
-slice-aggregate-columns-into c = search needs
+columns-4-requires : tie.Need-columns-4-requires
+columns-4-requires c κs = sizeAsk-seven (c .before .match .keys1) (c .before .before .pre)
 
-columns-into-requires : tie.Need-columns-into-requires
-columns-into-requires c κs =
-    let a = c .before .before .before .pre in
-    record { layout = c .before .before .layout .ensures .layout; size = a .size; rangeLeast = a .least; rangeMost = a .most; source = a .source; highs = square-most (c .before .before .before .args .n) (a .size); lows = square-most (c .before .before .before .args .n) (a .size); room = a .room }
+columns-8-requires : tie.Need-columns-8-requires
+columns-8-requires c κs = sizeAsk-seven (c .before .match .keys2) (c .before .before .pre)
 
-same-length : tie.Need-same-length
-same-length c = search needs
+columns-16-requires : tie.Need-columns-16-requires
+columns-16-requires c κs = sizeAsk-seven (c .before .match .keys3) (c .before .before .pre)
+
+columns-32-requires : tie.Need-columns-32-requires
+columns-32-requires c κs = sizeAsk-seven (is-32 (c .before)) (c .before .before .pre)
 
 returns : tie.Need-returns
 returns c =
-    let a = c .before .before .before .before .before .pre in
-    let k = c .before .before .before .before .before .args in
-    filled-overwrite (k .n) (omega (arith, size-most (k .n) (a .size)))
-    (filled-cong
-    (λ m x i j. intermediate-cong (laneMatrix (c .before .before .before .before .layout .result)) (matrixOf (k .kind) (k .n)) (k .n) (k .range) (limitedBlock (k .range) (k .n) (k .coeff .now)) (limitedBlock (k .range) (k .n) (k .coeff .now)) m x
-    (λ v b. c .before .before .before .before .layout .ensures .reads v m b i) (λ v b. refl))
-    (c .before .columns-into .ensures)) (a .room)
+    let k = c .before .before .before .before .args in
+    let p = c .before .before .before .before .pre in
+    filled-overwrite (k .n) (omega (arith, size-most (k .n) (p .size)))
+    (columns-four (k .kind) (k .n) (k .range) (k .coeff .now) (c .before .before .before .match .keys1) (c .before .columns-4 .ensures)) (p .room)
+
+returns-2 : tie.Need-returns-2
+returns-2 c =
+    let k = c .before .before .before .before .args in
+    let p = c .before .before .before .before .pre in
+    filled-overwrite (k .n) (omega (arith, size-most (k .n) (p .size)))
+    (columns-dct (k .kind) (k .n) (k .range) (k .coeff .now) 8 (c .before .before .before .match .keys2) (p .dst) (λ z. omega arith) (c .before .columns-8 .ensures)) (p .room)
+
+returns-3 : tie.Need-returns-3
+returns-3 c =
+    let k = c .before .before .before .before .args in
+    let p = c .before .before .before .before .pre in
+    filled-overwrite (k .n) (omega (arith, size-most (k .n) (p .size)))
+    (columns-dct (k .kind) (k .n) (k .range) (k .coeff .now) 16 (c .before .before .before .match .keys3) (p .dst) (λ z. omega arith) (c .before .columns-16 .ensures)) (p .room)
+
+returns-4 : tie.Need-returns-4
+returns-4 c =
+    let k = c .before .before .before .before .args in
+    let p = c .before .before .before .before .pre in
+    filled-overwrite (k .n) (omega (arith, size-most (k .n) (p .size)))
+    (columns-dct (k .kind) (k .n) (k .range) (k .coeff .now) 32 (is-32 (c .before .before .before)) (p .dst) (λ z. omega arith) (c .before .columns-32 .ensures)) (p .room)
 
 pub intermediate-of-spec : {M : Type 1} → statement M
 intermediate-of-spec =
     tie.close
     (tie.spec
-    layout-requires
-    slice-aggregate-columns-into
-    columns-into-requires
-    same-length
-    returns)
+    columns-4-requires
+    columns-8-requires
+    columns-16-requires
+    columns-32-requires
+    (λ c. search needs)
+    returns
+    (λ c. search needs)
+    returns-2
+    (λ c. search needs)
+    returns-3
+    (λ c. search needs)
+    returns-4)

@@ -1,67 +1,77 @@
--- `stages_wide::residual_of` meets its contract: the layout reads back as the matrix, and all rows stored are the whole block.
-use borrow.Author.Needs.{needs}
-use mathlib.Core.Path.{refl}
+-- `stages_wide::residual_of` meets its contract: a size is 4, 8 or 16, or else 32, and above 4 the kind is the DCT.
+use mathlib.Core.Path.{_≡_}
 use Prim.Native.Nat.{_+_, _-_}
 use native.Mathlib.Omega.{arith}
-use lib.ListN.{length}
-use Rattle.transform_1d.specs.MatrixOf.{matrixOf}
-use Rattle.transform_1d.specs.Lanes.{laneMatrix}
-use Rattle.stages_wide.specs.Wide.{limitedBlock}
-use Rattle.stages_wide.proofs.SizeLaws.{size-most, square-most}
+use borrow.Author.Needs.{needs}
 use Rattle.h265.specs.Transform.{stageTwoShift}
 use Rattle.transform_1d.proofs.RowsLaws.{filled-overwrite}
-use Rattle.stages_wide.proofs.StageLaws.{filled-cong}
-use Rattle.stages_wide.proofs.ResultLaws.{stageTwo-cong, depth-shift}
+use Rattle.stages_wide.proofs.ResultLaws.{sizeAsk-wide, rows-four, rows-dct}
+use Rattle.stages_wide.proofs.SizeLaws.{size-most, size-else}
 use Rattle.stages_wide.proofs.residual_of.Statement.{statement}
 use Rattle.stages_wide.proofs.residual_of.Tie as tie
 
-layout-requires : tie.Need-layout-requires
-layout-requires c κs = (c .pre .0 .size, c .pre .0 .dst)
+is-32 : (c : tie.At-match-rest) → c .before .args .n ≡ 32
+is-32 c = let r = c .match .rest in size-else (c .before .args .n) (c .before .pre .0 .size) (r .0 .0 .1) (r .0 .1) (r .1)
 
-slice-aggregate-rows : tie.Need-slice-aggregate-rows
-slice-aggregate-rows c = search needs
+rows-4-requires : tie.Need-rows-4-requires
+rows-4-requires c κs = sizeAsk-wide (c .before .match .keys1) (c .before .before .pre .0) (c .before .before .pre .1)
 
-add-rows : tie.Need-add-rows
-add-rows c = search needs
+rows-8-requires : tie.Need-rows-8-requires
+rows-8-requires c κs = sizeAsk-wide (c .before .match .keys2) (c .before .before .pre .0) (c .before .before .pre .1)
 
-sub-rows : tie.Need-sub-rows
-sub-rows c = search needs
+rows-16-requires : tie.Need-rows-16-requires
+rows-16-requires c κs = sizeAsk-wide (c .before .match .keys3) (c .before .before .pre .0) (c .before .before .pre .1)
 
-slice-aggregate-rows-2 : tie.Need-slice-aggregate-rows-2
-slice-aggregate-rows-2 c = search needs
-
-slice-aggregate-rows-3 : tie.Need-slice-aggregate-rows-3
-slice-aggregate-rows-3 c = search needs
-
-rows-requires : tie.Need-rows-requires
-rows-requires c κs =
-    let a = c .before .before .before .before .before .pre .0 in
-    (record { layout = c .before .before .before .before .layout .ensures .layout; size = a .size; rangeLeast = a .least; rangeMost = a .most; source = a .source; highs = square-most (c .before .before .before .before .before .args .n) (a .size); lows = square-most (c .before .before .before .before .before .args .n) (a .size); room = a .room }, depth-shift (c .before .before .before .before .before .pre .1) .0, depth-shift (c .before .before .before .before .before .pre .1) .1)
-
-same-length : tie.Need-same-length
-same-length c = search needs
+rows-32-requires : tie.Need-rows-32-requires
+rows-32-requires c κs = sizeAsk-wide (is-32 (c .before)) (c .before .before .pre .0) (c .before .before .pre .1)
 
 returns : tie.Need-returns
 unfolding stageTwoShift
 returns c =
-    let a = c .before .before .before .before .before .before .before .before .before .pre .0 in
-    let k = c .before .before .before .before .before .before .before .before .before .args in
-    filled-overwrite (k .n) (omega (arith, size-most (k .n) (a .size)))
-    (filled-cong
-    (λ m j i b. stageTwo-cong (laneMatrix (c .before .before .before .before .before .before .before .before .layout .result)) (matrixOf (k .kind) (k .n)) (k .n) (k .range + 5 - k .bit-depth) (limitedBlock (k .range) (k .n) (k .inter .now)) (limitedBlock (k .range) (k .n) (k .inter .now)) m j
-    (λ v e. c .before .before .before .before .before .before .before .before .layout .ensures .reads v j e b) (λ v e. refl))
-    (c .before .before .before .rows .ensures)) (a .room)
+    let k = c .before .before .before .before .args in
+    let p = c .before .before .before .before .pre .0 in
+    filled-overwrite (k .n) (omega (arith, size-most (k .n) (p .size)))
+    (rows-four (k .kind) (k .n) (k .range) (k .inter .now) (k .range + 5 - k .bit-depth) (c .before .before .before .match .keys1) (c .before .rows-4 .ensures)) (p .room)
+
+returns-2 : tie.Need-returns-2
+unfolding stageTwoShift
+returns-2 c =
+    let k = c .before .before .before .before .args in
+    let p = c .before .before .before .before .pre .0 in
+    filled-overwrite (k .n) (omega (arith, size-most (k .n) (p .size)))
+    (rows-dct (k .kind) (k .n) (k .range) (k .inter .now) 8 (c .before .before .before .match .keys2) (p .dst) (λ z. omega arith) (k .range + 5 - k .bit-depth) (c .before .rows-8 .ensures)) (p .room)
+
+returns-3 : tie.Need-returns-3
+unfolding stageTwoShift
+returns-3 c =
+    let k = c .before .before .before .before .args in
+    let p = c .before .before .before .before .pre .0 in
+    filled-overwrite (k .n) (omega (arith, size-most (k .n) (p .size)))
+    (rows-dct (k .kind) (k .n) (k .range) (k .inter .now) 16 (c .before .before .before .match .keys3) (p .dst) (λ z. omega arith) (k .range + 5 - k .bit-depth) (c .before .rows-16 .ensures)) (p .room)
+
+returns-4 : tie.Need-returns-4
+unfolding stageTwoShift
+returns-4 c =
+    let k = c .before .before .before .before .args in
+    let p = c .before .before .before .before .pre .0 in
+    filled-overwrite (k .n) (omega (arith, size-most (k .n) (p .size)))
+    (rows-dct (k .kind) (k .n) (k .range) (k .inter .now) 32 (is-32 (c .before .before .before)) (p .dst) (λ z. omega arith) (k .range + 5 - k .bit-depth) (c .before .rows-32 .ensures)) (p .room)
 
 pub residual-of-spec : {M : Type 1} → statement M
 residual-of-spec =
     tie.close
     (tie.spec
-    layout-requires
-    slice-aggregate-rows
-    add-rows
-    sub-rows
-    slice-aggregate-rows-2
-    slice-aggregate-rows-3
-    rows-requires
-    same-length
-    returns)
+    (λ c. search needs)
+    (λ c. search needs)
+    rows-4-requires
+    rows-8-requires
+    rows-16-requires
+    rows-32-requires
+    (λ c. search needs)
+    returns
+    (λ c. search needs)
+    returns-2
+    (λ c. search needs)
+    returns-3
+    (λ c. search needs)
+    returns-4)

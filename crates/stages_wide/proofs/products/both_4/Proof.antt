@@ -1,14 +1,10 @@
--- `stages_wide::products::both_4` meets its contract: a layout of the kind's matrix brings both stages to what is said of stages.
+-- `stages_wide::products::both_4` meets its contract: stage two over what stage one stored is both stages.
 use borrow.Author.Needs.{needs}
-use native.Mathlib.Nat.{not-suc-le-zero}
 use native.Mathlib.Omega.{arith}
-use Rattle.transform_1d.specs.Lanes.{lanes}
 use Rattle.transform_1d.specs.MatrixOf.{matrixOf}
-use Rattle.coefficients.proofs.RowsLaws.{rowsUsed-all}
-use Rattle.stages_wide.proofs.StageLaws.{filled-cong}
-use Rattle.stages_wide.proofs.LayoutLaws.{zeros}
+use Rattle.transform_1d.proofs.RowsLaws.{zeros-getD}
 use Rattle.stages_wide.proofs.ResultLaws.{filled-stages}
-use Rattle.stages_wide.proofs.ProductsLaws.{limitedAsk-four, filled-four, layoutOf-kind}
+use Rattle.stages_wide.proofs.ProductsLaws.{limitedAsk-four, four-rows}
 use Rattle.stages_wide.proofs.products.both_4.Statement.{statement}
 use Rattle.stages_wide.proofs.products.both_4.Tie as tie
 
@@ -31,9 +27,9 @@ returns : tie.Need-returns
 returns c =
     let k = c .before .before .before .before .before .before .before .args in
     let a = c .before .before .before .before .before .before .before .pre in
-    filled-stages (layoutOf-kind (k .kind)) (k .coeff .now) (k .range) 1 1 rowsUsed-all (a .columns, omega arith) (zeros 16)
-    (filled-four (k .kind) (k .range) 7 (k .coeff .now) (a .columns) (c .before .before .before .before .before .stage-4 .ensures)) (k .shift)
-    (filled-four (k .kind) (k .range) (k .shift) _ (omega arith) (c .before .stage-42 .ensures))
+    filled-stages (matrixOf (k .kind) 4) 4 (k .range) (k .nx) (k .coeff .now) (zeros-getD 16)
+    (four-rows (matrixOf (k .kind) 4) (k .range) 7 (k .coeff .now) (a .columns) (c .before .before .before .before .before .stage-4 .ensures)) (k .shift)
+    (four-rows (matrixOf (k .kind) 4) (k .range) (k .shift) _ (omega arith) (c .before .stage-42 .ensures))
 
 pub both-4-spec : {M : Type 1} → statement M
 both-4-spec =

@@ -1,0 +1,22 @@
+-- `tiles_quarter::rows_32q` meets its contract, by its branches.
+use mathlib.Core.Path.{_≡_}
+use Prim.Native.Nat.{ℕ}
+use native.Mathlib.Omega.{arith}
+use borrow.Author.Needs.{needs}
+use Rattle.tiles_quarter.proofs.rows_32q.Statement.{statement}
+use Rattle.tiles_quarter.proofs.rows_32q.Tie as tie
+
+returns : tie.Need-returns
+returns c = (λ w. c .before .put-32q .ensures, λ w. absurd (let z : _≡_ {A = ℕ} 0 1 = cc (w, c .before .before .before .if1 .taken) in let b : ⊥ = omega arith in b))
+
+returns-2 : tie.Need-returns-2
+returns-2 c = (λ w. absurd (let z : _≡_ {A = ℕ} 0 1 = cc (w, c .before .before .before .if1 .left) in let b : ⊥ = omega arith in b), λ w. c .before .thin-32q .ensures)
+
+put-32q-requires : tie.Need-put-32q-requires
+put-32q-requires c κs = let p = c .before .before .pre in (p .0, p .1, p .2 (c .before .if1 .taken))
+
+thin-32q-requires : tie.Need-thin-32q-requires
+thin-32q-requires c κs = let p = c .before .before .pre in (p .0, p .1, p .3 (c .before .if1 .left))
+
+pub rows-32q-spec : {M : Type 1} → statement M
+rows-32q-spec = tie.close (tie.spec put-32q-requires thin-32q-requires (λ c. search needs) returns (λ c. search needs) returns-2)
