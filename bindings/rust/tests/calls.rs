@@ -38,7 +38,7 @@ fn scaling_at_both_widths() {
     assert_eq!(SCALING.scale_level(-1, 16), Ok(ScaledLevel { coefficient: -32, level_limited: false, result_limited: false }));
     assert_eq!(SCALING.scale_level(-1025, 16).unwrap(), ScaledLevel { coefficient: -32768, level_limited: false, result_limited: true });
     assert_eq!(SCALING.scale_level(40000, 0).unwrap(), ScaledLevel { coefficient: 0, level_limited: true, result_limited: false });
-    assert_eq!(SCALING.scale(&[40000; 16], &mut wide), Ok(16));
+    assert_eq!(SCALING.scale(&[40000; 16], &mut [0i32; 16]), Ok(16));
     assert_eq!(Scaling { depth: 10, ..SCALING }.scale(&level_2(), &mut narrow), Err(Refusal::WidthTooNarrow));
     assert_eq!(SCALING.scale(&[0; 15], &mut wide), Err(Refusal::InputTooShort));
     assert_eq!(SCALING.scale(&level_2(), &mut wide[..15]), Err(Refusal::OutputTooShort));
