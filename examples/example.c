@@ -45,17 +45,17 @@ int main(void)
 
     /* one coefficient is changed, a second edit is refused, and the first is taken back */
     int32_t before = coeff[0 * N + 1];
-    block = residual_edit(block.dst, block.size, block.depth, block.extended, block.columns, coeff, N * N, inter, N * N, residual, N * N, 0, 1, 40);
+    block = residual_edit(block.block, coeff, N * N, inter, N * N, residual, N * N, 0, 1, 40);
     if (block.number)
         return refused("edit", block.number);
-    printf("columns %zu\n", block.columns);
+    printf("columns %zu\n", block.block.columns);
     print_block("residual after the edit", residual, N);
-    block = residual_edit(block.dst, block.size, block.depth, block.extended, block.columns, coeff, N * N, inter, N * N, residual, N * N, 2, 3, 40000);
+    block = residual_edit(block.block, coeff, N * N, inter, N * N, residual, N * N, 2, 3, 40000);
     if (block.number) {
         refused("second edit", block.number);
         printf("row %u, column %u\n", (unsigned)block.row, (unsigned)block.column);
     }
-    block = residual_edit(block.dst, block.size, block.depth, block.extended, block.columns, coeff, N * N, inter, N * N, residual, N * N, 0, 1, before);
+    block = residual_edit(block.block, coeff, N * N, inter, N * N, residual, N * N, 0, 1, before);
     if (block.number)
         return refused("undo", block.number);
     print_block("residual after undo", residual, N);

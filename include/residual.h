@@ -127,24 +127,55 @@ typedef struct {
     int32_t tr_shift;
 } residual_transform_skip_answered;
 
-/* The record of an edited block, zeros where an opening was refused. */
+/* The record of an edited block, as it goes from call to call. From levels on: whether the block was opened on levels, and the QP' as given, list flag,
+ * DC number and entries by which they are scaled; what an opening is not given is 0. Zeros where an opening was refused. */
 typedef struct {
-    uint32_t number;
-    uint8_t row;
-    uint8_t column;
-    size_t place;
     bool dst;
     size_t size;
     uint8_t depth;
     bool extended;
     size_t columns;
+    bool levels;
+    int32_t qp_prime;
+    bool listed;
+    uint8_t dc;
+    uint8_t entries[64];
+} residual_block;
+
+/* An answer with that record; limited is how many of its n * n coefficients an opening on levels limited, 0 for every other call. */
+typedef struct {
+    uint32_t number;
+    uint8_t row;
+    uint8_t column;
+    uint16_t limited;
+    size_t place;
+    residual_block block;
 } residual_block_answered;
 
-/* The same, with how many edits were given to the block. */
+/* What a level edit answers: whether the level lay outside the coefficient range, and whether the result of the limited level did. */
 typedef struct {
-    residual_block_answered block;
+    uint32_t number;
+    uint8_t row;
+    uint8_t column;
+    bool level_limited;
+    bool result_limited;
+    size_t place;
+    residual_block block;
+} residual_level_edit_answered;
+
+/* What an opening answers, with the record after a list of edits, and how many edits were given to the block. */
+typedef struct {
+    uint32_t number;
+    uint8_t row;
+    uint8_t column;
+    uint16_t limited;
+    size_t place;
+    residual_block block;
     size_t edits;
 } residual_list_answered;
+
+/* The version of the archive, to be compared with RESIDUAL_VERSION_NUMBER of these headers. */
+uint32_t residual_version(void);
 
 /* ---- Quantities. They write no buffer. */
 
@@ -259,24 +290,49 @@ residual_answered residual_find_levels_scaled(const int32_t *coeff, size_t coeff
  * s2 is R + 5 - bit_depth. Refuses 1, 2, 4. */
 residual_number_answered residual_rounding_bound(bool dst, size_t n, uint8_t bit_depth, bool extended_precision);
 
-/* ---- Edited blocks: opened once, then changed one coefficient at a time. After any edits, intermediate and residual are what a fresh opening of the coefficients
- * gives. The record that a call hands back goes into the next edit by its parts; an edit that is refused hands back the record it was given. */
+/* ---- Edited blocks: opened once, on coefficients or on levels, then changed one value at a time. After any edits all that follows from the values is what a fresh
+ * opening gives: of levels the coefficients, of these intermediate and residual. The record that a call hands back goes into the next edit as it is; an edit that
+ * is refused hands back the record it was given. A coefficient is edited in a block that was opened on coefficients and a level in one that was opened on levels;
+ * the other way round an edit is refused with 10. */
 
-/* Opens a block: reads n * n coefficients, all columns, and writes the first n * n of inter and residual. The record has columns, one past the last column with a
- * coefficient other than zero. Refuses 1, 2, 4, 6, 7, 9, 19. */
+/* Opens a block on coefficients: reads n * n of them, all columns, and writes the first n * n of inter and residual. The record has columns, one past the last
+ * column with a coefficient other than zero. Refuses 1, 2, 4, 6, 7, 9, 19. */
 residual_block_answered residual_open_block(bool dst, size_t n, uint8_t bit_depth, bool extended_precision, const int32_t *coeff, size_t coeff_len,
     int32_t *inter, size_t inter_len, int32_t *residual, size_t residual_len);
+/* Opens a block on levels without a list: reads n * n of them and writes the first n * n of coeff, inter and residual. Refuses 1, 2, 4, 6 (levels or coeff), 7. */
+residual_block_answered residual_open_levels(bool dst, size_t n, uint8_t bit_depth, bool extended_precision, int32_t qp_prime, const int32_t *levels, size_t levels_len,
+    int32_t *coeff, size_t coeff_len, int32_t *inter, size_t inter_len, int32_t *residual, size_t residual_len);
+/* The same with a list and its DC number, which the record keeps. Refuses 5 as well. */
+residual_block_answered residual_open_levels_scaled(bool dst, size_t n, uint8_t bit_depth, bool extended_precision, int32_t qp_prime, const uint8_t *list,
+    size_t list_len, uint8_t dc, const int32_t *levels, size_t levels_len, int32_t *coeff, size_t coeff_len, int32_t *inter, size_t inter_len, int32_t *residual, size_t residual_len);
 /* Puts value at a row and column of coeff, and brings that column of inter and the whole residual up to date. What others wrote into coeff and inter since the last
- * call is read limited to the range; columns of the record given is not relied on. Refuses 1, 2, 4, 6, 7, 8, and 9 or 19 for the value. */
-residual_block_answered residual_edit(bool dst, size_t n, uint8_t bit_depth, bool extended_precision, size_t columns, int32_t *coeff, size_t coeff_len,
-    int32_t *inter, size_t inter_len, int32_t *residual, size_t residual_len, size_t row, size_t column, int32_t value);
-/* Opens a block and makes a list of edits, as long as the shortest of rows, columns, values, numbers, named and across. The answer to edit i goes to numbers[i],
- * with the row and the column that it names in named[i] and across[i]; a refused edit is passed over. After a refused opening nothing is changed. */
-residual_list_answered residual_open_and_edit(bool dst, size_t n, uint8_t bit_depth, bool extended_precision, int32_t *coeff, size_t coeff_len,
-    int32_t *inter, size_t inter_len, int32_t *residual, size_t residual_len, const size_t *rows, size_t rows_len, const size_t *columns, size_t columns_len,
-    const int32_t *values, size_t values_len, uint8_t *numbers, size_t numbers_len, uint8_t *named, size_t named_len,
-    uint8_t *across, size_t across_len);
-/* The residual of an intermediate alone: reads n * n of inter, limited to the range, and writes n * n of residual. Refuses 1, 2, 4, 6, 7. */
+ * call is read limited to the range; columns of the record given is not relied on. Refuses 1, 2, 4, 6, 7, 10, 8, and 9 or 19 for the value. */
+residual_block_answered residual_edit(residual_block block, int32_t *coeff, size_t coeff_len, int32_t *inter, size_t inter_len, int32_t *residual, size_t residual_len,
+    size_t row, size_t column, int32_t value);
+/* Puts level at a row and column of levels and its coefficient at the same place of coeff, scaled by what the record holds, and brings inter and residual up to date
+ * as an edit of that coefficient does. The other levels are not read. Any 32-bit level is taken. Refuses 1, 2, 4, 6, 7, 10, 8; levels is not looked at in a block that
+ * was opened on coefficients. */
+residual_level_edit_answered residual_edit_level(residual_block block, int32_t *levels, size_t levels_len, int32_t *coeff, size_t coeff_len, int32_t *inter, size_t inter_len, int32_t *residual, size_t residual_len,
+    size_t row, size_t column, int32_t level);
+/* Opens a block and makes a list of edits, as long as the shortest of rows, columns, values, ways, numbers, named, across and limits: edit i is of a level where
+ * ways[i]. The answer to it goes to numbers[i], with the row and the column that it names in named[i] and across[i]; limits[i] gets 1 where it limited the level,
+ * 2 where the result, 3 where both, else 0. A refused edit is passed over. After a refused opening nothing is changed. */
+residual_list_answered residual_open_and_edit(bool dst, size_t n, uint8_t bit_depth, bool extended_precision, int32_t *levels, size_t levels_len,
+    int32_t *coeff, size_t coeff_len, int32_t *inter, size_t inter_len, int32_t *residual, size_t residual_len,
+    const size_t *rows, size_t rows_len, const size_t *columns, size_t columns_len, const int32_t *values, size_t values_len, const bool *ways, size_t ways_len,
+    uint8_t *numbers, size_t numbers_len, uint8_t *named, size_t named_len, uint8_t *across, size_t across_len,
+    uint8_t *limits, size_t limits_len);
+residual_list_answered residual_open_levels_and_edit(bool dst, size_t n, uint8_t bit_depth, bool extended_precision, int32_t qp_prime, int32_t *levels,
+    size_t levels_len, int32_t *coeff, size_t coeff_len, int32_t *inter, size_t inter_len, int32_t *residual, size_t residual_len,
+    const size_t *rows, size_t rows_len, const size_t *columns, size_t columns_len, const int32_t *values, size_t values_len, const bool *ways, size_t ways_len,
+    uint8_t *numbers, size_t numbers_len, uint8_t *named, size_t named_len, uint8_t *across, size_t across_len,
+    uint8_t *limits, size_t limits_len);
+residual_list_answered residual_open_levels_scaled_and_edit(bool dst, size_t n, uint8_t bit_depth, bool extended_precision, int32_t qp_prime, const uint8_t *list,
+    size_t list_len, uint8_t dc, int32_t *levels, size_t levels_len, int32_t *coeff, size_t coeff_len, int32_t *inter, size_t inter_len, int32_t *residual, size_t residual_len,
+    const size_t *rows, size_t rows_len, const size_t *columns, size_t columns_len, const int32_t *values, size_t values_len, const bool *ways, size_t ways_len,
+    uint8_t *numbers, size_t numbers_len, uint8_t *named, size_t named_len, uint8_t *across, size_t across_len,
+    uint8_t *limits, size_t limits_len);
+/* The residual of an intermediate alone: reads n * n of inter, limited to the range, and writes n * n of residual. Refuses 1, 2, 4, and 7 where either is too short. */
 residual_answered residual_refresh_residual(bool dst, size_t n, uint8_t bit_depth, bool extended_precision, const int32_t *inter, size_t inter_len,
     int32_t *residual, size_t residual_len);
 

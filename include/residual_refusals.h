@@ -21,6 +21,7 @@
     ROW(7, OUTPUT_TOO_SHORT, "an output or work buffer has fewer than n * n elements; for scaling lists fewer than 1,280 entries or 20 DC numbers have room, or fewer bytes than the bits take; a table of lists is too short") \
     ROW(8, PLACE_OUTSIDE, "an edit's row or column is not below n; m is looked up at an index not below n * n") \
     ROW(9, COEFFICIENT_ABOVE, "a coefficient is above its range") \
+    ROW(10, WAY_MISMATCHED, "a coefficient is edited in a block that was opened on levels, or a level in one that was opened on coefficients; it comes before 8") \
     ROW(11, LEVEL_MISSING, "search for levels: no level gives a coefficient") \
     ROW(12, SAMPLE_OUTSIDE, "a prediction sample is above 2^B - 1") \
     ROW(13, PICTURE_INVALID, "a width or height is outside 1 .. 16,384; the stride is under the width or above 65,536; a block is not wholly inside the picture; the plane has fewer than stride * height elements") \

@@ -58,6 +58,31 @@ def edits(seed):
             expect(not any(block.coefficients) and not any(block.residual) and block.edits == [], "undo of all")
 
 
+def level_edits():
+    chance = random.Random(9)
+    for dst, n, listed in ((True, 4, None), (False, 8, ([20] * 64, 30)), (False, 32, ([20] * 64, 30)), (False, 16, None)):
+        block = foxentu.EditedBlock.on_levels([0] * (n * n), n, 20, 8, False, dst, listed)
+        for _ in range(60):
+            way = chance.randrange(6)
+            if way == 0:
+                block.undo()
+            elif way == 1:
+                block.redo()
+            elif way == 2:
+                refused(10, block.edit, 0, 0, 1)
+            else:
+                block.edit_level(chance.randrange(n), chance.randrange(n), chance.choice((chance.randrange(-200, 200), 2147483647)))
+            expect(block.coefficients == foxentu.scale(block.levels, n, 20, 8, False, listed), "coefficients are not the scaling of the levels")
+            expect(block.residual == foxentu.inverse_transform(block.coefficients, n, 8, False, dst), "a level edit is not a fresh transform")
+        while block.undo():
+            pass
+        expect(not any(block.levels) and not any(block.residual), "undo of all")
+    refused(10, foxentu.EditedBlock([0] * 16, 4, 8).edit_level, 0, 0, 1)
+    block = foxentu.EditedBlock.on_levels([40000] * 16, 4, 4, 8)
+    expect(block.limited == 16 and block.edit_level(0, 0, 1) == (False, False) and block.edit_level(0, 0, -1025) == (False, True) and block.edit_level(0, 0, 40000)[0], "what was limited")
+    refused(6, foxentu.EditedBlock.on_levels, [0] * 15, 4, 20, 8)
+
+
 def calls():
     why = refused(9, foxentu.EditedBlock([0] * 64, 8, 8).edit, 5, 6, 32768)
     expect((why.row, why.column) == (5, 6), "the place of a coefficient")
@@ -96,5 +121,6 @@ def threads():
 
 calls()
 edits(265)
+level_edits()
 threads()
 print(f"package: {count} checks passed")

@@ -16,6 +16,7 @@ static void expect(bool holds, const char *what) {
 }
 
 static void quantities(void) {
+    expect(residual_version() == RESIDUAL_VERSION_NUMBER, "version");
     residual_number_answered range = residual_max_log2_transform_dynamic_range(10, true);
     expect(range.number == 0 && range.place == 0 && range.value == 16, "max_log2_transform_dynamic_range");
     residual_number_answered offset = residual_qp_bd_offset(17);
@@ -126,25 +127,60 @@ static void transforms(void) {
 #endif
 
 #ifdef has_edits
-/* Index 0 alone, set to 63 by an edit of a block of zeros: 1 everywhere. Then row 4 is refused. */
+/* Index 0 alone, set to 63 by an edit of a block of zeros: 1 everywhere. Then row 4 is refused, and a level is, since the block was opened on coefficients. */
 static void edits(void) {
-    int32_t coeff[16] = {0}, inter[16], residual[17] = {[16] = 7};
+    int32_t levels[16] = {0}, coeff[16] = {0}, inter[16], residual[17] = {[16] = 7};
     residual_block_answered b = residual_open_block(false, 4, 8, false, coeff, 16, inter, 16, residual, 17);
-    expect(b.number == 0 && !b.dst && b.size == 4 && b.depth == 8 && !b.extended && b.columns == 0 && residual[15] == 0, "open_block");
-    b = residual_edit(b.dst, b.size, b.depth, b.extended, b.columns, coeff, 16, inter, 16, residual, 17, 0, 0, 63);
-    bool same = b.number == 0 && b.place == 0 && b.columns == 1 && coeff[0] == 63 && residual[16] == 7;
+    expect(b.number == 0 && !b.block.dst && b.block.size == 4 && b.block.depth == 8 && !b.block.extended && b.block.columns == 0 && residual[15] == 0, "open_block");
+    bool same = !b.block.levels && b.block.qp_prime == 0 && !b.block.listed && b.block.dc == 0;
+    for (int i = 0; i < 64; i++) same = same && b.block.entries[i] == 0;
+    expect(same, "open_block, what is not given");
+    b = residual_edit(b.block, coeff, 16, inter, 16, residual, 17, 0, 0, 63);
+    same = b.number == 0 && b.place == 0 && b.block.columns == 1 && coeff[0] == 63 && residual[16] == 7;
     for (int i = 0; i < 16; i++) same = same && residual[i] == 1;
     expect(same, "edit");
-    size_t rows[2] = {4, 0}, columns[2] = {0, 0};
-    int32_t values[2] = {1, 0};
-    uint8_t numbers[2] = {9, 9}, named[2] = {9, 9}, across[2] = {9, 9};
-    residual_list_answered l = residual_open_and_edit(false, 4, 8, false, coeff, 16, inter, 16, residual, 17, rows, 2, columns, 2, values, 2, numbers, 2, named, 2, across, 2);
-    same = l.block.number == 0 && l.block.columns == 0 && l.edits == 2 && numbers[0] == 8 && named[0] == 0 && across[0] == 0 && numbers[1] == 0 && named[1] == 0 && across[1] == 0;
-    for (int i = 0; i < 16; i++) same = same && residual[i] == 0 && coeff[i] == 0;
+    size_t rows[3] = {4, 0, 0}, columns[3] = {0, 0, 0};
+    int32_t values[3] = {1, 0, 5};
+    bool ways[3] = {false, false, true};
+    uint8_t numbers[3] = {9, 9, 9}, named[3] = {9, 9, 9}, across[3] = {9, 9, 9}, limits[3] = {9, 9, 9};
+    residual_list_answered l = residual_open_and_edit(false, 4, 8, false, levels, 16, coeff, 16, inter, 16, residual, 17, rows, 3, columns, 3, values, 3, ways, 3, numbers, 3, named, 3, across, 3, limits, 3);
+    same = l.number == 0 && l.block.columns == 0 && l.edits == 3 && numbers[0] == 8 && numbers[1] == 0 && numbers[2] == 10;
+    for (int i = 0; i < 3; i++) same = same && named[i] == 0 && across[i] == 0 && limits[i] == 0;
+    for (int i = 0; i < 16; i++) same = same && residual[i] == 0 && coeff[i] == 0 && levels[i] == 0;
     expect(same && residual[16] == 7, "open_and_edit");
     residual[3] = 9;
     residual_answered a = residual_refresh_residual(false, 4, 8, false, inter, 16, residual, 17);
     expect(a.number == 0 && a.place == 0 && residual[3] == 0 && residual[16] == 7, "refresh_residual");
+    a = residual_refresh_residual(false, 4, 8, false, inter, 15, residual, 17);
+    expect(a.number == 7 && residual[3] == 0, "refresh_residual, a short intermediate");
+}
+
+/* Level 2 at index 0, QP' 4, depth 8: coefficient 64, residual 1 everywhere. Level 40000 is limited, and so is its coefficient; then the same by a list whose entry 0 is 16. */
+static void level_edits(void) {
+    int32_t levels[17] = {2, [16] = 7}, coeff[17] = {[16] = 7}, inter[16], residual[16];
+    uint8_t entries[64];
+    for (int i = 0; i < 64; i++) entries[i] = (uint8_t)(16 + i);
+    residual_block_answered b = residual_open_levels(false, 4, 8, false, 4, levels, 17, coeff, 17, inter, 16, residual, 16);
+    expect(b.number == 0 && b.block.levels && b.block.qp_prime == 4 && !b.block.listed && b.block.columns == 1 && coeff[0] == 64 && residual[15] == 1, "open_levels");
+    expect(b.limited == 0, "open_levels, what was limited");
+    residual_level_edit_answered e = residual_edit_level(b.block, levels, 17, coeff, 17, inter, 16, residual, 16, 0, 0, 40000);
+    expect(e.number == 0 && e.level_limited && e.result_limited && levels[0] == 40000 && coeff[0] == 32767 && levels[16] == 7 && coeff[16] == 7, "edit_level");
+    b = residual_edit(e.block, coeff, 17, inter, 16, residual, 16, 0, 0, 1);
+    expect(b.number == 10 && coeff[0] == 32767 && b.block.columns == 1, "edit, of a block that was opened on levels");
+    b = residual_open_levels_scaled(false, 4, 8, false, 4, entries, 64, 9, levels, 17, coeff, 17, inter, 16, residual, 16);
+    expect(b.number == 0 && b.limited == 1 && b.block.listed && b.block.dc == 9 && b.block.entries[63] == 79, "open_levels_scaled");
+    e = residual_edit_level(b.block, levels, 17, coeff, 17, inter, 16, residual, 16, 0, 1, 16);
+    expect(e.number == 0 && !e.level_limited && !e.result_limited && coeff[1] == 544 && e.block.columns == 2, "edit_level, with a list");
+    b = residual_open_levels_scaled(false, 4, 8, false, 4, entries, 63, 9, levels, 17, coeff, 17, inter, 16, residual, 16);
+    expect(b.number == 5 && b.block.size == 0, "open_levels_scaled, refused");
+    size_t rows[2] = {0, 0}, columns[2] = {0, 1};
+    int32_t values[2] = {2, 0};
+    bool ways[2] = {true, true};
+    uint8_t numbers[2] = {9, 9}, named[2] = {9, 9}, across[2] = {9, 9}, limits[2] = {9, 9};
+    residual_list_answered l = residual_open_levels_and_edit(false, 4, 8, false, 4, levels, 17, coeff, 17, inter, 16, residual, 16, rows, 2, columns, 2, values, 2, ways, 2, numbers, 2, named, 2, across, 2, limits, 2);
+    expect(l.number == 0 && l.limited == 1 && l.edits == 2 && l.block.columns == 1 && limits[0] == 0 && numbers[0] == 0 && numbers[1] == 0 && levels[0] == 2 && levels[1] == 0 && residual[0] == 1, "open_levels_and_edit");
+    l = residual_open_levels_scaled_and_edit(false, 4, 8, false, 4, entries, 64, 9, levels, 17, coeff, 17, inter, 16, residual, 16, rows, 2, columns, 2, values, 2, ways, 2, numbers, 2, named, 2, across, 2, limits, 2);
+    expect(l.number == 0 && l.edits == 2 && l.block.listed && coeff[0] == 64, "open_levels_scaled_and_edit");
 }
 #endif
 
@@ -252,6 +288,7 @@ int main(void) {
 #endif
 #ifdef has_edits
     edits();
+    level_edits();
 #endif
 #ifdef has_picture
     pictures();

@@ -1,112 +1,35 @@
-//! The archive of `rt staticlib c_api`, under the names of include/residual.h and include/picture.h. A slice is a pointer and a length.
+//! The archive of `rt staticlib c_api`, by the declarations of the crate in bindings/rust, which are those of the headers. A slice is a pointer and a length.
 //! A group of functions is left out (`cfg`) where the archive does not have it yet; `harness/build` looks.
 
-#[repr(C)]
-#[derive(Clone, Copy, PartialEq, Eq, Debug, Default)]
-pub struct Answered {
-    pub number: u32,
-    pub row: u8,
-    pub column: u8,
-    pub place: usize,
+#[path = "../../bindings/rust/src/ffi.rs"]
+#[allow(dead_code)]
+mod ffi;
+
+pub use ffi::{Answered, CountAnswered, DequantAnswered, LevelAnswered, NumberAnswered, SignedAnswered, TransformSkipAnswered};
+
+pub fn max_log2_transform_dynamic_range(bit_depth: u8, extended_precision: bool) -> NumberAnswered {
+    unsafe { ffi::residual_max_log2_transform_dynamic_range(bit_depth, extended_precision) }
 }
 
-#[repr(C)]
-#[derive(Clone, Copy, PartialEq, Eq, Debug, Default)]
-pub struct CountAnswered {
-    pub number: u32,
-    pub row: u8,
-    pub column: u8,
-    pub limited: u16,
-    pub place: usize,
+pub fn qp_bd_offset(bit_depth: u8) -> NumberAnswered {
+    unsafe { ffi::residual_qp_bd_offset(bit_depth) }
 }
 
-#[repr(C)]
-#[derive(Clone, Copy, PartialEq, Eq, Debug, Default)]
-pub struct LevelAnswered {
-    pub number: u32,
-    pub row: u8,
-    pub column: u8,
-    pub level_limited: bool,
-    pub result_limited: bool,
-    pub place: usize,
-    pub value: i32,
+pub fn qp_prime(qp: i32, bit_depth: u8) -> SignedAnswered {
+    unsafe { ffi::residual_qp_prime(qp, bit_depth) }
 }
 
-#[repr(C)]
-#[derive(Clone, Copy, PartialEq, Eq, Debug, Default)]
-pub struct NumberAnswered {
-    pub number: u32,
-    pub row: u8,
-    pub column: u8,
-    pub place: usize,
-    pub value: u32,
+pub fn dequant_params(n: usize, qp_prime: i32, bit_depth: u8, extended_precision: bool) -> DequantAnswered {
+    unsafe { ffi::residual_dequant_params(n, qp_prime, bit_depth, extended_precision) }
 }
 
-#[repr(C)]
-#[derive(Clone, Copy, PartialEq, Eq, Debug, Default)]
-pub struct SignedAnswered {
-    pub number: u32,
-    pub row: u8,
-    pub column: u8,
-    pub place: usize,
-    pub value: i32,
+pub fn transform_skip_params(n: usize, qp_prime: i32, bit_depth: u8, extended_precision: bool) -> TransformSkipAnswered {
+    unsafe { ffi::residual_transform_skip_params(n, qp_prime, bit_depth, extended_precision) }
 }
-
-#[repr(C)]
-#[derive(Clone, Copy, PartialEq, Eq, Debug, Default)]
-pub struct DequantAnswered {
-    pub number: u32,
-    pub row: u8,
-    pub column: u8,
-    pub place: usize,
-    pub factor: i64,
-    pub add: i64,
-    pub shift: u32,
-    pub clip_min: i64,
-    pub clip_max: i64,
-}
-
-#[repr(C)]
-#[derive(Clone, Copy, PartialEq, Eq, Debug, Default)]
-pub struct TransformSkipAnswered {
-    pub number: u32,
-    pub row: u8,
-    pub column: u8,
-    pub place: usize,
-    pub factor: i64,
-    pub add: i64,
-    pub shift: u32,
-    pub clip_min: i64,
-    pub clip_max: i64,
-    pub tr_add: i32,
-    pub tr_shift: i32,
-}
-
-mod linked {
-    use super::*;
-    unsafe extern "C" {
-        pub safe fn residual_max_log2_transform_dynamic_range(bit_depth: u8, extended_precision: bool) -> NumberAnswered;
-        pub safe fn residual_qp_bd_offset(bit_depth: u8) -> NumberAnswered;
-        pub safe fn residual_qp_prime(qp: i32, bit_depth: u8) -> SignedAnswered;
-        pub safe fn residual_dequant_params(n: usize, qp_prime: i32, bit_depth: u8, extended_precision: bool) -> DequantAnswered;
-        pub safe fn residual_transform_skip_params(n: usize, qp_prime: i32, bit_depth: u8, extended_precision: bool) -> TransformSkipAnswered;
-    }
-}
-
-pub use linked::residual_dequant_params as dequant_params;
-pub use linked::residual_max_log2_transform_dynamic_range as max_log2_transform_dynamic_range;
-pub use linked::residual_qp_bd_offset as qp_bd_offset;
-pub use linked::residual_qp_prime as qp_prime;
-pub use linked::residual_transform_skip_params as transform_skip_params;
 
 #[cfg(has_scaling)]
 pub mod scaling {
-    use super::*;
-
-    unsafe extern "C" {
-        fn residual_scaling_coeff(list: *const u8, list_len: usize, dc: u8, n: usize, index: usize) -> NumberAnswered;
-        fn residual_scale_level(level: i32, m: u8, n: usize, qp_prime: i32, bit_depth: u8, extended_precision: bool) -> LevelAnswered;
-    }
+    use super::ffi::*;
 
     pub fn scaling_coeff(list: &[u8], dc: u8, n: usize, index: usize) -> NumberAnswered {
         unsafe { residual_scaling_coeff(list.as_ptr(), list.len(), dc, n, index) }
@@ -135,9 +58,6 @@ pub mod scaling {
 
     macro_rules! flat {
         ($name:ident, $linked:ident, $out:ty) => {
-            unsafe extern "C" {
-                fn $linked(levels: *const i32, levels_len: usize, n: usize, qp_prime: i32, bit_depth: u8, extended_precision: bool, out: *mut $out, out_len: usize) -> CountAnswered;
-            }
             #[allow(non_upper_case_globals)]
             pub const $name: Blocks<$out> = Blocks::Flat($linked);
         };
@@ -145,9 +65,6 @@ pub mod scaling {
 
     macro_rules! listed {
         ($name:ident, $linked:ident, $out:ty) => {
-            unsafe extern "C" {
-                fn $linked(levels: *const i32, levels_len: usize, n: usize, qp_prime: i32, bit_depth: u8, extended_precision: bool, list: *const u8, list_len: usize, dc: u8, out: *mut $out, out_len: usize) -> CountAnswered;
-            }
             #[allow(non_upper_case_globals)]
             pub const $name: Blocks<$out> = Blocks::Listed($linked);
         };
@@ -165,7 +82,7 @@ pub mod scaling {
 
 #[cfg(has_transform)]
 pub mod transform {
-    use super::*;
+    use super::ffi::*;
 
     /// An exported inverse transform; a call goes straight to it, as for `scaling::Blocks`.
     pub enum Inverse<E: 'static> {
@@ -185,9 +102,6 @@ pub mod transform {
 
     macro_rules! dct {
         ($name:ident, $linked:ident, $element:ty) => {
-            unsafe extern "C" {
-                fn $linked(coeff: *const $element, coeff_len: usize, n: usize, bit_depth: u8, nx: usize, out: *mut $element, out_len: usize) -> Answered;
-            }
             #[allow(non_upper_case_globals)]
             pub const $name: Inverse<$element> = Inverse::Dct($linked);
         };
@@ -195,9 +109,6 @@ pub mod transform {
 
     macro_rules! dst {
         ($name:ident, $linked:ident, $element:ty) => {
-            unsafe extern "C" {
-                fn $linked(coeff: *const $element, coeff_len: usize, bit_depth: u8, out: *mut $element, out_len: usize) -> Answered;
-            }
             #[allow(non_upper_case_globals)]
             pub const $name: Inverse<$element> = Inverse::Dst($linked);
         };
@@ -213,114 +124,113 @@ pub mod transform {
 
 #[cfg(has_edits)]
 pub mod edits {
-    use super::Answered;
+    use super::ffi::*;
+    pub use super::ffi::{Block, BlockAnswered, LevelEditAnswered, ListAnswered};
 
-    #[repr(C)]
-    #[derive(Clone, Copy, PartialEq, Eq, Debug, Default)]
-    pub struct BlockAnswered {
-        pub number: u32,
-        pub row: u8,
-        pub column: u8,
-        pub place: usize,
+    /// What an opening gets beside the buffers.
+    #[derive(Clone, Copy)]
+    pub struct Form {
         pub dst: bool,
-        pub size: usize,
-        pub depth: u8,
+        pub n: usize,
+        pub bit_depth: u8,
         pub extended: bool,
-        pub columns: usize,
     }
 
-    #[repr(C)]
-    #[derive(Clone, Copy, PartialEq, Eq, Debug, Default)]
-    pub struct ListAnswered {
-        pub block: BlockAnswered,
-        pub edits: usize,
+    /// The four buffers of a block.
+    pub struct Held<'a> {
+        pub levels: &'a mut [i32],
+        pub coeff: &'a mut [i32],
+        pub inter: &'a mut [i32],
+        pub residual: &'a mut [i32],
     }
 
-    unsafe extern "C" {
-        fn residual_open_block(dst: bool, n: usize, bit_depth: u8, extended_precision: bool, coeff: *const i32, coeff_len: usize, inter: *mut i32, inter_len: usize, residual: *mut i32, residual_len: usize) -> BlockAnswered;
-        fn residual_edit(dst: bool, n: usize, bit_depth: u8, extended_precision: bool, columns: usize, coeff: *mut i32, coeff_len: usize, inter: *mut i32, inter_len: usize, residual: *mut i32, residual_len: usize, row: usize, column: usize, value: i32) -> BlockAnswered;
-        fn residual_open_and_edit(
-            dst: bool, n: usize, bit_depth: u8, extended_precision: bool, coeff: *mut i32, coeff_len: usize, inter: *mut i32, inter_len: usize, residual: *mut i32, residual_len: usize,
-            rows: *const usize, rows_len: usize, columns: *const usize, columns_len: usize, values: *const i32, values_len: usize, numbers: *mut u8, numbers_len: usize, named: *mut u8, named_len: usize, across: *mut u8, across_len: usize,
-        ) -> ListAnswered;
-    }
-
-    unsafe extern "C" {
-        fn residual_refresh_residual(dst: bool, n: usize, bit_depth: u8, extended_precision: bool, inter: *const i32, inter_len: usize, residual: *mut i32, residual_len: usize) -> Answered;
+    /// A list of edits, and the slices for its answers.
+    pub struct List<'a> {
+        pub rows: &'a [usize],
+        pub columns: &'a [usize],
+        pub values: &'a [i32],
+        pub ways: &'a [bool],
+        pub numbers: &'a mut [u8],
+        pub named: &'a mut [u8],
+        pub across: &'a mut [u8],
+        pub limits: &'a mut [u8],
     }
 
     pub fn refresh_residual(dst: bool, n: usize, bit_depth: u8, extended_precision: bool, inter: &[i32], residual: &mut [i32]) -> Answered {
         unsafe { residual_refresh_residual(dst, n, bit_depth, extended_precision, inter.as_ptr(), inter.len(), residual.as_mut_ptr(), residual.len()) }
     }
 
-    pub fn open_block(dst: bool, n: usize, bit_depth: u8, extended_precision: bool, coeff: &[i32], inter: &mut [i32], residual: &mut [i32]) -> BlockAnswered {
-        unsafe { residual_open_block(dst, n, bit_depth, extended_precision, coeff.as_ptr(), coeff.len(), inter.as_mut_ptr(), inter.len(), residual.as_mut_ptr(), residual.len()) }
+    pub fn open_block(f: Form, coeff: &[i32], inter: &mut [i32], residual: &mut [i32]) -> BlockAnswered {
+        unsafe { residual_open_block(f.dst, f.n, f.bit_depth, f.extended, coeff.as_ptr(), coeff.len(), inter.as_mut_ptr(), inter.len(), residual.as_mut_ptr(), residual.len()) }
     }
 
-    pub fn edit(dst: bool, n: usize, bit_depth: u8, extended_precision: bool, columns: usize, coeff: &mut [i32], inter: &mut [i32], residual: &mut [i32], row: usize, column: usize, value: i32) -> BlockAnswered {
-        unsafe {
-            residual_edit(
-                dst, n, bit_depth, extended_precision, columns, coeff.as_mut_ptr(), coeff.len(), inter.as_mut_ptr(), inter.len(), residual.as_mut_ptr(), residual.len(), row, column, value,
-            )
-        }
+    pub fn edit(block: Block, coeff: &mut [i32], inter: &mut [i32], residual: &mut [i32], row: usize, column: usize, value: i32) -> BlockAnswered {
+        unsafe { residual_edit(block, coeff.as_mut_ptr(), coeff.len(), inter.as_mut_ptr(), inter.len(), residual.as_mut_ptr(), residual.len(), row, column, value) }
     }
 
-    pub fn open_and_edit(
-        dst: bool, n: usize, bit_depth: u8, extended_precision: bool, coeff: &mut [i32], inter: &mut [i32], residual: &mut [i32], rows: &[usize], columns: &[usize], values: &[i32],
-        numbers: &mut [u8], named: &mut [u8], across: &mut [u8],
-    ) -> ListAnswered {
-        unsafe {
-            residual_open_and_edit(
-                dst, n, bit_depth, extended_precision, coeff.as_mut_ptr(), coeff.len(), inter.as_mut_ptr(), inter.len(), residual.as_mut_ptr(), residual.len(), rows.as_ptr(), rows.len(),
-                columns.as_ptr(), columns.len(), values.as_ptr(), values.len(), numbers.as_mut_ptr(), numbers.len(), named.as_mut_ptr(), named.len(), across.as_mut_ptr(), across.len(),
-            )
-        }
+    /// A call with the four buffers, between what stands before them and after them.
+    macro_rules! call {
+        ($name:ident, $h:expr, ($($before:expr),*), ($($after:expr),*)) => {
+            unsafe { $name($($before,)* $h.levels.as_mut_ptr(), $h.levels.len(), $h.coeff.as_mut_ptr(), $h.coeff.len(), $h.inter.as_mut_ptr(), $h.inter.len(), $h.residual.as_mut_ptr(), $h.residual.len(), $($after),*) }
+        };
+    }
+
+    macro_rules! call_list {
+        ($name:ident, $h:expr, $l:expr, ($($before:expr),*)) => {
+            call!($name, $h, ($($before),*), (
+                $l.rows.as_ptr(), $l.rows.len(), $l.columns.as_ptr(), $l.columns.len(), $l.values.as_ptr(), $l.values.len(), $l.ways.as_ptr(), $l.ways.len(),
+                $l.numbers.as_mut_ptr(), $l.numbers.len(), $l.named.as_mut_ptr(), $l.named.len(), $l.across.as_mut_ptr(), $l.across.len(), $l.limits.as_mut_ptr(), $l.limits.len()))
+        };
+    }
+
+    pub fn open_levels(f: Form, qp_prime: i32, h: Held) -> BlockAnswered {
+        call!(residual_open_levels, h, (f.dst, f.n, f.bit_depth, f.extended, qp_prime), ())
+    }
+
+    pub fn open_levels_scaled(f: Form, qp_prime: i32, list: &[u8], dc: u8, h: Held) -> BlockAnswered {
+        call!(residual_open_levels_scaled, h, (f.dst, f.n, f.bit_depth, f.extended, qp_prime, list.as_ptr(), list.len(), dc), ())
+    }
+
+    pub fn edit_level(block: Block, h: Held, row: usize, column: usize, level: i32) -> LevelEditAnswered {
+        call!(residual_edit_level, h, (block), (row, column, level))
+    }
+
+    pub fn open_and_edit(f: Form, h: Held, l: List) -> ListAnswered {
+        call_list!(residual_open_and_edit, h, l, (f.dst, f.n, f.bit_depth, f.extended))
+    }
+
+    pub fn open_levels_and_edit(f: Form, qp_prime: i32, h: Held, l: List) -> ListAnswered {
+        call_list!(residual_open_levels_and_edit, h, l, (f.dst, f.n, f.bit_depth, f.extended, qp_prime))
+    }
+
+    pub fn open_levels_scaled_and_edit(f: Form, qp_prime: i32, list: &[u8], dc: u8, h: Held, l: List) -> ListAnswered {
+        call_list!(residual_open_levels_scaled_and_edit, h, l, (f.dst, f.n, f.bit_depth, f.extended, qp_prime, list.as_ptr(), list.len(), dc))
     }
 }
 
 #[cfg(has_picture)]
 pub mod picture {
-    use super::{Answered, NumberAnswered};
-
-    unsafe extern "C" {
-        fn picture_rebuild_block(
-            n: usize, bit_depth: u8, residual: *const i32, residual_len: usize, prediction: *const u16, prediction_len: usize, width: usize, height: usize, stride: usize, x: usize, y: usize,
-            plane: *mut u16, plane_len: usize,
-        ) -> Answered;
-        fn picture_checksum(width: usize, height: usize, stride: usize, bit_depth: u8, plane: *const u16, plane_len: usize) -> NumberAnswered;
-    }
+    use super::ffi::*;
 
     pub fn rebuild_block(n: usize, bit_depth: u8, residual: &[i32], prediction: &[u16], width: usize, height: usize, stride: usize, x: usize, y: usize, plane: &mut [u16]) -> Answered {
-        unsafe {
+        let a = unsafe {
             picture_rebuild_block(
                 n, bit_depth, residual.as_ptr(), residual.len(), prediction.as_ptr(), prediction.len(), width, height, stride, x, y, plane.as_mut_ptr(), plane.len(),
             )
-        }
+        };
+        Answered { number: a.number, row: a.row, column: a.column, place: a.place }
     }
 
     pub fn checksum(width: usize, height: usize, stride: usize, bit_depth: u8, plane: &[u16]) -> NumberAnswered {
-        unsafe { picture_checksum(width, height, stride, bit_depth, plane.as_ptr(), plane.len()) }
+        let a = unsafe { picture_checksum(width, height, stride, bit_depth, plane.as_ptr(), plane.len()) };
+        NumberAnswered { number: a.number, row: a.row, column: a.column, place: a.place, value: a.value }
     }
 }
 
 #[cfg(has_lists)]
 pub mod lists {
-    #[repr(C)]
-    #[derive(Clone, Copy, PartialEq, Eq, Debug, Default)]
-    pub struct BitsAnswered {
-        pub number: u32,
-        pub row: u8,
-        pub column: u8,
-        pub place: usize,
-        pub bits: usize,
-    }
-
-    unsafe extern "C" {
-        fn residual_read_scaling_lists(
-            bytes: *const u8, bytes_len: usize, four: *const u8, four_len: usize, intra: *const u8, intra_len: usize, inter: *const u8, inter_len: usize, lists: *mut u8, lists_len: usize,
-            dcs: *mut u8, dcs_len: usize,
-        ) -> BitsAnswered;
-    }
+    pub use super::ffi::BitsAnswered;
+    use super::ffi::*;
 
     pub fn read_scaling_lists(bytes: &[u8], four: &[u8], intra: &[u8], inter: &[u8], lists: &mut [u8], dcs: &mut [u8]) -> BitsAnswered {
         unsafe {
@@ -328,14 +238,6 @@ pub mod lists {
                 bytes.as_ptr(), bytes.len(), four.as_ptr(), four.len(), intra.as_ptr(), intra.len(), inter.as_ptr(), inter.len(), lists.as_mut_ptr(), lists.len(), dcs.as_mut_ptr(), dcs.len(),
             )
         }
-    }
-
-    #[cfg(has_writer)]
-    unsafe extern "C" {
-        fn residual_write_scaling_lists(
-            lists: *const u8, lists_len: usize, dcs: *const u8, dcs_len: usize, four: *const u8, four_len: usize, intra: *const u8, intra_len: usize, inter: *const u8, inter_len: usize,
-            out: *mut u8, out_len: usize,
-        ) -> BitsAnswered;
     }
 
     #[cfg(has_writer)]
@@ -350,36 +252,17 @@ pub mod lists {
 
 #[cfg(has_rounding)]
 pub mod rounding {
-    use super::NumberAnswered;
-
-    unsafe extern "C" {
-        safe fn residual_rounding_bound(dst: bool, n: usize, bit_depth: u8, extended_precision: bool) -> NumberAnswered;
-    }
+    use super::ffi::*;
 
     pub fn rounding_bound(dst: bool, n: usize, bit_depth: u8, extended_precision: bool) -> NumberAnswered {
-        residual_rounding_bound(dst, n, bit_depth, extended_precision)
+        unsafe { residual_rounding_bound(dst, n, bit_depth, extended_precision) }
     }
 }
 
 #[cfg(has_tables)]
 pub mod tables {
-    use super::{Answered, CountAnswered, NumberAnswered};
-
-    #[repr(C)]
-    #[derive(Clone, Copy, PartialEq, Eq, Debug, Default)]
-    pub struct StoreAnswered {
-        pub number: u32,
-        pub row: u8,
-        pub column: u8,
-        pub place: usize,
-        pub stored: usize,
-    }
-
-    unsafe extern "C" {
-        fn residual_store_list(table: *mut u8, table_len: usize, stream: usize, list: *const u8, list_len: usize, dc: u8) -> StoreAnswered;
-        fn residual_drop_list(table: *mut u8, table_len: usize, stream: usize, number: usize) -> Answered;
-        fn residual_list_at(table: *const u8, table_len: usize, stream: usize, number: usize, list: *mut u8, list_len: usize) -> NumberAnswered;
-    }
+    pub use super::ffi::StoreAnswered;
+    use super::ffi::*;
 
     pub fn store_list(table: &mut [u8], stream: usize, list: &[u8], dc: u8) -> StoreAnswered {
         unsafe { residual_store_list(table.as_mut_ptr(), table.len(), stream, list.as_ptr(), list.len(), dc) }
@@ -395,9 +278,6 @@ pub mod tables {
 
     macro_rules! by_number {
         ($name:ident, $linked:ident, $out:ty) => {
-            unsafe extern "C" {
-                fn $linked(table: *const u8, table_len: usize, stream: usize, number: usize, levels: *const i32, levels_len: usize, n: usize, qp_prime: i32, bit_depth: u8, extended_precision: bool, out: *mut $out, out_len: usize) -> CountAnswered;
-            }
             pub fn $name(table: &[u8], stream: usize, number: usize, levels: &[i32], n: usize, qp_prime: i32, bit_depth: u8, extended_precision: bool, out: &mut [$out]) -> CountAnswered {
                 unsafe { $linked(table.as_ptr(), table.len(), stream, number, levels.as_ptr(), levels.len(), n, qp_prime, bit_depth, extended_precision, out.as_mut_ptr(), out.len()) }
             }
@@ -412,17 +292,7 @@ pub mod tables {
 
 #[cfg(has_tools)]
 pub mod tools {
-    use super::{Answered, CountAnswered};
-
-    unsafe extern "C" {
-        fn residual_transform_skip_residual(levels: *const i32, levels_len: usize, n: usize, qp_prime: i32, bit_depth: u8, extended_precision: bool, rotate: bool, accumulate: u8, out: *mut i32, out_len: usize) -> CountAnswered;
-        fn residual_transform_skip_scaled_residual(
-            levels: *const i32, levels_len: usize, n: usize, qp_prime: i32, bit_depth: u8, extended_precision: bool, list: *const u8, list_len: usize, dc: u8, rotate: bool, accumulate: u8, out: *mut i32, out_len: usize,
-        ) -> CountAnswered;
-        fn residual_bypass_residual(levels: *const i32, levels_len: usize, n: usize, bit_depth: u8, extended_precision: bool, rotate: bool, accumulate: u8, out: *mut i32, out_len: usize) -> Answered;
-        fn residual_find_levels(coeff: *const i32, coeff_len: usize, n: usize, qp_prime: i32, bit_depth: u8, extended_precision: bool, levels: *mut i32, levels_len: usize) -> Answered;
-        fn residual_find_levels_scaled(coeff: *const i32, coeff_len: usize, n: usize, qp_prime: i32, bit_depth: u8, extended_precision: bool, list: *const u8, list_len: usize, dc: u8, levels: *mut i32, levels_len: usize) -> Answered;
-    }
+    use super::ffi::*;
 
     pub fn transform_skip_residual(levels: &[i32], n: usize, qp_prime: i32, bit_depth: u8, extended_precision: bool, list: Option<(&[u8], u8)>, rotate: bool, accumulate: u8, out: &mut [i32]) -> CountAnswered {
         let (at, len, out_at, out_len) = (levels.as_ptr(), levels.len(), out.as_mut_ptr(), out.len());

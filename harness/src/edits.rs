@@ -1,37 +1,61 @@
-//! Comparison of the crates `edited_block` and `edited_list`: an opening and lists of edits, record and buffers passed on from call to call.
-//! After each edit the coefficients are those of a list kept here, the intermediate is a plain stage one over them, and the residual is a fresh
-//! decode by the oracle, or by the plain sum where the oracle's sums can overflow. Then the same list goes through one call.
-//! Apart from that, single edits get records and buffers that no call left: short, spoiled, of a refused size or depth.
+//! Comparison of the crates of edited blocks: openings on coefficients and on levels, and lists of edits of both kinds, record and buffers passed on from call
+//! to call. After each edit levels or coefficients are those of a list kept here, the coefficients of levels a fresh scaling by the oracle, the
+//! intermediate a plain stage one over them, and the residual a fresh decode by the oracle, or by the plain sum where the oracle's sums can overflow.
+//! Then the same list goes through one call. Apart from that, single edits get records and buffers that no call left: short, spoiled, of a refused size or depth.
 use crate::archive::Answered;
-use crate::archive::edits::{self, BlockAnswered, ListAnswered};
+use crate::archive::edits::{self, Block, BlockAnswered, Form, Held, LevelEditAnswered, List, ListAnswered};
 use crate::blocks::{self, Element, Lent, SHAPES};
 use crate::random::Random;
 use crate::reference;
 use crate::tally::Tally;
 
-pub const FUNCTIONS: usize = 4;
+pub const FUNCTIONS: usize = 9;
 
 /// Longest list of edits that is played.
 const LIST: usize = 60;
 
+/// How a block is opened.
+#[derive(Clone, Copy, PartialEq, Debug)]
+enum Way {
+    Coefficients,
+    Levels,
+    ScaledLevels,
+}
+
 /// What an opening fixes.
-#[derive(Clone, Copy, Debug)]
+#[derive(Clone, Debug)]
 struct Opening {
     dst: bool,
     n: usize,
     bit_depth: u8,
     extended: bool,
+    way: Way,
+    qp_prime: i32,
+    list: Vec<u8>,
+    dc: u8,
 }
 
 impl Opening {
-    fn random(random: &mut Random) -> Opening {
+    fn random(random: &mut Random, way: Way) -> Opening {
         let dst = random.one_in(5);
         Opening {
             dst,
             n: if dst { 4 } else { random.pick(&reference::SIZES) },
             bit_depth: random.between(8, 16) as u8,
             extended: random.one_in(2),
+            way,
+            qp_prime: blocks::any_qp_prime(random),
+            list: blocks::list(random, 64),
+            dc: random.below(256) as u8,
         }
+    }
+
+    fn form(&self) -> Form {
+        Form { dst: self.dst, n: self.n, bit_depth: self.bit_depth, extended: self.extended }
+    }
+
+    fn on_levels(&self) -> bool {
+        self.way != Way::Coefficients
     }
 
     fn range(&self) -> u32 {
@@ -42,20 +66,65 @@ impl Opening {
         (-(1i64 << self.range()), (1i64 << self.range()) - 1)
     }
 
-    /// Rows 1, 2, 4, 6 and 7 by the buffers' lengths.
-    fn refusal(&self, coeff: usize, inter: usize, residual: usize) -> u32 {
-        let block = |input_len, output_len| {
-            reference::Block { n: self.n, bit_depth: self.bit_depth, narrow: false, extended_precision: self.extended, list_len: 64, input_len, output_len }.refusal()
-        };
-        match block(coeff, inter.min(residual)) {
+    /// Rows 1, 2, 4, 5, 6 and 7, by the length of a list and of the buffers.
+    fn refusal(&self, list_len: usize, input_len: usize, output_len: usize) -> u32 {
+        let block = |list_len| reference::Block { n: self.n, bit_depth: self.bit_depth, narrow: false, extended_precision: self.extended, list_len, input_len, output_len }.refusal();
+        match block(list_len) {
             number @ (1 | 2) => number,
             _ if self.dst && self.n != 4 => 4,
             number => number,
         }
     }
 
-    fn answered(&self, (number, row, column): Told, columns: usize) -> BlockAnswered {
-        BlockAnswered { number, row, column, place: 0, dst: self.dst, size: self.n, depth: self.bit_depth, extended: self.extended, columns }
+    /// Those of an opening.
+    fn opening_refusal(&self, b: &Buffers) -> u32 {
+        let list_len = if self.way == Way::ScaledLevels { self.list.len() } else { 64 };
+        let levels = if self.on_levels() { b.levels.seen().len() } else { usize::MAX };
+        self.refusal(list_len, levels.min(b.coeff.seen().len()), b.inter.seen().len().min(b.residual.seen().len()))
+    }
+
+    /// Those of an edit, which looks at the levels of a block that was opened on levels if it is an edit of one.
+    fn edit_refusal(&self, level: bool, b: &Buffers) -> u32 {
+        let levels = if level && self.on_levels() { b.levels.seen().len() } else { usize::MAX };
+        self.refusal(64, levels.min(b.coeff.seen().len()), b.inter.seen().len().min(b.residual.seen().len()))
+    }
+
+    /// The record, in which what an opening is not given is 0.
+    fn block(&self, columns: usize) -> Block {
+        let mut block = Block { dst: self.dst, size: self.n, depth: self.bit_depth, extended: self.extended, columns, ..Block::default() };
+        if self.on_levels() {
+            (block.levels, block.qp_prime) = (true, self.qp_prime);
+        }
+        if self.way == Way::ScaledLevels {
+            (block.listed, block.dc) = (true, self.dc);
+            block.entries.copy_from_slice(&self.list);
+        }
+        block
+    }
+
+    fn answered(&self, (number, row, column): Told, columns: usize) -> Edited {
+        Edited { number, row, column, place: 0, block: self.block(columns), flags: (false, false) }
+    }
+
+    /// The coefficient of a level at an index before the last limit, by the numbers of the oracle, and whether the level was limited.
+    fn unlimited(&self, level: i32, at: usize) -> (i64, bool) {
+        let (lo, hi) = self.ends();
+        let p = oracle::dequant_params(self.n, self.qp_prime, self.bit_depth, self.extended);
+        let m = if self.way == Way::ScaledLevels { oracle::scaling_coeff(self.list.as_slice().try_into().expect("64"), self.dc, self.n, at) } else { 16 };
+        let near = i64::from(level).clamp(lo, hi);
+        ((near * (p.factor / 16) * m + p.add) >> p.shift, near != i64::from(level))
+    }
+
+    /// Whether a level was limited, and whether its result was.
+    fn flags(&self, level: i32, at: usize) -> (bool, bool) {
+        let (lo, hi) = self.ends();
+        let (result, limited) = self.unlimited(level, at);
+        (limited, !(lo..=hi).contains(&result))
+    }
+
+    /// How many coefficients of levels were limited.
+    fn limited_count(&self, levels: &[i32]) -> u16 {
+        (0..self.n * self.n).filter(|&i| self.flags(levels[i], i) != (false, false)).count() as u16
     }
 
     fn limited(&self, xs: &[i32]) -> Vec<i64> {
@@ -64,12 +133,36 @@ impl Opening {
     }
 }
 
+/// What an edit of either kind answers.
+#[derive(Clone, Copy, PartialEq, Debug)]
+struct Edited {
+    number: u32,
+    row: u8,
+    column: u8,
+    place: usize,
+    block: Block,
+    flags: (bool, bool),
+}
+
+impl Edited {
+    fn of_level(a: LevelEditAnswered) -> Edited {
+        Edited { number: a.number, row: a.row, column: a.column, place: a.place, block: a.block, flags: (a.level_limited, a.result_limited) }
+    }
+
+    /// Of a coefficient, which limits nothing.
+    fn of_coefficient(a: BlockAnswered) -> Edited {
+        assert_eq!(a.limited, 0);
+        Edited { number: a.number, row: a.row, column: a.column, place: a.place, block: a.block, flags: (false, false) }
+    }
+}
+
 fn column_count(coeff: &[i32], n: usize) -> usize {
     (0..n).rev().find(|&c| (0..n).any(|k| coeff[k * n + c] != 0)).map_or(0, |c| c + 1)
 }
 
-/// Coefficients, intermediate and residual.
+/// Levels, coefficients, intermediate and residual.
 struct Buffers {
+    levels: Lent<i32>,
     coeff: Lent<i32>,
     inter: Lent<i32>,
     residual: Lent<i32>,
@@ -77,13 +170,18 @@ struct Buffers {
 
 impl Buffers {
     fn copy(&self) -> Buffers {
-        Buffers { coeff: self.coeff.copy(), inter: self.inter.copy(), residual: self.residual.copy() }
+        Buffers { levels: self.levels.copy(), coeff: self.coeff.copy(), inter: self.inter.copy(), residual: self.residual.copy() }
     }
 
     fn same(&self, other: &Buffers) -> bool {
-        self.coeff.first_difference(&other.coeff).is_none()
+        self.levels.first_difference(&other.levels).is_none()
+            && self.coeff.first_difference(&other.coeff).is_none()
             && self.inter.first_difference(&other.inter).is_none()
             && self.residual.first_difference(&other.residual).is_none()
+    }
+
+    fn held(&mut self) -> Held<'_> {
+        Held { levels: self.levels.lend(), coeff: self.coeff.lend(), inter: self.inter.lend(), residual: self.residual.lend() }
     }
 }
 
@@ -92,10 +190,13 @@ struct Edit {
     row: usize,
     column: usize,
     value: i32,
+    level: bool,
 }
 
+/// One in twelve does not fit the way the block was opened.
 fn random_edit(random: &mut Random, o: &Opening) -> Edit {
     let (lo, hi) = o.ends();
+    let level = o.on_levels() != random.one_in(12);
     let mut place = || if random.one_in(20) { random.pick(&[o.n, o.n + 1, 2 * o.n, usize::MAX]) } else { random.below(o.n) };
     let (row, column) = (place(), place());
     let value = match random.below(8) {
@@ -104,18 +205,20 @@ fn random_edit(random: &mut Random, o: &Opening) -> Edit {
         3 => random.between(-3, 3),
         _ => blocks::any_magnitude(random, lo, hi),
     };
-    Edit { row, column, value: value as i32 }
+    Edit { row, column, value: value as i32, level }
 }
 
 /// A number of the table, with the row and the column that it names.
 type Told = (u32, u8, u8);
 
-/// The answer to an edit of a block that is open: rows 8, 9 and 19, or 0.
+/// The answer to an edit of a block that is open: rows 10, 8, 9 and 19, or 0.
 fn answer_to(o: &Opening, e: &Edit) -> Told {
     let (lo, hi) = o.ends();
-    if e.row >= o.n || e.column >= o.n {
+    if e.level != o.on_levels() {
+        (10, 0, 0)
+    } else if e.row >= o.n || e.column >= o.n {
         (8, 0, 0)
-    } else if !(lo..=hi).contains(&i64::from(e.value)) {
+    } else if !e.level && !(lo..=hi).contains(&i64::from(e.value)) {
         (reference::side(i64::from(e.value)), e.row as u8, e.column as u8)
     } else {
         (0, 0, 0)
@@ -129,9 +232,25 @@ fn put(to: &mut Lent<i32>, values: impl Iterator<Item = i64>) {
     }
 }
 
-/// A fresh decode of the coefficients: intermediate and residual. The oracle decides the residual where its sums cannot overflow.
+/// The coefficients of levels, by the oracle.
+fn scaled(o: &Opening, levels: &[i32]) -> Vec<i32> {
+    let square = o.n * o.n;
+    let mut out = vec![0i32; square];
+    let (list, scale): (_, fn(&[i32], usize, i32, u8, bool, &[u8; 64], u8, &mut [i32])) = match o.way {
+        Way::ScaledLevels => (o.list.as_slice().try_into().expect("64"), oracle::dequantize_scaled_into_scalar_i32),
+        _ => (&[0u8; 64], oracle::dequantize_into_scalar_i32),
+    };
+    scale(&levels[..square], o.n, o.qp_prime, o.bit_depth, o.extended, list, o.dc, &mut out);
+    out
+}
+
+/// All that follows from levels or coefficients: coefficients, intermediate and residual. The oracle decides the residual where its sums cannot overflow.
 fn fresh(o: &Opening, matrix: &[i128], buffers: &mut Buffers) {
     let square = o.n * o.n;
+    if o.on_levels() {
+        let coeff = scaled(o, buffers.levels.seen());
+        buffers.coeff.lend()[..square].copy_from_slice(&coeff);
+    }
     let coeff = &buffers.coeff.seen()[..square];
     let long: Vec<i64> = coeff.iter().map(|&v| v.long()).collect();
     let exact = reference::residual(matrix, &long, o.n, o.bit_depth, o.range(), o.n);
@@ -153,27 +272,46 @@ fn fresh(o: &Opening, matrix: &[i128], buffers: &mut Buffers) {
 }
 
 fn open(o: &Opening, b: &mut Buffers) -> BlockAnswered {
-    edits::open_block(o.dst, o.n, o.bit_depth, o.extended, b.coeff.seen(), b.inter.lend(), b.residual.lend())
+    match o.way {
+        Way::Coefficients => edits::open_block(o.form(), b.coeff.seen(), b.inter.lend(), b.residual.lend()),
+        Way::Levels => edits::open_levels(o.form(), o.qp_prime, b.held()),
+        Way::ScaledLevels => edits::open_levels_scaled(o.form(), o.qp_prime, &o.list, o.dc, b.held()),
+    }
 }
 
-fn edit(o: &Opening, columns: usize, b: &mut Buffers, e: &Edit) -> BlockAnswered {
-    edits::edit(o.dst, o.n, o.bit_depth, o.extended, columns, b.coeff.lend(), b.inter.lend(), b.residual.lend(), e.row, e.column, e.value)
+fn edit(block: Block, b: &mut Buffers, e: &Edit) -> Edited {
+    if e.level {
+        Edited::of_level(edits::edit_level(block, b.held(), e.row, e.column, e.value))
+    } else {
+        Edited::of_coefficient(edits::edit(block, b.coeff.lend(), b.inter.lend(), b.residual.lend(), e.row, e.column, e.value))
+    }
 }
 
 fn lent(random: &mut Random, o: &Opening) -> Buffers {
     let square = o.n * o.n;
     let mut long = || square + random.pick(&[0, 0, 1, 7]);
-    let (coeff_len, inter_len, residual_len) = (long(), long(), long());
+    let (levels_len, coeff_len, inter_len, residual_len) = (long(), long(), long(), long());
+    let mut buffers = Buffers {
+        levels: Lent::filled(random, levels_len),
+        coeff: Lent::filled(random, coeff_len),
+        inter: Lent::filled(random, inter_len),
+        residual: Lent::filled(random, residual_len),
+    };
     let shape = random.pick(&SHAPES);
-    let (lo, hi) = o.ends();
-    let mut coeff = Lent::filled(random, coeff_len);
-    coeff.lend()[..square].copy_from_slice(&blocks::block::<i32>(random, shape, o.n, square, lo, hi));
-    Buffers { coeff, inter: Lent::filled(random, inter_len), residual: Lent::filled(random, residual_len) }
+    if o.on_levels() {
+        // levels far outside the range now and then
+        let (lo, hi) = if random.one_in(8) { (i64::from(i32::MIN), i64::from(i32::MAX)) } else { o.ends() };
+        buffers.levels.lend()[..square].copy_from_slice(&blocks::block::<i32>(random, shape, o.n, square, lo, hi));
+    } else {
+        let (lo, hi) = o.ends();
+        buffers.coeff.lend()[..square].copy_from_slice(&blocks::block::<i32>(random, shape, o.n, square, lo, hi));
+    }
+    buffers
 }
 
 /// An opening with its buffers, one in four of them damaged.
-fn perhaps_damaged(random: &mut Random) -> (Opening, Buffers) {
-    let mut o = Opening::random(random);
+fn perhaps_damaged(random: &mut Random, way: Way) -> (Opening, Buffers) {
+    let mut o = Opening::random(random, way);
     let mut buffers = lent(random, &o);
     if random.one_in(4) {
         damage(random, &mut o, &mut buffers);
@@ -196,8 +334,18 @@ impl Matrices {
 
 pub fn compare(tally: &mut Tally, seed: u64, cases: usize) {
     let matrices = Matrices::new();
-    openings(tally, &matrices, seed, cases / 8);
-    single_edits_and_lists(tally, &matrices, seed, cases / 40);
+    openings(tally, &matrices, "open_block", Way::Coefficients, seed, cases / 8);
+    openings(tally, &matrices, "open_levels", Way::Levels, seed, cases / 16);
+    openings(tally, &matrices, "open_levels_scaled", Way::ScaledLevels, seed, cases / 16);
+    let mut runs = single_edits(tally, &matrices, "edit", &[Way::Coefficients], seed, cases / 40);
+    runs.extend(single_edits(tally, &matrices, "edit_level", &[Way::Levels, Way::ScaledLevels], seed, cases / 40));
+    let mut random = Random::of(seed, "lists");
+    for (name, way) in [("open_and_edit", Way::Coefficients), ("open_levels_and_edit", Way::Levels), ("open_levels_scaled_and_edit", Way::ScaledLevels)] {
+        tally.begin(name);
+        for run in runs.iter().filter(|run| run.opening.way == way) {
+            one_call(tally, &mut random, run);
+        }
+    }
     refreshes(tally, &matrices, seed, cases / 8);
 }
 
@@ -206,10 +354,9 @@ fn refreshes(tally: &mut Tally, matrices: &Matrices, seed: u64, cases: usize) {
     tally.begin("refresh_residual");
     let mut random = Random::of(seed, "refresh_residual");
     for _ in 0..cases {
-        let (o, mut ours) = perhaps_damaged(&mut random);
+        let (o, mut ours) = perhaps_damaged(&mut random, Way::Coefficients);
         let mut expected = ours.copy();
-        let room = ours.residual.seen().len();
-        let number = o.refusal(ours.inter.seen().len(), room, room);
+        let number = o.refusal(64, usize::MAX, ours.inter.seen().len().min(ours.residual.seen().len()));
         if number == 0 {
             let values = reference::stage_two(matrices.of(&o), &o.limited(ours.inter.seen()), o.n, o.bit_depth, o.range());
             put(&mut expected.residual, values.into_iter());
@@ -219,14 +366,14 @@ fn refreshes(tally: &mut Tally, matrices: &Matrices, seed: u64, cases: usize) {
     }
 }
 
-fn openings(tally: &mut Tally, matrices: &Matrices, seed: u64, cases: usize) {
-    tally.begin("open_block");
-    let mut random = Random::of(seed, "open_block");
+fn openings(tally: &mut Tally, matrices: &Matrices, name: &'static str, way: Way, seed: u64, cases: usize) {
+    tally.begin(name);
+    let mut random = Random::of(seed, name);
     for _ in 0..cases {
-        let (o, mut ours) = perhaps_damaged(&mut random);
+        let (o, mut ours) = perhaps_damaged(&mut random, way);
         let mut expected = ours.copy();
-        let number = o.refusal(ours.coeff.seen().len(), ours.inter.seen().len(), ours.residual.seen().len());
-        let outside = if number == 0 {
+        let number = o.opening_refusal(&ours);
+        let outside = if number == 0 && !o.on_levels() {
             let long: Vec<i64> = ours.coeff.seen().iter().map(|&v| v.long()).collect();
             reference::outside(&long, o.n, o.n, o.range())
         } else {
@@ -235,7 +382,8 @@ fn openings(tally: &mut Tally, matrices: &Matrices, seed: u64, cases: usize) {
         let answer = match (number, outside) {
             (0, None) => {
                 fresh(&o, matrices.of(&o), &mut expected);
-                o.answered((0, 0, 0), column_count(expected.coeff.seen(), o.n))
+                let limited = if o.on_levels() { o.limited_count(ours.levels.seen()) } else { 0 };
+                BlockAnswered { limited, block: o.block(column_count(expected.coeff.seen(), o.n)), ..BlockAnswered::default() }
             }
             (0, Some(at)) => {
                 let value = i64::from(ours.coeff.seen()[at]);
@@ -251,13 +399,15 @@ fn openings(tally: &mut Tally, matrices: &Matrices, seed: u64, cases: usize) {
 /// A size, depth, length or coefficient that is refused.
 fn damage(random: &mut Random, o: &mut Opening, b: &mut Buffers) {
     let short = (o.n * o.n).wrapping_sub(1) % 2000;
-    match random.below(7) {
+    match random.below(9) {
         0 => o.n = blocks::odd_size(random),
         1 => o.bit_depth = blocks::odd_depth(random),
         2 => o.dst = !o.dst,
         3 => b.coeff.shorten(short),
         4 => b.inter.shorten(short),
         5 => b.residual.shorten(short),
+        6 => b.levels.shorten(short),
+        7 if o.way == Way::ScaledLevels => o.list = blocks::list(random, 63),
         _ => {
             let at = random.below(b.coeff.seen().len().max(1));
             let (lo, hi) = o.ends();
@@ -268,47 +418,57 @@ fn damage(random: &mut Random, o: &mut Opening, b: &mut Buffers) {
     }
 }
 
-fn single_edits_and_lists(tally: &mut Tally, matrices: &Matrices, seed: u64, lists: usize) {
-    let mut random = Random::of(seed, "edit");
+/// A list of edits, with the buffers before and after it.
+struct Run {
+    opening: Opening,
+    given: Buffers,
+    list: Vec<Edit>,
+    expected: Buffers,
+}
+
+fn single_edits(tally: &mut Tally, matrices: &Matrices, name: &'static str, ways: &[Way], seed: u64, lists: usize) -> Vec<Run> {
+    tally.begin(name);
+    let mut random = Random::of(seed, name);
     let mut runs = Vec::new();
-    tally.begin("edit");
     for _ in 0..lists {
-        let o = Opening::random(&mut random);
+        let way = random.pick(ways);
+        let o = Opening::random(&mut random, way);
         let given = lent(&mut random, &o);
         let mut ours = given.copy();
         let mut expected = given.copy();
         fresh(&o, matrices.of(&o), &mut expected);
-        let mut columns = open(&o, &mut ours).columns;
+        let mut block = open(&o, &mut ours).block;
         let list: Vec<Edit> = (0..random.below(LIST)).map(|_| random_edit(&mut random, &o)).collect();
         for e in &list {
             if random.one_in(10) {
-                stray_edit(tally, matrices, &mut random, &o, &ours, columns, e);
+                stray_edit(tally, matrices, &mut random, &o, &ours, block.columns, e);
             }
             let told = answer_to(&o, e);
             if told.0 == 0 {
-                expected.coeff.lend()[e.row * o.n + e.column] = e.value;
+                let to = if e.level { &mut expected.levels } else { &mut expected.coeff };
+                to.lend()[e.row * o.n + e.column] = e.value;
                 fresh(&o, matrices.of(&o), &mut expected);
             }
-            let answer = o.answered(told, column_count(expected.coeff.seen(), o.n));
-            let answered = edit(&o, columns, &mut ours, e);
-            columns = answered.columns;
+            let mut answer = o.answered(told, column_count(expected.coeff.seen(), o.n));
+            if told.0 == 0 && e.level {
+                answer.flags = o.flags(e.value, e.row * o.n + e.column);
+            }
+            let answered = edit(block, &mut ours, e);
+            block = answered.block;
             tally.compared(answered.number, answered == answer && ours.same(&expected), || format!("{o:?}, {e:?}: {answered:?}, expected {answer:?}"));
         }
-        runs.push((o, given, list, expected));
+        runs.push(Run { opening: o, given, list, expected });
     }
-    tally.begin("open_and_edit");
-    for (o, given, list, expected) in runs {
-        one_call(tally, &mut random, &o, given, &list, &expected);
-    }
+    runs
 }
 
 /// One edit of a record and buffers that no call left; the chain of edits goes on from its own.
 fn stray_edit(tally: &mut Tally, matrices: &Matrices, random: &mut Random, o: &Opening, now: &Buffers, columns: usize, e: &Edit) {
-    let (mut o, mut ours) = (*o, now.copy());
+    let (mut o, mut ours) = (o.clone(), now.copy());
     match random.below(3) {
         0 => damage(random, &mut o, &mut ours),
         1 => {
-            for spoiled in [&mut ours.coeff, &mut ours.inter, &mut ours.residual] {
+            for spoiled in [&mut ours.levels, &mut ours.coeff, &mut ours.inter, &mut ours.residual] {
                 for _ in 0..random.below(4) {
                     let at = random.below(spoiled.seen().len());
                     spoiled.lend()[at] = random.next() as i32;
@@ -317,15 +477,25 @@ fn stray_edit(tally: &mut Tally, matrices: &Matrices, random: &mut Random, o: &O
         }
         _ => (),
     }
+    // the record holds 64 entries, whatever was done to the list
+    o.list.resize(64, 9);
     let columns = random.pick(&[columns, 0, 1, o.n, usize::MAX]);
     let mut expected = ours.copy();
-    let mut answer = o.answered((o.refusal(ours.coeff.seen().len(), ours.inter.seen().len(), ours.residual.seen().len()), 0, 0), columns);
+    let mut answer = o.answered((o.edit_refusal(e.level, &ours), 0, 0), columns);
     if answer.number == 0 {
         let told = answer_to(&o, e);
         answer = o.answered(told, columns);
         if told.0 == 0 {
-            expected.coeff.lend()[e.row * o.n + e.column] = e.value;
-            answer.columns = column_count(expected.coeff.seen(), o.n);
+            let at = e.row * o.n + e.column;
+            let value = if e.level {
+                expected.levels.lend()[at] = e.value;
+                answer.flags = o.flags(e.value, at);
+                scaled(&o, expected.levels.seen())[at]
+            } else {
+                e.value
+            };
+            expected.coeff.lend()[at] = value;
+            answer.block.columns = column_count(expected.coeff.seen(), o.n);
             let column = reference::residual(matrices.of(&o), &o.limited(expected.coeff.seen()), o.n, o.bit_depth, o.range(), o.n).intermediate;
             for m in 0..o.n {
                 let at = m * o.n + e.column;
@@ -335,33 +505,43 @@ fn stray_edit(tally: &mut Tally, matrices: &Matrices, random: &mut Random, o: &O
             put(&mut expected.residual, residual.into_iter());
         }
     }
-    let answered = edit(&o, columns, &mut ours, e);
+    let answered = edit(o.block(columns), &mut ours, e);
     tally.compared(answered.number, answered == answer && ours.same(&expected), || format!("on its own, {o:?}, {e:?}: {answered:?}, expected {answer:?}"));
 }
 
 /// The whole list through one call, over slices of which some may be longer than the list.
-fn one_call(tally: &mut Tally, random: &mut Random, o: &Opening, given: Buffers, list: &[Edit], expected: &Buffers) {
-    let mut ours = given;
+fn one_call(tally: &mut Tally, random: &mut Random, run: &Run) {
+    let (o, list) = (&run.opening, &run.list);
+    let mut ours = run.given.copy();
     let mut rows: Vec<usize> = list.iter().map(|e| e.row).collect();
     let columns: Vec<usize> = list.iter().map(|e| e.column).collect();
     let mut values: Vec<i32> = list.iter().map(|e| e.value).collect();
+    let mut ways: Vec<bool> = list.iter().map(|e| e.level).collect();
     rows.resize(list.len() + random.below(3), 0);
     values.resize(list.len() + random.below(3), 1);
+    ways.resize(list.len() + random.below(3), true);
     let mut numbers = vec![200u8; list.len() + random.below(3)];
     let mut named = vec![200u8; list.len() + random.below(3)];
     let mut across = vec![200u8; list.len() + random.below(3)];
-    let answers = list.iter().map(|e| answer_to(o, e));
-    let mut expected_numbers = numbers.clone();
-    let (mut expected_named, mut expected_across) = (named.clone(), across.clone());
-    for (i, (number, row, column)) in answers.enumerate() {
+    let mut limits = vec![200u8; list.len() + random.below(3)];
+    let (mut expected_numbers, mut expected_named, mut expected_across, mut expected_limits) = (numbers.clone(), named.clone(), across.clone(), limits.clone());
+    for (i, e) in list.iter().enumerate() {
+        let (number, row, column) = answer_to(o, e);
         expected_numbers[i] = number as u8;
         expected_named[i] = row;
         expected_across[i] = column;
+        let (level, result) = if number == 0 && e.level { o.flags(e.value, e.row * o.n + e.column) } else { (false, false) };
+        expected_limits[i] = u8::from(level) + 2 * u8::from(result);
     }
-    let answered = edits::open_and_edit(
-        o.dst, o.n, o.bit_depth, o.extended, ours.coeff.lend(), ours.inter.lend(), ours.residual.lend(), &rows, &columns, &values, &mut numbers, &mut named, &mut across,
-    );
-    let answer = ListAnswered { block: o.answered((0, 0, 0), column_count(expected.coeff.seen(), o.n)), edits: list.len() };
-    let agrees = answered == answer && ours.same(expected) && numbers == expected_numbers && named == expected_named && across == expected_across;
-    tally.compared(answered.block.number, agrees, || format!("{o:?}, {} edits: {answered:?}, expected {answer:?}", list.len()));
+    let slices = List { rows: &rows, columns: &columns, values: &values, ways: &ways, numbers: &mut numbers, named: &mut named, across: &mut across, limits: &mut limits };
+    let answered = match o.way {
+        Way::Coefficients => edits::open_and_edit(o.form(), ours.held(), slices),
+        Way::Levels => edits::open_levels_and_edit(o.form(), o.qp_prime, ours.held(), slices),
+        Way::ScaledLevels => edits::open_levels_scaled_and_edit(o.form(), o.qp_prime, &o.list, o.dc, ours.held(), slices),
+    };
+    let limited = if o.on_levels() { o.limited_count(run.given.levels.seen()) } else { 0 };
+    let answer = ListAnswered { limited, block: o.block(column_count(run.expected.coeff.seen(), o.n)), edits: list.len(), ..ListAnswered::default() };
+    let told = numbers == expected_numbers && named == expected_named && across == expected_across && limits == expected_limits;
+    let agrees = answered == answer && ours.same(&run.expected) && told;
+    tally.compared(answered.number, agrees, || format!("{o:?}, {} edits: {answered:?}, expected {answer:?}", list.len()));
 }

@@ -99,6 +99,60 @@ fn scalers<E: Element>(list: &mut Vec<Work>, scaler: &'static scaling::Scaler<E>
     }
 }
 
+/// The same with a share of the levels past every range, in random order over so many blocks that no branch is learnt.
+#[cfg(has_scaling)]
+fn limited_scalers<E: Element>(list: &mut Vec<Work>, scaler: &'static scaling::Scaler<E>) {
+    const LEVELS: usize = 131_072;
+    let settings: &[(u8, bool)] = if E::NARROW { &[(8, false)] } else { &[(8, false), (12, true)] };
+    for &(bit_depth, extended_precision) in settings {
+        for n in reference::SIZES {
+            for (share_name, share) in [("none", 0), ("few", 5), ("half", 50), ("all", 100)] {
+                let mut random = Random::of(1, scaler.name);
+                let factors: [u8; 64] = std::array::from_fn(|_| random.between(1, 255) as u8);
+                let mut level = || {
+                    let size = if random.below(100) < share { random.between(4_200_000, 6_200_000) } else { random.between(0, 30) };
+                    (if random.one_in(2) { -size } else { size }) as i32
+                };
+                let mine: Vec<i32> = (0..LEVELS).map(|_| level()).collect();
+                let theirs = mine.clone();
+                let (mut out, mut kept) = (vec![E::of(0); n * n], vec![E::of(0); n * n]);
+                let (mut at, mut then) = (0, 0);
+                let next = move |at: &mut usize| {
+                    *at = (*at + n * n) % LEVELS;
+                    *at..*at + n * n
+                };
+                let range = if extended_precision { " extended" } else { "" };
+                list.push(Work {
+                    label: format!("{} {n} depth {bit_depth}{range}, {share_name} limited", scaler.name),
+                    ours: Box::new(move || {
+                        black_box(scaler.ours.call(black_box(&mine[next(&mut at)]), n, 4, bit_depth, extended_precision, &factors, 16, black_box(&mut out)));
+                    }),
+                    rust: Box::new(move || {
+                        (scaler.oracle)(black_box(&theirs[next(&mut then)]), n, 4, bit_depth, extended_precision, &factors, 16, black_box(&mut kept));
+                    }),
+                });
+            }
+        }
+    }
+}
+
+#[cfg(has_scaling)]
+fn limited_work() -> Vec<Work> {
+    let mut list = Vec::new();
+    for scaler in &scaling::WIDE {
+        limited_scalers(&mut list, scaler);
+    }
+    for scaler in &scaling::NARROW {
+        limited_scalers(&mut list, scaler);
+    }
+    list
+}
+
+#[cfg(not(has_scaling))]
+fn limited_work() -> Vec<Work> {
+    Vec::new()
+}
+
 #[cfg(has_transform)]
 fn transforms<E: Element>(list: &mut Vec<Work>, transform: &'static transform::Transform<E>) {
     let sizes: &[usize] = if transform.dst { &[4] } else { &reference::SIZES };
@@ -168,7 +222,8 @@ fn edit_work() -> Vec<Work> {
                 let mut random = Random::of(1, "edit");
                 let mut coeff: Vec<i32> = blocks::block(&mut random, shape, n, n * n, -2000, 2000);
                 let (mut inter, mut residual, mut again) = (vec![0i32; n * n], vec![0i32; n * n], vec![0i32; n * n]);
-                let block = archive::edits::open_block(dst, n, bit_depth, extended_precision, &coeff, &mut inter, &mut residual);
+                let form = archive::edits::Form { dst, n, bit_depth, extended: extended_precision };
+                let block = archive::edits::open_block(form, &coeff, &mut inter, &mut residual).block;
                 let held = inter.clone();
                 let kind = if dst { "DST" } else { "DCT" };
                 let range = if extended_precision { " extended" } else { "" };
@@ -178,7 +233,7 @@ fn edit_work() -> Vec<Work> {
                     // the value at index 0 goes to and fro, so that the block keeps its shape
                     ours: Box::new(move || {
                         value = 2000 - value;
-                        black_box(archive::edits::edit(dst, n, bit_depth, extended_precision, block.columns, &mut coeff, &mut inter, black_box(&mut residual), 0, 0, black_box(value)));
+                        black_box(archive::edits::edit(block, &mut coeff, &mut inter, black_box(&mut residual), 0, 0, black_box(value)));
                     }),
                     rust: Box::new(move || {
                         black_box(archive::edits::refresh_residual(dst, n, bit_depth, extended_precision, black_box(&held), black_box(&mut again)));
@@ -188,6 +243,50 @@ fn edit_work() -> Vec<Work> {
         }
     }
     list
+}
+
+/// A level edit beside a coefficient edit of the same block, both ours: kind, size, without a list and with one.
+#[cfg(has_edits)]
+fn level_edit_work() -> Vec<Work> {
+    use archive::edits::{self, Form, Held};
+    let mut list = Vec::new();
+    for (dst, n) in [(true, 4), (false, 4), (false, 8), (false, 16), (false, 32)] {
+        for (bit_depth, extended) in [(8, false), (12, true)] {
+            for (shape_name, shape) in [("dense", Shape::Full), ("quarter", Shape::Quarter), ("dc", Shape::Dc)] {
+                let form = Form { dst, n, bit_depth, extended };
+                let mut random = Random::of(1, "edit");
+                // QP' 28 with m = 16 leaves levels of this size in the range
+                let mut levels: Vec<i32> = blocks::block(&mut random, shape, n, n * n, -60, 60);
+                let (mut coeff, mut inter, mut residual) = (vec![0i32; n * n], vec![0i32; n * n], vec![0i32; n * n]);
+                let entries = [16u8; 64];
+                let held = Held { levels: &mut levels, coeff: &mut coeff, inter: &mut inter, residual: &mut residual };
+                let block = edits::open_levels_scaled(form, 28, &entries, 16, held).block;
+                let (mut own, mut own_inter, mut own_residual) = (coeff.clone(), inter.clone(), residual.clone());
+                let plain = edits::open_block(form, &own, &mut own_inter, &mut own_residual).block;
+                let kind = if dst { "DST" } else { "DCT" };
+                let range = if extended { " extended" } else { "" };
+                let (mut level, mut value) = (1, 1);
+                list.push(Work {
+                    label: format!("level edit beside coefficient edit, {kind} {n} depth {bit_depth}{range} {shape_name}"),
+                    ours: Box::new(move || {
+                        level = 60 - level;
+                        let held = Held { levels: &mut levels, coeff: &mut coeff, inter: &mut inter, residual: black_box(&mut residual) };
+                        black_box(edits::edit_level(block, held, 0, 0, black_box(level)));
+                    }),
+                    rust: Box::new(move || {
+                        value = 2000 - value;
+                        black_box(edits::edit(plain, &mut own, &mut own_inter, black_box(&mut own_residual), 0, 0, black_box(value)));
+                    }),
+                });
+            }
+        }
+    }
+    list
+}
+
+#[cfg(not(has_edits))]
+fn level_edit_work() -> Vec<Work> {
+    Vec::new()
 }
 
 #[cfg(not(has_edits))]
@@ -283,7 +382,7 @@ fn counted(label: &str, work: &mut dyn FnMut()) {
 /// Runs each work once on each side between two requests to callgrind.
 pub fn count_instructions() {
     counted("nothing", &mut || {});
-    for mut work in all_work().into_iter().chain(edit_work()).chain(picture_work()) {
+    for mut work in all_work().into_iter().chain(limited_work()).chain(edit_work()).chain(level_edit_work()).chain(picture_work()) {
         counted(&format!("ours {}", work.label), &mut work.ours);
         counted(&format!("rust {}", work.label), &mut work.rust);
     }
@@ -325,10 +424,10 @@ pub fn time(runs: u32) {
     let count = |side: &str, label: &str| counts.get(&format!("{side} {label}")).map(|c| c.saturating_sub(nothing));
     let table = |works: Vec<Work>, other: &str| {
         let (time, instructions) = (format!("{other} ns"), format!("{other} ins"));
-        println!("{:<70} {:>9} {time:>12} {:>6} {:>9} {instructions:>13} {:>6}", "function, size, block", "ours ns", "ratio", "ours ins", "ratio");
+        println!("{:<86} {:>9} {time:>12} {:>6} {:>9} {instructions:>13} {:>6}", "function, size, block", "ours ns", "ratio", "ours ins", "ratio");
         for mut work in works {
             let (ours, rust) = least(&mut work, runs);
-            print!("{:<70} {ours:>9.1} {rust:>12.1} {:>6.2}", work.label, ours / rust);
+            print!("{:<86} {ours:>9.1} {rust:>12.1} {:>6.2}", work.label, ours / rust);
             match (count("ours", &work.label), count("rust", &work.label)) {
                 (Some(ours), Some(rust)) => println!(" {ours:>9} {rust:>13} {:>6.2}", ours as f64 / rust as f64),
                 _ => println!(),
@@ -336,6 +435,8 @@ pub fn time(runs: u32) {
         }
     };
     table(all_work(), "Rust");
+    table(limited_work(), "Rust");
     table(edit_work(), "stage two");
+    table(level_edit_work(), "coefficient edit");
     table(picture_work(), "plain loop");
 }

@@ -59,10 +59,19 @@ static void edits(void)
     wide();
     size_t rows[2] = {1, 2}, columns[2] = {3, 4};
     int32_t values[2] = {5, 6};
-    uint8_t numbers[2], named[2], across[2];
+    bool ways[2] = {false, true};
+    uint8_t numbers[2], named[2], across[2], limits[2], list[64] = {16};
     residual_block_answered b = residual_open_block(false, N, 16, true, coeff, CELLS, inter, CELLS, residual, CELLS);
-    residual_edit(b.dst, b.size, b.depth, b.extended, b.columns, coeff, CELLS, inter, CELLS, residual, CELLS, 3, 3, 5);
-    residual_open_and_edit(false, N, 16, true, coeff, CELLS, inter, CELLS, residual, CELLS, rows, 2, columns, 2, values, 2, numbers, 2, named, 2, across, 2);
+    residual_edit(b.block, coeff, CELLS, inter, CELLS, residual, CELLS, 3, 3, 5);
+    residual_open_and_edit(false, N, 16, true, levels, CELLS, coeff, CELLS, inter, CELLS, residual, CELLS, rows, 2, columns, 2, values, 2, ways, 2,
+        numbers, 2, named, 2, across, 2, limits, 2);
+    b = residual_open_levels(false, N, 16, true, 30, levels, CELLS, coeff, CELLS, inter, CELLS, residual, CELLS);
+    residual_edit_level(b.block, levels, CELLS, coeff, CELLS, inter, CELLS, residual, CELLS, 3, 3, 5);
+    residual_open_levels_and_edit(false, N, 16, true, 30, levels, CELLS, coeff, CELLS, inter, CELLS, residual, CELLS, rows, 2, columns, 2, values, 2, ways, 2,
+        numbers, 2, named, 2, across, 2, limits, 2);
+    residual_open_levels_scaled(false, N, 16, true, 30, list, 64, 16, levels, CELLS, coeff, CELLS, inter, CELLS, residual, CELLS);
+    residual_open_levels_scaled_and_edit(false, N, 16, true, 30, list, 64, 16, levels, CELLS, coeff, CELLS, inter, CELLS, residual, CELLS, rows, 2, columns, 2,
+        values, 2, ways, 2, numbers, 2, named, 2, across, 2, limits, 2);
     residual_refresh_residual(false, N, 16, true, inter, CELLS, residual, CELLS);
 }
 

@@ -56,6 +56,7 @@ class Header:
         found = re.search(r'^#define RESIDUAL_VERSION "([^"]*)"', text, re.M)
         if found:
             self.version = found[1]
+            self.version_number = int(re.search(r"^#define RESIDUAL_VERSION_NUMBER (\d+)", text, re.M)[1])
         text = re.sub(r"/\*.*?\*/", " ", text, flags=re.S)
         text = re.sub(r"\\\n", " ", text)
         text = re.sub(r"^\s*#.*$", "", text, flags=re.M)

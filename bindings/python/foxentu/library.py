@@ -107,6 +107,8 @@ def load():
             linked = getattr(library, function.name)
             linked.restype = function.result
             linked.argtypes = [p.ctype() for p in function.parameters]
+        if library.residual_version() != header().version_number:
+            raise build.BuildError(f"{archive} says version {library.residual_version()}, and the headers {header().version_number}: archive and headers are of different versions")
         _library = library
     return _library
 

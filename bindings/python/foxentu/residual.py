@@ -3,8 +3,11 @@
 Blocks are stored row by row and have n * n elements. A list is 64 entries; `scaling_list` is None or a pair of entries and DC.
 """
 import array
+import ctypes
 
-from .library import call, elements, header
+from .library import call, elements
+
+LEVEL = ctypes.c_int32
 
 
 def _zeros(letter, count):
@@ -134,16 +137,36 @@ def rebuild_block(plane, width, height, stride, x, y, n, depth, residual, predic
 
 # ---- edited blocks
 class EditedBlock:
-    """A block opened on coefficients and then changed one coefficient at a time; it owns its buffers and can undo.
+    """A block that is opened once and then changed one value at a time; it owns its buffers and can undo.
 
-    After any edits intermediate and residual are what a fresh opening of the coefficients would give.
+    Opened on coefficients it takes edits of coefficients, by `on_levels` it is opened on levels and takes edits of those; the other way round an edit is refused
+    with 10. After any edits intermediate and residual are what a fresh opening would give, and the coefficients are the scaling of the levels.
     """
 
     def __init__(self, coefficients, n, depth, extended=False, dst=False):
-        self.coefficients = elements(list(coefficients), header().functions["residual_open_block"].parameters[4].kind, "a coefficient")
-        self.intermediate, self.residual = _block(n), _block(n)
-        self._record = call("residual_open_block", dst, n, depth, extended, self.coefficients, self.intermediate, self.residual)
+        self._room(n, depth, extended, dst)
+        self.coefficients = elements(list(coefficients), LEVEL, "a coefficient")
+        self._record = call("residual_open_block", dst, n, depth, extended, self.coefficients, self.intermediate, self.residual).block
+
+    @classmethod
+    def on_levels(cls, levels, n, qp_prime, depth, extended=False, dst=False, scaling_list=None):
+        """A block opened on levels, scaled as `scale` does."""
+        self = cls.__new__(cls)
+        self._room(n, depth, extended, dst)
+        self.levels, self.coefficients = elements(list(levels), LEVEL, "a level"), _block(n)
+        buffers = self.levels, self.coefficients, self.intermediate, self.residual
+        if scaling_list is None:
+            opened = call("residual_open_levels", dst, n, depth, extended, qp_prime, *buffers)
+        else:
+            opened = call("residual_open_levels_scaled", dst, n, depth, extended, qp_prime, *_listed(scaling_list), *buffers)
+        self._record, self.limited = opened.block, opened.limited
+        return self
+
+    def _room(self, n, depth, extended, dst):
         self.n, self.depth, self.extended, self.dst = n, depth, extended, dst
+        self.levels, self.intermediate, self.residual = None, _block(n), _block(n)
+        # how many coefficients an opening on levels limited
+        self.limited = 0
         self._done, self._undone = [], []
 
     @property
@@ -151,20 +174,32 @@ class EditedBlock:
         """One past the last column that has a coefficient other than zero."""
         return self._record.columns
 
+    @property
+    def values(self):
+        """What edits change: the levels of a block opened on levels, else the coefficients."""
+        return self.coefficients if self.levels is None else self.levels
+
     def edit(self, row, column, value):
-        """Puts one coefficient. A refused edit changes nothing."""
-        at = row * self.n + column
-        before = self.coefficients[at] if 0 <= row < self.n and 0 <= column < self.n else 0
-        self._put(row, column, value)
+        """Puts one coefficient of a block opened on coefficients. A refused edit changes nothing."""
+        self._change(row, column, value, False)
+
+    def edit_level(self, row, column, level):
+        """Puts one level of a block opened on levels. Any is accepted; what comes back is whether the level was limited, and whether its result was."""
+        return self._change(row, column, level, True)
+
+    def _change(self, row, column, value, of_level):
+        before = self.values[row * self.n + column] if 0 <= row < self.n and 0 <= column < self.n else 0
+        limited = self._put(row, column, value, of_level)
         self._done.append((row, column, before, value))
         self._undone.clear()
+        return limited
 
     def undo(self):
         """Takes the last edit back; False where there is none."""
         if not self._done:
             return False
         row, column, before, value = self._done.pop()
-        self._put(row, column, before)
+        self._put(row, column, before, self.levels is not None)
         self._undone.append((row, column, before, value))
         return True
 
@@ -173,7 +208,7 @@ class EditedBlock:
         if not self._undone:
             return False
         row, column, before, value = self._undone.pop()
-        self._put(row, column, value)
+        self._put(row, column, value, self.levels is not None)
         self._done.append((row, column, before, value))
         return True
 
@@ -182,9 +217,16 @@ class EditedBlock:
         """The edits made and not taken back, as row, column and value."""
         return [(row, column, value) for row, column, _, value in self._done]
 
-    def _put(self, row, column, value):
-        r = self._record
-        self._record = call("residual_edit", r.dst, r.size, r.depth, r.extended, r.columns, self.coefficients, self.intermediate, self.residual, row, column, value)
+    def _put(self, row, column, value, of_level):
+        buffers = self.coefficients, self.intermediate, self.residual
+        if of_level:
+            # a block opened on coefficients has no level buffer, and the call does not look at one
+            levels = elements([], LEVEL) if self.levels is None else self.levels
+            edited = call("residual_edit_level", self._record, levels, *buffers, row, column, value)
+            self._record = edited.block
+            return edited.level_limited, edited.result_limited
+        self._record = call("residual_edit", self._record, *buffers, row, column, value).block
+        return None
 
     def rows(self):
         """The residual as rows."""

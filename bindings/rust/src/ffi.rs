@@ -113,6 +113,28 @@ pub struct TransformSkipAnswered {
     pub tr_shift: i32,
 }
 
+/// `residual_block`
+#[repr(C)]
+#[derive(Clone, Copy, Debug, PartialEq, Eq)]
+pub struct Block {
+    pub dst: bool,
+    pub size: usize,
+    pub depth: u8,
+    pub extended: bool,
+    pub columns: usize,
+    pub levels: bool,
+    pub qp_prime: i32,
+    pub listed: bool,
+    pub dc: u8,
+    pub entries: [u8; 64],
+}
+
+impl Default for Block {
+    fn default() -> Self {
+        Block { dst: Default::default(), size: Default::default(), depth: Default::default(), extended: Default::default(), columns: Default::default(), levels: Default::default(), qp_prime: Default::default(), listed: Default::default(), dc: Default::default(), entries: [0; 64] }
+    }
+}
+
 /// `residual_block_answered`
 #[repr(C)]
 #[derive(Clone, Copy, Debug, Default, PartialEq, Eq)]
@@ -120,19 +142,34 @@ pub struct BlockAnswered {
     pub number: u32,
     pub row: u8,
     pub column: u8,
+    pub limited: u16,
     pub place: usize,
-    pub dst: bool,
-    pub size: usize,
-    pub depth: u8,
-    pub extended: bool,
-    pub columns: usize,
+    pub block: Block,
+}
+
+/// `residual_level_edit_answered`
+#[repr(C)]
+#[derive(Clone, Copy, Debug, Default, PartialEq, Eq)]
+pub struct LevelEditAnswered {
+    pub number: u32,
+    pub row: u8,
+    pub column: u8,
+    pub level_limited: bool,
+    pub result_limited: bool,
+    pub place: usize,
+    pub block: Block,
 }
 
 /// `residual_list_answered`
 #[repr(C)]
 #[derive(Clone, Copy, Debug, Default, PartialEq, Eq)]
 pub struct ListAnswered {
-    pub block: BlockAnswered,
+    pub number: u32,
+    pub row: u8,
+    pub column: u8,
+    pub limited: u16,
+    pub place: usize,
+    pub block: Block,
     pub edits: usize,
 }
 
@@ -158,6 +195,7 @@ pub struct PictureNumberAnswered {
 }
 
 unsafe extern "C" {
+    pub fn residual_version() -> u32;
     pub fn residual_max_log2_transform_dynamic_range(bit_depth: u8, extended_precision: bool) -> NumberAnswered;
     pub fn residual_qp_bd_offset(bit_depth: u8) -> NumberAnswered;
     pub fn residual_qp_prime(qp: i32, bit_depth: u8) -> SignedAnswered;
@@ -454,12 +492,41 @@ unsafe extern "C" {
         residual: *mut i32,
         residual_len: usize,
     ) -> BlockAnswered;
-    pub fn residual_edit(
+    pub fn residual_open_levels(
         dst: bool,
         n: usize,
         bit_depth: u8,
         extended_precision: bool,
-        columns: usize,
+        qp_prime: i32,
+        levels: *const i32,
+        levels_len: usize,
+        coeff: *mut i32,
+        coeff_len: usize,
+        inter: *mut i32,
+        inter_len: usize,
+        residual: *mut i32,
+        residual_len: usize,
+    ) -> BlockAnswered;
+    pub fn residual_open_levels_scaled(
+        dst: bool,
+        n: usize,
+        bit_depth: u8,
+        extended_precision: bool,
+        qp_prime: i32,
+        list: *const u8,
+        list_len: usize,
+        dc: u8,
+        levels: *const i32,
+        levels_len: usize,
+        coeff: *mut i32,
+        coeff_len: usize,
+        inter: *mut i32,
+        inter_len: usize,
+        residual: *mut i32,
+        residual_len: usize,
+    ) -> BlockAnswered;
+    pub fn residual_edit(
+        block: Block,
         coeff: *mut i32,
         coeff_len: usize,
         inter: *mut i32,
@@ -470,11 +537,27 @@ unsafe extern "C" {
         column: usize,
         value: i32,
     ) -> BlockAnswered;
+    pub fn residual_edit_level(
+        block: Block,
+        levels: *mut i32,
+        levels_len: usize,
+        coeff: *mut i32,
+        coeff_len: usize,
+        inter: *mut i32,
+        inter_len: usize,
+        residual: *mut i32,
+        residual_len: usize,
+        row: usize,
+        column: usize,
+        level: i32,
+    ) -> LevelEditAnswered;
     pub fn residual_open_and_edit(
         dst: bool,
         n: usize,
         bit_depth: u8,
         extended_precision: bool,
+        levels: *mut i32,
+        levels_len: usize,
         coeff: *mut i32,
         coeff_len: usize,
         inter: *mut i32,
@@ -487,12 +570,81 @@ unsafe extern "C" {
         columns_len: usize,
         values: *const i32,
         values_len: usize,
+        ways: *const bool,
+        ways_len: usize,
         numbers: *mut u8,
         numbers_len: usize,
         named: *mut u8,
         named_len: usize,
         across: *mut u8,
         across_len: usize,
+        limits: *mut u8,
+        limits_len: usize,
+    ) -> ListAnswered;
+    pub fn residual_open_levels_and_edit(
+        dst: bool,
+        n: usize,
+        bit_depth: u8,
+        extended_precision: bool,
+        qp_prime: i32,
+        levels: *mut i32,
+        levels_len: usize,
+        coeff: *mut i32,
+        coeff_len: usize,
+        inter: *mut i32,
+        inter_len: usize,
+        residual: *mut i32,
+        residual_len: usize,
+        rows: *const usize,
+        rows_len: usize,
+        columns: *const usize,
+        columns_len: usize,
+        values: *const i32,
+        values_len: usize,
+        ways: *const bool,
+        ways_len: usize,
+        numbers: *mut u8,
+        numbers_len: usize,
+        named: *mut u8,
+        named_len: usize,
+        across: *mut u8,
+        across_len: usize,
+        limits: *mut u8,
+        limits_len: usize,
+    ) -> ListAnswered;
+    pub fn residual_open_levels_scaled_and_edit(
+        dst: bool,
+        n: usize,
+        bit_depth: u8,
+        extended_precision: bool,
+        qp_prime: i32,
+        list: *const u8,
+        list_len: usize,
+        dc: u8,
+        levels: *mut i32,
+        levels_len: usize,
+        coeff: *mut i32,
+        coeff_len: usize,
+        inter: *mut i32,
+        inter_len: usize,
+        residual: *mut i32,
+        residual_len: usize,
+        rows: *const usize,
+        rows_len: usize,
+        columns: *const usize,
+        columns_len: usize,
+        values: *const i32,
+        values_len: usize,
+        ways: *const bool,
+        ways_len: usize,
+        numbers: *mut u8,
+        numbers_len: usize,
+        named: *mut u8,
+        named_len: usize,
+        across: *mut u8,
+        across_len: usize,
+        limits: *mut u8,
+        limits_len: usize,
     ) -> ListAnswered;
     pub fn residual_refresh_residual(
         dst: bool,

@@ -40,7 +40,7 @@ mod refusal;
 mod scaling;
 mod transform;
 
-pub use edited::EditedBlock;
+pub use edited::{EditedBlock, LevelLimited};
 pub use lists::{read_scaling_lists, write_scaling_lists, Defaults, ListTable, ScalingLists, DEFAULTS};
 pub use picture::{Block, Picture};
 pub use quantities::{coefficient_range, dequant_params, qp_bd_offset, qp_prime, rounding_bound, transform_skip_params, DequantParams, TransformSkipParams};
@@ -51,6 +51,16 @@ pub use transform::{inverse_transform, inverse_transform_16, refresh_residual};
 
 /// The version of the headers that this crate was written for.
 pub const VERSION: &str = env!("CARGO_PKG_VERSION");
+
+/// The version of the archive: 10,000 times the first number, 100 times the second, and the third.
+///
+/// ```
+/// let numbers: Vec<u32> = foxentu::VERSION.split('.').map(|part| part.parse().unwrap()).collect();
+/// assert_eq!(foxentu::archive_version(), numbers[0] * 10_000 + numbers[1] * 100 + numbers[2]);
+/// ```
+pub fn archive_version() -> u32 {
+    unsafe { ffi::residual_version() }
+}
 
 /// Which transform a block has.
 #[derive(Clone, Copy, Debug, PartialEq, Eq)]

@@ -82,6 +82,7 @@ table! {
     7 OutputTooShort () "an output or work buffer has fewer than n * n elements; for scaling lists fewer than 1,280 entries or 20 DC numbers have room, or fewer bytes than the bits take; a table of lists is too short"
     8 PlaceOutside () "an edit's row or column is not below n; m is looked up at an index not below n * n"
     9 CoefficientAbove (cell) "a coefficient is above its range"
+    10 WayMismatched () "a coefficient is edited in a block that was opened on levels, or a level in one that was opened on coefficients; it comes before 8"
     11 LevelMissing (cell) "search for levels: no level gives a coefficient"
     12 SampleOutside (at) "a prediction sample is above 2^B - 1"
     13 PictureInvalid () "a width or height is outside 1 .. 16,384; the stride is under the width or above 65,536; a block is not wholly inside the picture; the plane has fewer than stride * height elements"

@@ -116,9 +116,34 @@ fn edits_are_fresh_transforms() {
             assert!(block.coefficients().iter().all(|v| *v == 0) && block.edits().next().is_none());
         }
     }
+    level_edits_are_fresh_openings();
+    assert_eq!(EditedBlock::open_levels(Kind::Dct, &SCALING, &[40000; 16]).unwrap().limited(), 16);
     assert_eq!(EditedBlock::open(Kind::Dct, 12, 8, false, &[0; 144]).unwrap_err(), Refusal::SizeInvalid);
     assert_eq!(EditedBlock::open(Kind::Dct, 1 << 40, 8, false, &[]).unwrap_err(), Refusal::SizeInvalid);
     assert_eq!(EditedBlock::open(Kind::Dct, 8, 8, false, &[0; 63]).unwrap_err(), Refusal::InputTooShort);
+}
+
+fn level_edits_are_fresh_openings() {
+    for (kind, n, list) in [(Kind::Dst, 4, None), (Kind::Dct, 8, Some(LIST)), (Kind::Dct, 32, Some(LIST)), (Kind::Dct, 16, None)] {
+        let scaling = Scaling { n, qp_prime: 20, list, ..SCALING };
+        let mut block = EditedBlock::open_levels(kind, &scaling, &vec![0; n * n]).unwrap();
+        for step in 0..100i32 {
+            match step % 7 {
+                3 => drop(block.undo()),
+                5 => drop(block.redo()),
+                6 => assert_eq!(block.edit(0, 0, 1), Err(Refusal::WayMismatched)),
+                _ => drop(block.edit_level(step as usize * 5 % n, step as usize * 3 % n, step * 977 % 401 - 200).unwrap()),
+            }
+            let fresh = EditedBlock::open_levels(kind, &scaling, block.levels()).unwrap();
+            assert_eq!((block.coefficients(), block.intermediate(), block.residual(), block.columns()), (fresh.coefficients(), fresh.intermediate(), fresh.residual(), fresh.columns()));
+        }
+        assert_eq!(block.edit_level(0, 0, i32::MAX).unwrap().level, true);
+        while block.undo() {}
+        assert!(block.levels().iter().chain(block.residual()).all(|v| *v == 0));
+    }
+    let mut block = EditedBlock::open(Kind::Dct, 4, 8, false, &[0; 16]).unwrap();
+    assert_eq!(block.edit_level(0, 0, 1), Err(Refusal::WayMismatched));
+    assert_eq!(EditedBlock::open_levels(Kind::Dct, &SCALING, &[0; 15]).unwrap_err(), Refusal::InputTooShort);
 }
 
 #[test]

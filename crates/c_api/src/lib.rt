@@ -8,10 +8,16 @@ mod quantities;
 mod tables;
 mod tools;
 mod transforms;
+mod version;
 
 pub use edits::residual_edit;
+pub use edits::residual_edit_level;
 pub use edits::residual_open_and_edit;
 pub use edits::residual_open_block;
+pub use edits::residual_open_levels;
+pub use edits::residual_open_levels_and_edit;
+pub use edits::residual_open_levels_scaled;
+pub use edits::residual_open_levels_scaled_and_edit;
 pub use edits::residual_refresh_residual;
 pub use levels::residual_dequantize_into_scalar_i16;
 pub use levels::residual_dequantize_into_scalar_i32;
@@ -51,6 +57,7 @@ pub use transforms::residual_inv_transform_dst_into_scalar16;
 pub use transforms::residual_inv_transform_into_scalar;
 pub use transforms::residual_inv_transform_into_scalar_extended;
 pub use transforms::residual_inv_transform_into_scalar16;
+pub use version::residual_version;
 
 // What a call answers: 0, or a refusal's number with its place: a row and a column for a coefficient, else one number. The other records
 // add the values, zeros on refusal.
@@ -150,31 +157,52 @@ pub struct TransformSkipAnswered {
     pub tr_shift: i32,
 }
 
-// An answer with the record of an edited block; `dst` is its kind.
+// The record of an edited block, as it goes from call to call: `dst` is its kind; from `levels` on, how it was opened and what its levels are scaled by.
+#[repr(C)]
+pub struct Block {
+    pub dst: bool,
+    pub size: usize,
+    pub depth: u8,
+    pub extended: bool,
+    pub columns: usize,
+    pub levels: bool,
+    pub qp_prime: i32,
+    pub listed: bool,
+    pub dc: u8,
+    pub entries: [u8; 64],
+}
+
+// An answer with that record, and how many coefficients an opening on levels limited; 0 for every other call.
 #[repr(C)]
 pub struct BlockAnswered {
     pub number: u32,
     pub row: u8,
     pub column: u8,
+    pub limited: u16,
     pub place: usize,
-    pub dst: bool,
-    pub size: usize,
-    pub depth: u8,
-    pub extended: bool,
-    pub columns: usize,
+    pub block: Block,
 }
 
-// The same, with how many edits were given to the block.
+// The answer to a level edit: whether the level was limited, and whether after that the result was.
+#[repr(C)]
+pub struct LevelEditAnswered {
+    pub number: u32,
+    pub row: u8,
+    pub column: u8,
+    pub level_limited: bool,
+    pub result_limited: bool,
+    pub place: usize,
+    pub block: Block,
+}
+
+// What an opening answered, with the record after the last edit, and how many edits were given to the block.
 #[repr(C)]
 pub struct ListAnswered {
     pub number: u32,
     pub row: u8,
     pub column: u8,
+    pub limited: u16,
     pub place: usize,
-    pub dst: bool,
-    pub size: usize,
-    pub depth: u8,
-    pub extended: bool,
-    pub columns: usize,
+    pub block: Block,
     pub edits: usize,
 }

@@ -4,7 +4,7 @@
 --   ladder-refused       where it is refused, the same refusal stops an opening and an edit
 --   fits-ask             what the functions below the refusals rely on
 --   open-refused, open-outside, open-done   what an opening hands back, case by case
---   edit-refused, edit-place, edit-outside, edit-done   what an edit hands back, case by case
+--   edit-refused, edit-way, edit-place, edit-outside, edit-done   what an edit hands back, case by case
 --   refresh-refused, refresh-done   the same of stage two alone
 use mathlib.Core.Path.{_≡_, refl, sym, ap, _∙_}
 use mathlib.Core.Bool.{Bool, true, false, _||_, cond}
@@ -13,15 +13,15 @@ use Prim.Native.Nat.{ℕ, _+_, _*_, _≤_, _<_}
 use native.Mathlib.Omega.{arith}
 use borrow.Author.Tests.{lt-ltb, le-ltb, lt-leb, eqb-true, not-false}
 use lib.Dec.{eqb, leb}
-use lib.IntN.{ℤ}
-use lib.ListN.{length}
+use lib.IntN.{ℤ, pos}
+use lib.ListN.{length, replicate}
 use Rattle.integers.specs.Lists.{overwrite}
 use Rattle.h265.specs.Range.{outsideRange}
 use Rattle.h265.specs.Transform.{rowOrder}
 use Rattle.h265.proofs.RangeLaws.{transformRange-least, transformRange-most, transformRange-depth}
 use Rattle.refusal.specs.declared.Answer.the-variants.{Done, Refused}
 use Rattle.refusal.specs.declared.Refusal.{Refusal}
-use Rattle.refusal.specs.declared.Refusal.the-variants.{SizeInvalid, DepthInvalid, DstSizeInvalid, InputTooShort, OutputTooShort, PlaceOutside}
+use Rattle.refusal.specs.declared.Refusal.the-variants.{SizeInvalid, DepthInvalid, DstSizeInvalid, InputTooShort, OutputTooShort, PlaceOutside, WayMismatched}
 use Rattle.refusal.specs.Refusal.{number}
 use Rattle.refusal.specs.Condition.{sizeRefused, depthRefused, blockRefused}
 use Rattle.refusal.specs.Outcome.{Outcome, accepted, refused, answer}
@@ -35,8 +35,7 @@ use Rattle.edited_block.specs.declared.EditedBlock.{EditedBlock}
 use Rattle.edited_block.specs.Columns.{columnCount}
 use Rattle.transform_1d.specs.Kinds.{dstRefused}
 use Rattle.edited_block.specs.Edit.{Buffers, Left, buffers, zeroBlock, residualOf, blockLadder, stopped, opened, openedBuffers, withColumns, edited, editedBuffers, refreshed, Opens, Edits, BlockAsk}
-use Rattle.edited_block.specs.History.{Opening, rangeOf}
-use Rattle.edited_block.specs.Run.{openedAs, blockOf}
+use Rattle.edited_block.specs.Opening.{Opening, rangeOf, openedAs, blockOf}
 use Rattle.edited_block.proofs.OpeningLaws.{Fits, coeff-long, inter-long, res-long, opened-is}
 
 -- one condition of a ladder that answers 0
@@ -124,38 +123,45 @@ module _ (o : Opening) (lent : Buffers) where
 
 -- ---- an edit
 abbrev pub openingOf : EditedBlock → Opening
-openingOf block = record { kind = block .kind; size = block .size; depth = block .depth; extended = block .extended }
+openingOf block = record { kind = block .kind; size = block .size; depth = block .depth; extended = block .extended; source = block .source }
 
 module _ (block : EditedBlock) (lent : Buffers) (row column : ℕ) (value : ℤ) where
   pub edit-refused : (r : Refusal) → answer (Refused r) ≡ ladder (openingOf block) lent (refused tt) (accepted tt) → edited block lent row column value ≡ stopped block lent r
   unfolding edited
   edit-refused r p = ladder-refused (openingOf block) lent (λ a. record { answer = a; block = block; buffers = lent }) r _ p
 
-  pub edit-place : Fits (openingOf block) lent → leb (block .size) row || leb (block .size) column ≡ true → edited block lent row column value ≡ stopped block lent PlaceOutside
+  pub edit-way : Fits (openingOf block) lent → block .source .levels ≡ true → edited block lent row column value ≡ stopped block lent WayMismatched
   unfolding edited
-  edit-place f p = ladder-go (openingOf block) lent _ _ f ∙ rw p
+  edit-way f w = ladder-go (openingOf block) lent _ _ f ∙ rw w
 
-  pub edit-outside : Fits (openingOf block) lent → row < block .size → column < block .size → outsideRange (rangeOf (openingOf block)) value ≡ true
+  pub edit-place : Fits (openingOf block) lent → block .source .levels ≡ false → leb (block .size) row || leb (block .size) column ≡ true → edited block lent row column value ≡ stopped block lent PlaceOutside
+  unfolding edited
+  edit-place f w p = ladder-go (openingOf block) lent _ _ f ∙ rw (w, p)
+
+  pub edit-outside : Fits (openingOf block) lent → block .source .levels ≡ false → row < block .size → column < block .size → outsideRange (rangeOf (openingOf block)) value ≡ true
       → edited block lent row column value ≡ stopped block lent (outsideRefusal (rangeOf (openingOf block)) value row column)
   unfolding edited
-  edit-outside f hr hc o = ladder-go (openingOf block) lent _ _ f ∙ rw (lt-leb (block .size) row hr, lt-leb (block .size) column hc, o)
+  edit-outside f w hr hc o = ladder-go (openingOf block) lent _ _ f ∙ rw (w, lt-leb (block .size) row hr, lt-leb (block .size) column hc, o)
 
-  pub edit-done : Fits (openingOf block) lent → row < block .size → column < block .size → outsideRange (rangeOf (openingOf block)) value ≡ false
+  pub edit-done : Fits (openingOf block) lent → block .source .levels ≡ false → row < block .size → column < block .size → outsideRange (rangeOf (openingOf block)) value ≡ false
       → let after : Buffers = editedBuffers (block .kind) (block .size) (block .depth) (rangeOf (openingOf block)) lent row column value in
       edited block lent row column value ≡ record { answer = accepted tt; block = withColumns block (columnCount (block .size) (after .coeff)); buffers = after }
   unfolding edited
-  edit-done f hr hc o = ladder-go (openingOf block) lent _ _ f ∙ rw (lt-leb (block .size) row hr, lt-leb (block .size) column hc, o)
+  edit-done f w hr hc o = ladder-go (openingOf block) lent _ _ f ∙ rw (w, lt-leb (block .size) row hr, lt-leb (block .size) column hc, o)
 
   pub edits-stopped : (r : Refusal) → edited block lent row column value ≡ stopped block lent r → Edits (edited block lent row column value) (Refused r) block (lent .coeff) (lent .inter) (lent .res)
   edits-stopped r p = rw p (record { answered = refl; block = refl; coeff = refl; inter = refl; res = refl })
 
--- ---- stage two alone
-module _ (o : Opening) (g e : List ℤ) where
-  pub refresh-refused : (r : Refusal) → answer (Refused r) ≡ ladder o (buffers g e e) (refused tt) (accepted tt) → refreshed (o .kind) (o .size) (o .depth) (o .extended) g e ≡ left e r
-  unfolding refreshed
-  refresh-refused r p = ladder-refused o (buffers g e e) (λ a. record { answer = a; out = e }) r _ p
+-- ---- stage two alone, whose ladder is that of an opening on coefficients that are enough at every size
+abbrev pub staged : List ℤ → List ℤ → Buffers
+staged g e = buffers (replicate 1024 (pos 0)) g e
 
-  pub refresh-done : Fits o (buffers g e e)
+module _ (o : Opening) (g e : List ℤ) where
+  pub refresh-refused : (r : Refusal) → answer (Refused r) ≡ ladder o (staged g e) (refused tt) (accepted tt) → refreshed (o .kind) (o .size) (o .depth) (o .extended) g e ≡ left e r
+  unfolding refreshed
+  refresh-refused r p = ladder-refused o (staged g e) (λ a. record { answer = a; out = e }) r _ p
+
+  pub refresh-done : Fits o (staged g e)
       → refreshed (o .kind) (o .size) (o .depth) (o .extended) g e ≡ wrote (overwrite (o .size * o .size) (rowOrder (o .size) (residualOf (o .kind) (o .size) (o .depth) (rangeOf o) g)) e)
   unfolding refreshed
-  refresh-done f = ladder-go o (buffers g e e) _ _ f
+  refresh-done f = ladder-go o (staged g e) _ _ f

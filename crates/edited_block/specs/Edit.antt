@@ -1,8 +1,9 @@
--- The opening and one edit, on any buffers, refused calls included. Document 01, "The held block", and rows 1, 2, 4, 6, 7, 8, 9, 19 of its table.
+-- The opening on coefficients and one edit of a coefficient, on any buffers, refused calls included. Document 01, "The held block"; document 02, R-9;
+-- rows 1, 2, 4, 6, 7, 8, 9, 10, 19 of the table.
 -- Letters: n size, b depth, x extended precision, r range, d coefficients, g intermediate, e residual.
 --   Buffers                   the three lent buffers
 --   Left                      what a call hands back: outcome, record and buffers
---   reported, zeroBlock       a call's answer and record as an outcome; the record of a refused opening
+--   zeroSource, zeroBlock     what a block that was opened on coefficients has as its source; the record of a refused opening
 --   intermediateOf, residualOf   stage one over coefficients, and stage two over an intermediate; every value is read limited to the
 --                             range, since a caller may have spoiled the buffers
 --   opened                    the opening
@@ -14,14 +15,14 @@ use mathlib.Core.Bool.{Bool, false, _||_, cond}
 use mathlib.Core.List.{List}
 use Prim.Native.Nat.{ℕ, _+_, _*_, _≤_}
 use lib.Dec.{T, leb, ltb}
-use lib.IntN.{ℤ}
-use lib.ListN.{length, set}
+use lib.IntN.{ℤ, pos}
+use lib.ListN.{length, set, replicate}
 use Rattle.integers.specs.Lists.{overwrite}
 use Rattle.h265.specs.Range.{isSize, transformRange, outsideRange}
 use Rattle.h265.specs.Transform.{rowOrder, intermediate, stageTwo, stageTwoShift}
 use Rattle.refusal.specs.declared.Answer.{Answer}
 use Rattle.refusal.specs.declared.Refusal.{Refusal}
-use Rattle.refusal.specs.declared.Refusal.the-variants.{SizeInvalid, DepthInvalid, DstSizeInvalid, InputTooShort, OutputTooShort, PlaceOutside}
+use Rattle.refusal.specs.declared.Refusal.the-variants.{SizeInvalid, DepthInvalid, DstSizeInvalid, InputTooShort, OutputTooShort, PlaceOutside, WayMismatched}
 use Rattle.refusal.specs.Condition.{sizeRefused, depthRefused, blockRefused}
 use Rattle.refusal.specs.Outcome.{Outcome, accepted, refused, answer}
 use Rattle.refusal.specs.Written.{Written, left, wrote}
@@ -31,6 +32,7 @@ use Rattle.transform_1d.specs.Kinds.{dstRefused}
 use Rattle.transform_1d.specs.MatrixOf.{matrixOf}
 use Rattle.coefficients.specs.Outside.{firstOutside, outsideRefusal, refusalAt}
 use Rattle.edited_block.specs.declared.EditedBlock.{EditedBlock}
+use Rattle.edited_block.specs.declared.Source.{Source}
 use Rattle.stages_wide.specs.Wide.{columnReplaced, limitedBlock}
 use Rattle.edited_block.specs.Columns.{columnCount}
 
@@ -44,8 +46,12 @@ pub record Left : Type 0 where
   pub block : EditedBlock
   pub buffers : Buffers
 
+-- what a block that was opened on coefficients has as its source: nothing is given, so all is 0
+abbrev pub zeroSource : Source
+zeroSource = record { levels = Bool.false; «qp_prime» = record { 0 = pos 0 }; listed = Bool.false; dc = 0; entries = replicate 64 0 }
+
 abbrev pub zeroBlock : EditedBlock
-zeroBlock = record { kind = Dct; size = 0; depth = 0; extended = Bool.false; columns = 0 }
+zeroBlock = record { kind = Dct; size = 0; depth = 0; extended = Bool.false; columns = 0; source = zeroSource }
 
 unfoldable pub intermediateOf : Kind → ℕ → ℕ → List ℤ → ℕ → ℕ → ℤ
 intermediateOf kind n r d = intermediate (matrixOf kind n) n r (limitedBlock r n d)
@@ -70,15 +76,16 @@ openedBuffers kind n b r lent =
     let g : List ℤ = overwrite (n * n) (rowOrder n (intermediateOf kind n r (lent .coeff))) (lent .inter) in
     record { coeff = lent .coeff; inter = g; res = overwrite (n * n) (rowOrder n (residualOf kind n b r g)) (lent .res) }
 
-unfoldable pub opened : Kind → ℕ → ℕ → Bool → Buffers → Left
-opened kind n b x lent =
+-- s is the source that the record gets: nothing, where the coefficients are the caller's own
+unfoldable pub opened : Kind → ℕ → ℕ → Bool → Source → Buffers → Left
+opened kind n b x s lent =
     let r : ℕ = transformRange b x in
     let first : ℕ = firstOutside r n n (lent .coeff) in
     blockLadder (stopped zeroBlock lent)
     (cond (ltb first (n * n)) (stopped zeroBlock lent (refusalAt r n (lent .coeff) first))
     (record {
       answer = accepted tt;
-      block = record { kind = kind; size = n; depth = b; extended = x; columns = columnCount n (lent .coeff) };
+      block = record { kind = kind; size = n; depth = b; extended = x; columns = columnCount n (lent .coeff); source = s };
       buffers = openedBuffers kind n b r lent;
     }))
     kind n b (length (lent .coeff)) (length (lent .inter)) (length (lent .res))
@@ -90,7 +97,7 @@ editedBuffers kind n b r lent row column value =
     record { coeff = d; inter = g; res = overwrite (n * n) (rowOrder n (residualOf kind n b r g)) (lent .res) }
 
 abbrev pub withColumns : EditedBlock → ℕ → EditedBlock
-withColumns block c = record { kind = block .kind; size = block .size; depth = block .depth; extended = block .extended; columns = c }
+withColumns block c = record { kind = block .kind; size = block .size; depth = block .depth; extended = block .extended; columns = c; source = block .source }
 
 unfoldable pub edited : EditedBlock → Buffers → ℕ → ℕ → ℤ → Left
 edited block lent row column value =
@@ -99,17 +106,18 @@ edited block lent row column value =
     let r : ℕ = transformRange b (block .extended) in
     let after : Buffers = editedBuffers (block .kind) n b r lent row column value in
     blockLadder (stopped block lent)
+    (cond (block .source .levels) (stopped block lent WayMismatched)
     (cond (leb n row || leb n column) (stopped block lent PlaceOutside)
     (cond (outsideRange r value) (stopped block lent (outsideRefusal r value row column))
-    (record { answer = accepted tt; block = withColumns block (columnCount n (after .coeff)); buffers = after })))
+    (record { answer = accepted tt; block = withColumns block (columnCount n (after .coeff)); buffers = after }))))
     (block .kind) n b (length (lent .coeff)) (length (lent .inter)) (length (lent .res))
 
--- stage two alone; the intermediate is the input of row 6
+-- stage two alone. Both buffers are work buffers, of row 7; there are no coefficients to be too few, and 1,024 are enough at every size
 unfoldable pub refreshed : Kind → ℕ → ℕ → Bool → List ℤ → List ℤ → Written
 refreshed kind n b x g e =
     blockLadder (left e)
     (wrote (overwrite (n * n) (rowOrder n (residualOf kind n b (transformRange b x) g)) e))
-    kind n b (length g) (length e) (length e)
+    kind n b 1024 (length g) (length e)
 
 abbrev pub buffers : List ℤ → List ℤ → List ℤ → Buffers
 buffers d g e = record { coeff = d; inter = g; res = e }

@@ -3,7 +3,9 @@ ghost use mathlib.Core.Path.{_≡_};
 ghost use Prim.Native.Nat.{_+_, _*_, _<_, _≤_};
 ghost use lib.ListN.{length, set};
 ghost use Rattle.refusal.specs.Written.{Writes};
-ghost use Rattle.edited_block.specs.Edit.{zeroBlock, openedBuffers, opened, editedBuffers, withColumns, edited, refreshed, buffers, Opens, Edits, BlockAsk, Staged};
+ghost use Rattle.edited_block.specs.Opening.{onCoefficients, openedAs};
+ghost use Rattle.edited_block.specs.Edit.{zeroSource, zeroBlock, openedBuffers, opened, editedBuffers, withColumns, edited, refreshed, buffers, Opens, Edits, BlockAsk, Staged};
+use parameters::QpPrime;
 use refusal::Answer;
 use refusal::Refusal;
 use transform_1d::Kind;
@@ -14,6 +16,15 @@ mod refuse;
 use columns::column_count;
 use refuse::block_refusal;
 
+// What the coefficients come from: levels, with what they are scaled by. What an opening is not given is 0.
+pub struct Source {
+    pub levels: bool,
+    pub qp_prime: QpPrime,
+    pub listed: bool,
+    pub dc: u8,
+    pub entries: [u8; 64],
+}
+
 // What an opening fixes, and how many columns are in use. The buffers stay with the caller.
 pub struct EditedBlock {
     pub kind: Kind,
@@ -21,6 +32,7 @@ pub struct EditedBlock {
     pub depth: u8,
     pub extended: bool,
     pub columns: usize,
+    pub source: Source,
 }
 
 // What an opening answers, or an edit that takes the record by value, with the record afterwards.
@@ -35,7 +47,21 @@ pub struct Edited {
     pub columns: usize,
 }
 
-fn zero_block() -> EditedBlock
+// The source of a block that was opened on coefficients.
+pub fn zero_source() -> Source
+    ensures { λ r. ⌜ r ≡ zeroSource ⌝ }
+{
+    Source {
+        levels: false,
+        qp_prime: QpPrime(0),
+        listed: false,
+        dc: 0,
+        entries: [0u8; 64],
+    }
+}
+
+// The record that a refused opening hands back.
+pub fn zero_block() -> EditedBlock
     ensures { λ r. ⌜ r ≡ zeroBlock ⌝ }
 {
     EditedBlock {
@@ -44,6 +70,7 @@ fn zero_block() -> EditedBlock
         depth: 0,
         extended: false,
         columns: 0,
+        source: zero_source(),
     }
 }
 
@@ -64,17 +91,18 @@ fn open_stages(
     stages_wide::residual_of(kind, n, bit_depth, range, inter, residual);
 }
 
-// Opens a block on lent coefficients, which it leaves, and writes its intermediate and its residual.
-pub fn open_block(
+// The opening on coefficients that come from a given source, which the record keeps: what an opening on levels ends in.
+pub fn open_from(
     kind: Kind,
     n: usize,
     bit_depth: u8,
     extended_precision: bool,
+    source: Source,
     coeff: &[i32],
     inter: &mut [i32],
     residual: &mut [i32],
 ) -> Opened
-    ensures { λ r. ⌜ Opens (opened kind n «bit_depth» «extended_precision» (buffers (now (coeff .entry)) (now (inter .entry)) (now (residual .entry)))) (r .answer) (r .block) (now (inter .exit)) (now (residual .exit)) ⌝ }
+    ensures { λ r. ⌜ Opens (opened kind n «bit_depth» «extended_precision» source (buffers (now (coeff .entry)) (now (inter .entry)) (now (residual .entry)))) (r .answer) (r .block) (now (inter .exit)) (now (residual .exit)) ⌝ }
 {
     let checked = block_refusal(kind, n, bit_depth, coeff.len(), inter.len(), residual.len());
     if let Answer::Refused(why) = checked {
@@ -101,8 +129,33 @@ pub fn open_block(
             depth: bit_depth,
             extended: extended_precision,
             columns: column_count(coeff, n),
+            source,
         },
     }
+}
+
+// Opens a block on the caller's own coefficients, which it leaves, and writes its intermediate and its residual.
+pub fn open_block(
+    kind: Kind,
+    n: usize,
+    bit_depth: u8,
+    extended_precision: bool,
+    coeff: &[i32],
+    inter: &mut [i32],
+    residual: &mut [i32],
+) -> Opened
+    ensures { λ r. ⌜ Opens (openedAs (onCoefficients kind n «bit_depth» «extended_precision») (buffers (now (coeff .entry)) (now (inter .entry)) (now (residual .entry)))) (r .answer) (r .block) (now (inter .exit)) (now (residual .exit)) ⌝ }
+{
+    open_from(
+        kind,
+        n,
+        bit_depth,
+        extended_precision,
+        zero_source(),
+        coeff,
+        inter,
+        residual,
+    )
 }
 
 // An accepted edit: the value set, the intermediate's column computed anew, and the residual.
@@ -142,10 +195,17 @@ pub fn edit_core(
     let bit_depth = block.depth;
     let extended_precision = block.extended;
     let columns = block.columns;
+    let levels = block.source.levels;
     let checked = block_refusal(kind, n, bit_depth, coeff.len(), inter.len(), residual.len());
     if let Answer::Refused(why) = checked {
         return Edited {
             answer: Answer::Refused(why),
+            columns,
+        };
+    }
+    if levels {
+        return Edited {
+            answer: Answer::Refused(Refusal::WayMismatched),
             columns,
         };
     }
@@ -198,14 +258,7 @@ pub fn refresh_residual(
 ) -> Answer
     ensures { λ r. ⌜ Writes r (now (residual .exit)) (refreshed kind n «bit_depth» «extended_precision» (now (inter .entry)) (now (residual .entry))) ⌝ }
 {
-    let checked = block_refusal(
-        kind,
-        n,
-        bit_depth,
-        inter.len(),
-        residual.len(),
-        residual.len(),
-    );
+    let checked = block_refusal(kind, n, bit_depth, 1024, inter.len(), residual.len());
     if let Answer::Refused(why) = checked {
         return Answer::Refused(why);
     }

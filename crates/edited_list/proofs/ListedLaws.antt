@@ -1,155 +1,200 @@
 -- An opening and a list of edits: after an opening that answered 0 the run is the history's, and after a refused one nothing was done.
 --   ran-is-history     the run as the history gives it, in one equation
---   lists-done, lists-refused   what the call hands back in the two cases
-use mathlib.Core.Path.{_≡_, refl, sym, ap, ap₂, _∙_}
-use mathlib.Core.Bool.{Bool, true, false, _||_, cond, true≢false}
+--   runs-none, runs-all   the edits after an opening that was refused, and after one that was not
+--   lists-after        an opening and the edits after it are what the call is to hand back
+use mathlib.Core.Path.{_≡_, refl, sym, ap, ap₂, subst, _∙_}
+use mathlib.Core.Bool.{Bool, true, false, _||_, cond}
 use mathlib.Core.List.{List, [], _∷_, _++_}
-use Prim.Native.Nat.{ℕ, suc, _*_}
+use Prim.Native.Nat.{ℕ, suc, _*_, _≤_, min}
 use native.Mathlib.Omega.{arith}
 use borrow.Author.Tests.{ne-eqb}
 use lib.Dec.{eqb, ltb}
 use lib.IntN.{ℤ}
 use lib.ListN.{length, take, drop, take-append-drop}
-use lib.Seq.{sets}
 use Rattle.refusal.specs.declared.Answer.{Answer}
-use Rattle.refusal.specs.declared.Answer.the-variants.{Done, Refused}
 use Rattle.refusal.specs.declared.Refusal.{Refusal}
-use Rattle.refusal.specs.declared.Refusal.the-variants.{SizeInvalid, DepthInvalid, DstSizeInvalid, InputTooShort, OutputTooShort}
+use Rattle.refusal.specs.declared.Refusal.the-variants.{SizeInvalid, DepthInvalid, DstSizeInvalid, ListLengthInvalid, InputTooShort, OutputTooShort}
 use Rattle.refusal.specs.Refusal.{number}
-use Rattle.refusal.specs.Outcome.{Outcome, accepted, answer}
-use Rattle.refusal.specs.Condition.{sizeRefused, depthRefused, blockRefused}
+use Rattle.refusal.specs.Outcome.{Outcome, refused, answer}
+use Rattle.refusal.specs.Condition.{sizeRefused, depthRefused, listRefused, blockRefused}
 use Rattle.refusal.proofs.RefusalLaws.{number-least}
-use Rattle.transform_1d.specs.declared.Kind.{Kind}
+use Rattle.refusal.proofs.LadderLaws.{Rung, first-both}
+use Rattle.refusal.proofs.LadderLaws.Rung.{rung}
 use Rattle.coefficients.specs.Outside.{firstOutside, refusalAt}
 use Rattle.edited_block.specs.declared.EditedBlock.{EditedBlock}
 use Rattle.edited_block.specs.Columns.{columnCount}
 use Rattle.transform_1d.specs.Kinds.{dstRefused}
-use Rattle.edited_block.specs.Edit.{Buffers, Left, buffers, zeroBlock, blockLadder, stopped, openedBuffers, opened}
-use Rattle.edited_block.specs.History.{Edit, Opening, rangeOf, answersTo}
-use Rattle.edited_block.specs.Run.{Ran, ranFrom, ran, openedAs, blockOf}
-use Rattle.edited_block.proofs.HistoryLaws.{edits-follow-history}
+use Rattle.edited_block.specs.Edit.{Buffers, Left, buffers, zeroBlock, blockLadder, stopped, openedBuffers, opened, Opens}
+use Rattle.edited_block.specs.Opening.{Opening, rangeOf, openedAs, blockOf}
+use Rattle.scaling_blocks.specs.declared.CountAnswer.{CountAnswer}
+use Rattle.scaling_blocks.specs.declared.CountAnswer.the-variants.{Limited, Refused}
+use Rattle.scaling_blocks.specs.Blocks.{entriesOf, countOutcome}
+use Rattle.level_block.specs.Level.{listOf, LevelLeft, OpenLeft, openStopped, levelLadder, levelOpened, LevelOpens}
+use Rattle.edited_history.specs.History.{Edit}
+use Rattle.edited_history.specs.Run.{valued, uncounted, Ran, heldOpened, heldEdited, ranFrom, ran}
+use Rattle.edited_history.proofs.HistoryLaws.{edits-follow-history}
 use Rattle.edited_list.specs.declared.Listed.{Listed}
-use Rattle.edited_list.specs.Listed.{historyRan, listed, numbersOf, rowsOf, columnsOf, editCount, Lists, ListAsk, RunsFrom}
+use Rattle.edited_list.specs.Listed.{Slices, put, historyRan, listed, editCount, ranAfter, Lists, ListAsk, RunsFrom, RunsAfter}
 
 -- a list by its first k elements and the others
 halves : {A : Type 0} (k : ℕ) (xs ys zs : List A) → take k xs ≡ ys → drop k xs ≡ zs → xs ≡ ys ++ zs
 halves k xs ys zs p q = sym (take-append-drop k xs) ∙ ap₂ _++_ p q
 
-pub ran-is-history : (o : Opening) (lent : Buffers) (es : List Edit) → openedAs o lent .answer .number ≡ 0 → ran o lent es ≡ historyRan o lent es
+pub ran-is-history : (o : Opening) (levels : List ℤ) (lent : Buffers) (es : List Edit) → heldOpened o levels lent .answer .number ≡ 0 → ran o levels lent es ≡ historyRan o levels lent es
 unfolding historyRan
-ran-is-history o lent es e =
-    let f = edits-follow-history o lent es e in
+ran-is-history o levels lent es e =
+    let f = edits-follow-history o levels lent es e in
     let k : ℕ = o .size * o .size in
     let d = halves k _ _ _ (f .coeff) (f .past-coeff) in
     let g = halves k _ _ _ (f .inter) (f .past-inter) in
     let r = halves k _ _ _ (f .res) (f .past-res) in
-    λ i. record { answers = f .answers i; block = f .block i; buffers = record { coeff = d i; inter = g i; res = r i } }
+    λ i. record { answers = f .answers i; block = f .block i; levels = f .levels-are i; buffers = record { coeff = d i; inter = g i; res = r i } }
 
-answers-length : (o : Opening) (es : List Edit) → length (answersTo o es) ≡ length es
-unfolding answersTo
-answers-length o [] = refl
-answers-length o (e ∷ es) = ap suc (answers-length o es)
+-- a run answers every edit
+ran-length : (es : List Edit) (block : EditedBlock) (levels : List ℤ) (lent : Buffers) → length (ranFrom block levels lent es .answers) ≡ length es
+unfolding ranFrom
+ran-length [] block levels lent = refl
+ran-length (e ∷ es) block levels lent =
+    let h : LevelLeft = heldEdited block levels lent e in
+    ap suc (ran-length es (h .block) (h .levels) (h .buffers))
 
 -- ---- how many edits
-pub count-ask : (rows columns values numbers named across : ℕ) → ListAsk (editCount rows columns values numbers named across) rows columns values numbers named across
+below : (a b : ℕ) → (min a b ≤ a) × (min a b ≤ b)
+below a b = (omega arith, omega arith)
+
+four : (x a b c d : ℕ) → x ≤ min (min a b) (min c d) → (x ≤ a) × (x ≤ b) × (x ≤ c) × (x ≤ d)
+four x a b c d h = (omega (arith, h), omega (arith, h), omega (arith, h), omega (arith, h))
+
+pub count-ask : (rows columns values ways : ℕ) (s : Slices) → ListAsk (editCount rows columns values ways s) rows columns values ways s
 unfolding editCount
-count-ask rows columns values numbers named across =
-    record { rows-long = omega arith; columns-long = omega arith; values-long = omega arith; numbers-long = omega arith; named-long = omega arith; across-long = omega arith }
+count-ask rows columns values ways s =
+    let both = below (min (min rows columns) (min values ways)) (min (min (length (s .numbers)) (length (s .named))) (min (length (s .across)) (length (s .limits)))) in
+    let given = four _ rows columns values ways (both .0) in
+    let told = four _ (length (s .numbers)) (length (s .named)) (length (s .across)) (length (s .limits)) (both .1) in
+    record {
+      rows-long = given .0;
+      columns-long = given .1;
+      values-long = given .2;
+      ways-long = given .3;
+      numbers-long = told .0;
+      named-long = told .1;
+      across-long = told .2;
+      limits-long = told .3;
+    }
 
 -- ---- a refused opening
-number-refused : (why : Refusal) → eqb (number why) 0 ≡ false
-number-refused why = ne-eqb (number why) 0 (λ z. omega (arith, number-least why))
-
--- what holds of every stop and of what passes holds of the ladder
-ladder-all : {A : Type 0} (P : A → Type 0) (stop : Refusal → A) (go : A) → ((e : Refusal) → P (stop e)) → P go → (kind : Kind) (n b d g r : ℕ)
-    → P (blockLadder stop go kind n b d g r)
-unfolding blockLadder
-ladder-all {A} P stop go s p kind n b d g r =
-    cond-all (sizeRefused n) (s SizeInvalid) (cond-all (depthRefused b) (s DepthInvalid) (cond-all (dstRefused kind n) (s DstSizeInvalid) (cond-all (blockRefused n d) (s InputTooShort) (cond-all (blockRefused n g || blockRefused n r) (s OutputTooShort) p))))
-  where
-    cond-all : (t : Bool) {x y : A} → P x → P y → P (cond t x y)
-    cond-all true p q = p
-    cond-all false p q = q
-
 -- the record is zeros and the buffers are as lent
-abbrev Stopped : Buffers → Refusal → Left → Type 0
-Stopped lent why h = h .answer ≡ answer (Refused why) → (h .block ≡ zeroBlock) × (h .buffers ≡ lent)
+abbrev Stopped : Buffers → OpenLeft → Type 0
+Stopped lent h = (h .answer .number ≡ 0 → ⊥) → (h .block ≡ zeroBlock) × (h .buffers ≡ lent)
 
-opened-stopped : (o : Opening) (lent : Buffers) (why : Refusal) → Stopped lent why (openedAs o lent)
-unfolding openedAs opened
-opened-stopped o lent why =
-    ladder-all (Stopped lent why) (stopped zeroBlock lent) _ (λ e p. (refl, refl)) (outside (ltb (firstOutside (rangeOf o) (o .size) (o .size) (lent .coeff)) (o .size * o .size)) (refusalAt (rangeOf o) (o .size) (lent .coeff) (firstOutside (rangeOf o) (o .size) (o .size) (lent .coeff))) (blockOf o (columnCount (o .size) (lent .coeff))) (openedBuffers (o .kind) (o .size) (o .depth) (rangeOf o) lent))
-    (o .kind) (o .size) (o .depth) (length (lent .coeff)) (length (lent .inter)) (length (lent .res))
+opened-stopped : (o : Opening) (lent : Buffers) → Stopped lent (uncounted (openedAs o lent))
+unfolding openedAs opened blockLadder
+opened-stopped o lent =
+    let n = o .size in
+    let first = firstOutside (rangeOf o) n n (lent .coeff) in
+    first-both (λ (h : Left) (t : Unit {0}). Stopped lent (uncounted h)) (stopped zeroBlock lent) _ (λ e. tt) tt
+    (rung (sizeRefused n) SizeInvalid ∷ rung (depthRefused (o .depth)) DepthInvalid ∷ rung (dstRefused (o .kind) n) DstSizeInvalid ∷ rung (blockRefused n (length (lent .coeff))) InputTooShort
+    ∷ rung (blockRefused n (length (lent .inter)) || blockRefused n (length (lent .res))) OutputTooShort ∷ rung (ltb first (n * n)) (refusalAt (rangeOf o) n (lent .coeff) first) ∷ [])
+    (λ e p. (refl, refl)) (λ passed p. absurd (p refl))
+
+level-stopped : (o : Opening) (levels : List ℤ) (lent : Buffers) → Stopped lent (levelOpened o levels lent)
+unfolding levelOpened levelLadder
+level-stopped o levels lent =
+    let n = o .size in
+    first-both (λ (h : OpenLeft) (t : Unit {0}). Stopped lent h) (openStopped lent) _ (λ e. tt) tt
+    (rung (sizeRefused n) SizeInvalid ∷ rung (depthRefused (o .depth)) DepthInvalid ∷ rung (dstRefused (o .kind) n) DstSizeInvalid ∷ rung (listRefused (entriesOf (listOf (o .source)))) ListLengthInvalid
+    ∷ rung (blockRefused n (length levels) || blockRefused n (length (lent .coeff))) InputTooShort ∷ rung (blockRefused n (length (lent .inter)) || blockRefused n (length (lent .res))) OutputTooShort ∷ [])
+    (λ e p. (refl, refl)) (λ passed p. absurd (p refl))
+
+held-stopped : (o : Opening) (levels : List ℤ) (lent : Buffers) → Stopped lent (heldOpened o levels lent)
+unfolding heldOpened
+held-stopped o levels lent = by-way (o .source .levels)
   where
-    outside : (t : Bool) (e : Refusal) (block : EditedBlock) (after : Buffers) → Stopped lent why (cond t (stopped zeroBlock lent e) (record { answer = accepted tt; block = block; buffers = after }))
-    outside true e block after p = (refl, refl)
-    outside false e block after p = absurd (true≢false (ap (λ (x : Outcome (Unit {0})). eqb (x .number) 0) p ∙ number-refused why))
+    by-way : (t : Bool) → Stopped lent (cond t (levelOpened o levels lent) (uncounted (openedAs o lent)))
+    by-way true = level-stopped o levels lent
+    by-way false = opened-stopped o lent
 
 -- an opening leaves the coefficients
 opened-coeff : (o : Opening) (lent : Buffers) → lent .coeff ≡ openedAs o lent .buffers .coeff
-unfolding openedAs opened openedBuffers
+unfolding openedAs opened openedBuffers blockLadder
 opened-coeff o lent =
-    ladder-all (λ (h : Left). lent .coeff ≡ h .buffers .coeff) (stopped zeroBlock lent) _ (λ e. refl) (outside (ltb (firstOutside (rangeOf o) (o .size) (o .size) (lent .coeff)) (o .size * o .size)) (refusalAt (rangeOf o) (o .size) (lent .coeff) (firstOutside (rangeOf o) (o .size) (o .size) (lent .coeff))) (blockOf o (columnCount (o .size) (lent .coeff))) (openedBuffers (o .kind) (o .size) (o .depth) (rangeOf o) lent) refl)
-    (o .kind) (o .size) (o .depth) (length (lent .coeff)) (length (lent .inter)) (length (lent .res))
-  where
-    outside : (t : Bool) (e : Refusal) (block : EditedBlock) (after : Buffers) → lent .coeff ≡ after .coeff → lent .coeff ≡ cond t (stopped zeroBlock lent e) (record { answer = accepted tt; block = block; buffers = after }) .buffers .coeff
-    outside true e block after p = refl
-    outside false e block after p = p
+    let n = o .size in
+    let first = firstOutside (rangeOf o) n n (lent .coeff) in
+    first-both (λ (h : Left) (t : Unit {0}). lent .coeff ≡ h .buffers .coeff) (stopped zeroBlock lent) _ (λ e. tt) tt
+    (rung (sizeRefused n) SizeInvalid ∷ rung (depthRefused (o .depth)) DepthInvalid ∷ rung (dstRefused (o .kind) n) DstSizeInvalid ∷ rung (blockRefused n (length (lent .coeff))) InputTooShort
+    ∷ rung (blockRefused n (length (lent .inter)) || blockRefused n (length (lent .res))) OutputTooShort ∷ rung (ltb first (n * n)) (refusalAt (rangeOf o) n (lent .coeff) first) ∷ [])
+    (λ e. refl) (λ passed. refl)
+
+pub opens-held : (o : Opening) (levels : List ℤ) (lent : Buffers) (a : Answer) (block : EditedBlock) (g e : List ℤ) → o .source .levels ≡ false → Opens (openedAs o lent) a block g e
+    → (r : CountAnswer) → countOutcome r ≡ valued 0 (answer a) → LevelOpens (heldOpened o levels lent) r block (lent .coeff) g e
+unfolding heldOpened
+opens-held o levels lent a block g e w h r told =
+    subst (λ (t : Bool). LevelOpens (cond t (levelOpened o levels lent) (uncounted (openedAs o lent))) r block (lent .coeff) g e) (sym w)
+    (record { answered = told ∙ ap (valued 0) (h .answered); block = h .block; coeff = opened-coeff o lent; inter = h .inter; res = h .res })
 
 -- a run from what an opening handed back and wrote
-pub ran-from-opening : (o : Opening) (lent : Buffers) (es : List Edit) (block : EditedBlock) (g e : List ℤ) → block ≡ openedAs o lent .block
-    → g ≡ openedAs o lent .buffers .inter → e ≡ openedAs o lent .buffers .res → ranFrom block (buffers (lent .coeff) g e) es ≡ ran o lent es
+ran-from-opening : (o : Opening) (levels : List ℤ) (lent : Buffers) (es : List Edit) (a : CountAnswer) (block : EditedBlock) (d g e : List ℤ) → LevelOpens (heldOpened o levels lent) a block d g e
+    → ranFrom block levels (buffers d g e) es ≡ ran o levels lent es
 unfolding ran
-ran-from-opening o lent es block g e hb hg he =
-    ap₂ (λ (b : EditedBlock) (now : Buffers). ranFrom b now es) hb (λ k. record { coeff = opened-coeff o lent k; inter = hg k; res = he k })
+ran-from-opening o levels lent es a block d g e h =
+    ap₂ (λ (b : EditedBlock) (now : Buffers). ranFrom b levels now es) (h .block) (λ k. record { coeff = h .coeff k; inter = h .inter k; res = h .res k })
 
-abbrev undone : Buffers → Ran
-undone lent = record { answers = []; block = zeroBlock; buffers = lent }
+abbrev undone : List ℤ → Buffers → Ran
+undone levels lent = record { answers = []; block = zeroBlock; levels = levels; buffers = lent }
 
 -- ---- both cases
-module _ (o : Opening) (lent : Buffers) (es : List Edit) where
-  listed-refused : (why : Refusal) → openedAs o lent .answer ≡ answer (Refused why) → listed o lent es ≡ undone lent
+module _ (o : Opening) (levels : List ℤ) (lent : Buffers) (es : List Edit) where
+  listed-refused : (heldOpened o levels lent .answer .number ≡ 0 → ⊥) → listed o levels lent es ≡ undone levels lent
   unfolding listed
-  listed-refused why op = rw (ap (λ (x : Outcome (Unit {0})). eqb (x .number) 0) op ∙ number-refused why)
+  listed-refused no-zero = rw (ne-eqb (heldOpened o levels lent .answer .number) 0 no-zero)
 
-  listed-done : openedAs o lent .answer .number ≡ 0 → listed o lent es ≡ historyRan o lent es
+  listed-done : heldOpened o levels lent .answer .number ≡ 0 → listed o levels lent es ≡ historyRan o levels lent es
   unfolding listed
   listed-done e = rw e
 
-  history-answers : historyRan o lent es .answers ≡ answersTo o es
-  unfolding historyRan
-  history-answers = refl
-
-  pub lists-done : (ns rs cs : List ℕ) (r : Listed) (d g e : List ℤ) (ns′ rs′ cs′ : List ℕ) → openedAs o lent .answer ≡ answer Done
-      → r .answer ≡ Done → r .edits ≡ length es → RunsFrom (ran o lent es) ns rs cs (r .block) d g e ns′ rs′ cs′ → Lists o lent es ns rs cs r (buffers d g e) ns′ rs′ cs′
-  lists-done ns rs cs r d g e ns′ rs′ cs′ op a made w =
-      let zero : openedAs o lent .answer .number ≡ 0 = ap (λ (x : Outcome (Unit {0})). x .number) op in
-      let is : ran o lent es ≡ listed o lent es = ran-is-history o lent es zero ∙ sym (listed-done zero) in
-      record {
-        answered = ap answer a ∙ sym op;
-        edits = made ∙ sym (ap length (ap (λ (x : Ran). x .answers) (listed-done zero) ∙ history-answers) ∙ answers-length o es);
-        block = w .block-is ∙ ap (λ (x : Ran). x .block) is;
-        buffers = w .buffers-are ∙ ap (λ (x : Ran). x .buffers) is;
-        numbers-are = w .numbers-are ∙ ap (λ (x : Ran). sets ns 0 (numbersOf (x .answers))) is;
-        rows-are = w .rows-are ∙ ap (λ (x : Ran). sets rs 0 (rowsOf (x .answers))) is;
-        columns-are = w .columns-are ∙ ap (λ (x : Ran). sets cs 0 (columnsOf (x .answers))) is;
-      }
-
-  pub lists-refused : (ns rs cs : List ℕ) (r : Listed) (g e : List ℤ) (why : Refusal) → openedAs o lent .answer ≡ answer (Refused why)
-      → r .answer ≡ Refused why → r .edits ≡ 0 → r .block ≡ openedAs o lent .block → g ≡ openedAs o lent .buffers .inter → e ≡ openedAs o lent .buffers .res
-      → Lists o lent es ns rs cs r (buffers (lent .coeff) g e) ns rs cs
-  lists-refused ns rs cs r g e why op a made b hg he =
-      let none : listed o lent es ≡ undone lent = listed-refused why op in
-      let stop = opened-stopped o lent why op in
-      record {
-        answered = ap answer a ∙ sym op;
-        edits = made ∙ sym (ap (λ (x : Ran). length (x .answers)) none);
-        block = b ∙ stop .0 ∙ sym (ap (λ (x : Ran). x .block) none);
-        buffers = same (hg ∙ ap (λ (x : Buffers). x .inter) (stop .1)) (he ∙ ap (λ (x : Buffers). x .res) (stop .1)) ∙ sym (ap (λ (x : Ran). x .buffers) none);
-        numbers-are = sym (ap (λ (x : Ran). sets ns 0 (numbersOf (x .answers))) none);
-        rows-are = sym (ap (λ (x : Ran). sets rs 0 (rowsOf (x .answers))) none);
-        columns-are = sym (ap (λ (x : Ran). sets cs 0 (columnsOf (x .answers))) none);
-      }
+  -- the run after an opening is what the call is to hand back
+  after-is : (a : CountAnswer) (block : EditedBlock) (d g e : List ℤ) → LevelOpens (heldOpened o levels lent) a block d g e → ranAfter a block levels (buffers d g e) es ≡ listed o levels lent es
+  unfolding ranAfter
+  after-is (Limited k) block d g e h =
+      let zero : heldOpened o levels lent .answer .number ≡ 0 = ap (λ (x : Outcome ℕ). x .number) (sym (h .answered)) in
+      ran-from-opening o levels lent es (Limited k) block d g e h ∙ ran-is-history o levels lent es zero ∙ sym (listed-done zero)
+  after-is (Refused why) block d g e h =
+      let is : number why ≡ heldOpened o levels lent .answer .number = ap (λ (x : Outcome ℕ). x .number) (h .answered) in
+      let no-zero : heldOpened o levels lent .answer .number ≡ 0 → ⊥ = λ z. omega (arith, number-least why, is, z) in
+      let stop = held-stopped o levels lent no-zero in
+      ap₂ (λ (b : EditedBlock) (now : Buffers). let r : Ran = record { answers = []; block = b; levels = levels; buffers = now } in r) (h .block ∙ stop .0) (written ∙ stop .1)
+      ∙ sym (listed-refused no-zero)
     where
-      same : g ≡ lent .inter → e ≡ lent .res → buffers (lent .coeff) g e ≡ lent
-      same p q k = record { coeff = lent .coeff; inter = p k; res = q k }
+      written : buffers d g e ≡ heldOpened o levels lent .buffers
+      written k = record { coeff = h .coeff k; inter = h .inter k; res = h .res k }
+
+  pub lists-after : (s : Slices) (r : Listed) (a : CountAnswer) (block : EditedBlock) (d₀ g₀ e₀ ls d g e : List ℤ) (told : Slices)
+      → LevelOpens (heldOpened o levels lent) a block d₀ g₀ e₀ → RunsAfter a block levels (buffers d₀ g₀ e₀) es s r ls d g e told
+      → Lists o levels lent es s r ls (buffers d g e) told
+  lists-after s r a block d₀ g₀ e₀ ls d g e told h w =
+      let is = after-is a block d₀ g₀ e₀ h in
+      let run = w .runs in
+      record {
+        answered = ap countOutcome (w .answered) ∙ h .answered;
+        edits = w .edits ∙ ap (λ (x : Ran). length (x .answers)) is;
+        block = run .block-is ∙ ap (λ (x : Ran). x .block) is;
+        levels-are = run .levels-are ∙ ap (λ (x : Ran). x .levels) is;
+        buffers = run .buffers-are ∙ ap (λ (x : Ran). x .buffers) is;
+        told-are = run .told-are ∙ ap (λ (x : Ran). put s 0 (x .answers)) is;
+      }
+
+-- ---- the edits after an opening, by its answer
+module _ (block : EditedBlock) (levels : List ℤ) (lent : Buffers) (es : List Edit) (s : Slices) where
+  pub runs-none : (given : CountAnswer) (why : Refusal) → given ≡ Refused why
+      → RunsAfter given block levels lent es s (record { answer = Refused why; block = block; edits = 0 }) levels (lent .coeff) (lent .inter) (lent .res) s
+  runs-none given why told = subst (λ (a : CountAnswer). RunsAfter a block levels lent es s (record { answer = Refused why; block = block; edits = 0 }) levels (lent .coeff) (lent .inter) (lent .res) s) (sym told) none
+    where
+      none : RunsAfter (Refused why) block levels lent es s (record { answer = Refused why; block = block; edits = 0 }) levels (lent .coeff) (lent .inter) (lent .res) s
+      none = unfold ranAfter in record { answered = refl; edits = refl; runs = record { block-is = refl; levels-are = refl; buffers-are = refl; told-are = refl } }
+
+  pub runs-all : (given : CountAnswer) (k count : ℕ) (last : EditedBlock) (ls d g e : List ℤ) (told : Slices) → given ≡ Limited k → count ≡ length es → RunsFrom (ranFrom block levels lent es) s last ls d g e told
+      → RunsAfter given block levels lent es s (record { answer = given; block = last; edits = count }) ls d g e told
+  runs-all given k count last ls d g e told limited made w = subst (λ (a : CountAnswer). RunsAfter a block levels lent es s (record { answer = a; block = last; edits = count }) ls d g e told) (sym limited) all
+    where
+      all : RunsAfter (Limited k) block levels lent es s (record { answer = Limited k; block = last; edits = count }) ls d g e told
+      all = unfold ranAfter in record { answered = refl; edits = made ∙ sym (ran-length es block levels lent); runs = w }

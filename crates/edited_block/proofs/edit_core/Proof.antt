@@ -1,6 +1,7 @@
 -- `edited_block::edit_core` meets its contract: the refusals are the ladder's, then the place and the value, and what passes them meets what
 -- the stages ask.
 use mathlib.Core.Path.{_≡_, refl, sym, ap, ap₂, _∙_}
+use mathlib.Core.Bool.{false}
 use Prim.Native.Nat.{ℕ, _+_, _*_, _<_}
 use native.Mathlib.Omega.{arith}
 use borrow.Author.Needs.{needs}
@@ -13,14 +14,14 @@ use mir.Syntax.{w32}
 use mir.Val.{toZ, ofZ}
 use Rattle.h265.specs.Range.{outsideRange}
 use Rattle.h265.proofs.RangeLaws.{size-bound}
-use Rattle.refusal.specs.declared.Refusal.the-variants.{PlaceOutside}
+use Rattle.refusal.specs.declared.Refusal.the-variants.{PlaceOutside, WayMismatched}
 use Rattle.refusal.specs.Outcome.{answer}
 use Rattle.coefficients.specs.Outside.{outsideRefusal}
 use Rattle.edited_block.specs.Columns.{columnCount}
 use Rattle.edited_block.specs.Edit.{Buffers, buffers, stopped, editedBuffers, withColumns, BlockAsk}
-use Rattle.edited_block.specs.History.{rangeOf}
+use Rattle.edited_block.specs.Opening.{rangeOf}
 use Rattle.edited_block.proofs.OpeningLaws.{Fits}
-use Rattle.edited_block.proofs.LadderLaws.{ladder-passed, fits-ask, openingOf, edit-refused, edit-place, edit-outside, edit-done, edits-stopped}
+use Rattle.edited_block.proofs.LadderLaws.{ladder-passed, fits-ask, openingOf, edit-refused, edit-way, edit-place, edit-outside, edit-done, edits-stopped}
 use Rattle.edited_block.proofs.edit_core.Statement.{statement}
 use Rattle.edited_block.proofs.edit_core.Tie as tie
 
@@ -55,32 +56,42 @@ ask c = fits-ask (openingOf (c .before .before .before .args .block)) (lent (c .
 returns-2 : tie.Need-returns-2
 returns-2 c =
     let s = c .before .before .before .before in
-    edits-stopped (s .args .block) (lent s) (s .args .row) (s .args .column) (s .args .value) PlaceOutside
-    (edit-place (s .args .block) (lent s) (s .args .row) (s .args .column) (s .args .value) (fits (c .before)) (rw (le-leb (s .args .block .size) (s .args .row) (c .if1 .taken))))
+    edits-stopped (s .args .block) (lent s) (s .args .row) (s .args .column) (s .args .value) WayMismatched
+    (edit-way (s .args .block) (lent s) (s .args .row) (s .args .column) (s .args .value) (fits (c .before)) (c .if1 .taken))
+
+-- the block was opened on coefficients
+way : (c : tie.Else1) → c .before .before .before .before .args .block .source .levels ≡ false
+way c = c .if1 .left
 
 returns-3 : tie.Need-returns-3
 returns-3 c =
     let s = c .before .before .before .before .before in
     edits-stopped (s .args .block) (lent s) (s .args .row) (s .args .column) (s .args .value) PlaceOutside
-    (edit-place (s .args .block) (lent s) (s .args .row) (s .args .column) (s .args .value) (fits (c .before .before))
-    (rw (lt-leb (s .args .block .size) (s .args .row) (c .before .if1 .left), le-leb (s .args .block .size) (s .args .column) (c .if2 .taken))))
+    (edit-place (s .args .block) (lent s) (s .args .row) (s .args .column) (s .args .value) (fits (c .before .before)) (way (c .before)) (rw (le-leb (s .args .block .size) (s .args .row) (c .if2 .taken))))
+
+returns-4 : tie.Need-returns-4
+returns-4 c =
+    let s = c .before .before .before .before .before .before in
+    edits-stopped (s .args .block) (lent s) (s .args .row) (s .args .column) (s .args .value) PlaceOutside
+    (edit-place (s .args .block) (lent s) (s .args .row) (s .args .column) (s .args .value) (fits (c .before .before .before)) (way (c .before .before))
+    (rw (lt-leb (s .args .block .size) (s .args .row) (c .before .if2 .left), le-leb (s .args .block .size) (s .args .column) (c .if3 .taken))))
 
 transform-range-requires : tie.Need-transform-range-requires
-transform-range-requires c κs = ask (c .before .before) .depth .1
+transform-range-requires c κs = ask (c .before .before .before) .depth .1
 
 is-outside-requires : tie.Need-is-outside-requires
-is-outside-requires c κs = rw (c .transform-range .ensures) (ask (c .before .before .before) .range .1)
+is-outside-requires c κs = rw (c .transform-range .ensures) (ask (c .before .before .before .before) .range .1)
 
 -- the place lies in the block
-in-block : (c : tie.Else2) → c .before .before .before .before .before .args .row * c .before .before .before .before .before .args .block .size + c .before .before .before .before .before .args .column < c .before .before .before .before .before .args .block .size * c .before .before .before .before .before .args .block .size
+in-block : (c : tie.Else3) → c .before .before .before .before .before .before .args .row * c .before .before .before .before .before .before .args .block .size + c .before .before .before .before .before .before .args .column < c .before .before .before .before .before .before .args .block .size * c .before .before .before .before .before .before .args .block .size
 in-block c =
-    let s = c .before .before .before .before .before in
-    digits-lt {q = s .args .row} {m = s .args .block .size} {r = s .args .column} {c = s .args .block .size} (c .before .if1 .left) (c .if2 .left)
+    let s = c .before .before .before .before .before .before in
+    digits-lt {q = s .args .row} {m = s .args .block .size} {r = s .args .column} {c = s .args .block .size} (c .before .if2 .left) (c .if3 .left)
 
 -- what the test says, of the value as given and for the range as defined
-outside-is : (c : tie.After-is-outside) → outsideRange (rangeOf (openingOf (c .before .before .before .before .before .before .before .args .block))) (c .before .before .before .before .before .before .before .args .value) ≡ c .is-outside .result
+outside-is : (c : tie.After-is-outside) → outsideRange (rangeOf (openingOf (c .before .before .before .before .before .before .before .before .args .block))) (c .before .before .before .before .before .before .before .before .args .value) ≡ c .is-outside .result
 outside-is c =
-    let s = c .before .before .before .before .before .before .before in
+    let s = c .before .before .before .before .before .before .before .before in
     sym (c .is-outside .ensures ∙ ap (λ (v : ℤ). outsideRange (c .before .transform-range .result) v) (toZ-ofZ (s .fits .value))
     ∙ ap (λ (k : ℕ). outsideRange k (s .args .value)) (c .before .transform-range .ensures))
 
@@ -88,37 +99,37 @@ outside-refusal-requires : tie.Need-outside-refusal-requires
 outside-refusal-requires c κs =
     let r = c .before .before in
     let d = r .before in
-    let a = ask (d .before .before) in
-    let b = size-bound (d .before .before .before .before .before .args .block .size) (a .size) in
-    (rw (r .transform-range .ensures) (a .range .1), omega (arith, d .before .if1 .left, b), omega (arith, d .if2 .left, b))
+    let a = ask (d .before .before .before) in
+    let b = size-bound (d .before .before .before .before .before .before .args .block .size) (a .size) in
+    (rw (r .transform-range .ensures) (a .range .1), omega (arith, d .before .if2 .left, b), omega (arith, d .if3 .left, b))
 
 -- the refusal, of the value as given and for the range as defined
-refusal-is : (c : tie.After-outside-refusal) → outsideRefusal (rangeOf (openingOf (c .before .before .before .before .before .before .before .before .before .args .block))) (c .before .before .before .before .before .before .before .before .before .args .value) (c .before .before .before .before .before .before .before .before .before .args .row) (c .before .before .before .before .before .before .before .before .before .args .column) ≡ c .outside-refusal .result
+refusal-is : (c : tie.After-outside-refusal) → outsideRefusal (rangeOf (openingOf (c .before .before .before .before .before .before .before .before .before .before .args .block))) (c .before .before .before .before .before .before .before .before .before .before .args .value) (c .before .before .before .before .before .before .before .before .before .before .args .row) (c .before .before .before .before .before .before .before .before .before .before .args .column) ≡ c .outside-refusal .result
 refusal-is c =
     let r = c .before .before .before in
-    let s = r .before .before .before .before .before .before in
+    let s = r .before .before .before .before .before .before .before in
     sym (c .outside-refusal .ensures ∙ ap₂ (λ (k : ℕ) (v : ℤ). outsideRefusal k v (s .args .row) (s .args .column)) (r .transform-range .ensures) (toZ-ofZ (s .fits .value)))
 
-returns-4 : tie.Need-returns-4
-returns-4 c =
+returns-5 : tie.Need-returns-5
+returns-5 c =
     let o = c .before .before in
     let d = o .before .before in
-    let s = d .before .before .before .before .before in
+    let s = d .before .before .before .before .before .before in
     edits-stopped (s .args .block) (lent s) (s .args .row) (s .args .column) (s .args .value) (c .outside-refusal .result)
-    (edit-outside (s .args .block) (lent s) (s .args .row) (s .args .column) (s .args .value) (fits (d .before .before)) (d .before .if1 .left) (d .if2 .left) (outside-is o ∙ c .before .if3 .taken)
+    (edit-outside (s .args .block) (lent s) (s .args .row) (s .args .column) (s .args .value) (fits (d .before .before .before)) (way (d .before .before)) (d .before .if2 .left) (d .if3 .left) (outside-is o ∙ c .before .if4 .taken)
     ∙ ap (stopped (s .args .block) (lent s)) (refusal-is c))
 
 edit-stages-requires : tie.Need-edit-stages-requires
 edit-stages-requires c κs =
     let r = c .before .before .before .before .before in
     let d = r .before in
-    (rw (r .transform-range .ensures) (ask (d .before .before)), d .before .if1 .left, d .if2 .left)
+    (rw (r .transform-range .ensures) (ask (d .before .before .before)), d .before .if2 .left, d .if3 .left)
 
 column-count-requires : tie.Need-column-count-requires
 column-count-requires c κs =
     let g = c .before .before .before .before in
     let d = g .before .before .before .before .before .before .before in
-    let a = ask (d .before .before) in
+    let a = ask (d .before .before .before) in
     (a .size, rw (g .edit-stages .ensures .0) (simp length-set (a .coeff)))
 
 same-length : tie.Need-same-length
@@ -130,15 +141,15 @@ same-length-2 c = search needs
 same-length-3 : tie.Need-same-length-3
 same-length-3 c = search needs
 
-returns-5 : tie.Need-returns-5
+returns-6 : tie.Need-returns-6
 unfolding editedBuffers
-returns-5 c =
+returns-6 c =
     let g = c .before .before .before .before .before in
     let o = g .before .before .before .before in
     let r = o .before .before in
     let d = r .before in
-    let s = d .before .before .before .before .before in
-    let e = edit-done (s .args .block) (lent s) (s .args .row) (s .args .column) (s .args .value) (fits (d .before .before)) (d .before .if1 .left) (d .if2 .left) (outside-is (o .before) ∙ o .if3 .left) in
+    let s = d .before .before .before .before .before .before in
+    let e = edit-done (s .args .block) (lent s) (s .args .row) (s .args .column) (s .args .value) (fits (d .before .before .before)) (way (d .before .before)) (d .before .if2 .left) (d .if3 .left) (outside-is (o .before) ∙ o .if4 .left) in
     let z : toZ w32 (ofZ w32 (s .args .value)) ≡ s .args .value = toZ-ofZ (s .fits .value) in
     let staged = g .edit-stages .ensures .1 in
     let after : ℕ → ℤ → Buffers = λ k v. editedBuffers (s .args .block .kind) (s .args .block .size) (s .args .block .depth) k (lent s) (s .args .row) (s .args .column) v in
@@ -162,13 +173,14 @@ edit-core-spec =
     enum-told
     returns-2
     returns-3
+    returns-4
     transform-range-requires
     is-outside-requires
     outside-refusal-requires
-    returns-4
+    returns-5
     edit-stages-requires
     column-count-requires
     same-length
     same-length-2
     same-length-3
-    returns-5)
+    returns-6)

@@ -9,15 +9,15 @@ use lib.ListN.{length}
 use Rattle.integers.specs.Lists.{overwrite}
 use Rattle.h265.specs.Transform.{rowOrder}
 use Rattle.refusal.specs.Outcome.{answer}
-use Rattle.edited_block.specs.Edit.{buffers, residualOf, BlockAsk}
-use Rattle.edited_block.specs.History.{Opening, rangeOf}
+use Rattle.edited_block.specs.Edit.{zeroSource, residualOf, BlockAsk}
+use Rattle.edited_block.specs.Opening.{Opening, rangeOf}
 use Rattle.edited_block.proofs.OpeningLaws.{Fits}
-use Rattle.edited_block.proofs.LadderLaws.{ladder-passed, fits-ask, refresh-refused, refresh-done}
+use Rattle.edited_block.proofs.LadderLaws.{ladder-passed, fits-ask, staged, refresh-refused, refresh-done}
 use Rattle.edited_block.proofs.refresh_residual.Statement.{statement}
 use Rattle.edited_block.proofs.refresh_residual.Tie as tie
 
 abbrev opening : tie.Start → Opening
-opening s = record { kind = s .args .kind; size = s .args .n; depth = s .args .bit-depth; extended = s .args .extended-precision }
+opening s = record { kind = s .args .kind; size = s .args .n; depth = s .args .bit-depth; extended = s .args .extended-precision; source = zeroSource }
 
 block-refusal-requires : tie.Need-block-refusal-requires
 block-refusal-requires c κs = search needs
@@ -36,15 +36,15 @@ enum-told : tie.Need-enum-told
 enum-told c = search needs
 
 -- no condition of the ladder holds
-fits : (c : tie.After-enum-told) → Fits (opening (c .before .before .before)) (buffers (c .before .before .before .args .inter .now) (c .before .before .before .args .residual .now) (c .before .before .before .args .residual .now))
+fits : (c : tie.After-enum-told) → Fits (opening (c .before .before .before)) (staged (c .before .before .before .args .inter .now) (c .before .before .before .args .residual .now))
 fits c =
     let s = c .before .before .before in
-    ladder-passed (opening s) (buffers (s .args .inter .now) (s .args .residual .now) (s .args .residual .now)) (ap answer (sym (c .enum-told .given .1)) ∙ c .before .before .block-refusal .ensures)
+    ladder-passed (opening s) (staged (s .args .inter .now) (s .args .residual .now)) (ap answer (sym (c .enum-told .given .1)) ∙ c .before .before .block-refusal .ensures)
 
-ask : (c : tie.After-enum-told) → BlockAsk (c .before .before .before .args .kind) (c .before .before .before .args .n) (c .before .before .before .args .bit-depth) (rangeOf (opening (c .before .before .before))) (length (c .before .before .before .args .inter .now)) (length (c .before .before .before .args .residual .now)) (length (c .before .before .before .args .residual .now))
+ask : (c : tie.After-enum-told) → BlockAsk (c .before .before .before .args .kind) (c .before .before .before .args .n) (c .before .before .before .args .bit-depth) (rangeOf (opening (c .before .before .before))) 1024 (length (c .before .before .before .args .inter .now)) (length (c .before .before .before .args .residual .now))
 ask c =
     let s = c .before .before .before in
-    fits-ask (opening s) (buffers (s .args .inter .now) (s .args .residual .now) (s .args .residual .now)) (fits c)
+    fits-ask (opening s) (staged (s .args .inter .now) (s .args .residual .now)) (fits c)
 
 transform-range-requires : tie.Need-transform-range-requires
 transform-range-requires c κs = ask c .depth .1
@@ -53,7 +53,7 @@ residual-of-requires : tie.Need-residual-of-requires
 residual-of-requires c κs =
     let a = ask (c .before .before) in
     rw (c .before .transform-range .ensures) (
-      record { size = a .size; dst = a .dst; least = a .range .0; most = a .range .1; source = a .coeff; room = a .res },
+      record { size = a .size; dst = a .dst; least = a .range .0; most = a .range .1; source = a .inter; room = a .res },
       record { least = a .depth .0; most = a .depth .1; above = a .range .2; below = omega (arith, a .range .3) },
     )
 

@@ -1,8 +1,8 @@
 -- `edited_list::answer_column` meets its contract: a refusal's column is the answer's.
 use mathlib.Core.Path.{sym, ap, _∙_}
 use borrow.Author.Needs.{needs}
-use Rattle.refusal.specs.declared.Answer.{Answer}
-use Rattle.refusal.specs.Outcome.{answer}
+use Rattle.level_block.specs.declared.LimitsAnswer.{LimitsAnswer}
+use Rattle.level_block.specs.Level.{limitsOutcome}
 use Rattle.edited_list.proofs.answer_column.Statement.{statement}
 use Rattle.edited_list.proofs.answer_column.Tie as tie
 
@@ -19,7 +19,7 @@ returns : tie.Need-returns
 returns c = search needs
 
 returns-2 : tie.Need-returns-2
-returns-2 c = c .column .ensures ∙ sym (ap (λ (a : Answer). answer a .column) (c .before .before .given .given .1))
+returns-2 c = c .column .ensures ∙ sym (ap (λ (a : LimitsAnswer). limitsOutcome a .column) (c .before .before .given .given .1))
 
 pub answer-column-spec : {M : Type 1} → statement M
 answer-column-spec = tie.close (tie.spec enum-told enum-known-given column-requires returns returns-2)

@@ -1,8 +1,8 @@
 -- `edited_list::answer_number` meets its contract: a refusal's number is the answer's.
 use mathlib.Core.Path.{sym, ap, _∙_}
 use borrow.Author.Needs.{needs}
-use Rattle.refusal.specs.declared.Answer.{Answer}
-use Rattle.refusal.specs.Outcome.{answer}
+use Rattle.level_block.specs.declared.LimitsAnswer.{LimitsAnswer}
+use Rattle.level_block.specs.Level.{limitsOutcome}
 use Rattle.edited_list.proofs.answer_number.Statement.{statement}
 use Rattle.edited_list.proofs.answer_number.Tie as tie
 
@@ -19,7 +19,7 @@ returns : tie.Need-returns
 returns c = search needs
 
 returns-2 : tie.Need-returns-2
-returns-2 c = c .number .ensures ∙ sym (ap (λ (a : Answer). answer a .number) (c .before .before .given .given .1))
+returns-2 c = c .number .ensures ∙ sym (ap (λ (a : LimitsAnswer). limitsOutcome a .number) (c .before .before .given .given .1))
 
 pub answer-number-spec : {M : Type 1} → statement M
 answer-number-spec = tie.close (tie.spec enum-told enum-known-given number-requires returns returns-2)

@@ -1,8 +1,8 @@
 -- `edited_list::answer_row` meets its contract: a refusal's row is the answer's.
 use mathlib.Core.Path.{sym, ap, _∙_}
 use borrow.Author.Needs.{needs}
-use Rattle.refusal.specs.declared.Answer.{Answer}
-use Rattle.refusal.specs.Outcome.{answer}
+use Rattle.level_block.specs.declared.LimitsAnswer.{LimitsAnswer}
+use Rattle.level_block.specs.Level.{limitsOutcome}
 use Rattle.edited_list.proofs.answer_row.Statement.{statement}
 use Rattle.edited_list.proofs.answer_row.Tie as tie
 
@@ -19,7 +19,7 @@ returns : tie.Need-returns
 returns c = search needs
 
 returns-2 : tie.Need-returns-2
-returns-2 c = c .row .ensures ∙ sym (ap (λ (a : Answer). answer a .row) (c .before .before .given .given .1))
+returns-2 c = c .row .ensures ∙ sym (ap (λ (a : LimitsAnswer). limitsOutcome a .row) (c .before .before .given .given .1))
 
 pub answer-row-spec : {M : Type 1} → statement M
 answer-row-spec = tie.close (tie.spec enum-told enum-known-given row-requires returns returns-2)

@@ -9,112 +9,101 @@ use mir.Syntax.{w32}
 use mir.Val.{toZ, ofZ}
 use mir.ValLaws.{toZ-ofZ}
 use Rattle.edited_block.specs.Edit.{buffers}
-use Rattle.edited_list.specs.Listed.{editsOf, editAt}
+use Rattle.edited_list.specs.Listed.{slices, editsOf, editAt}
 use Rattle.edited_list.proofs.GoingLaws.{Going, going-begins, going-on, going-ends, editsOf-length, editsOf-getD}
 use Rattle.edited_list.proofs.edit_each.Statement.{statement}
 use Rattle.edited_list.proofs.edit_each.Tie as tie
 
 abbrev Inv-loop : tie.InvT-loop
-Inv-loop coeff₀ inter₀ residual₀ rows columns values numbers₀ named₀ across₀ count b₀ i₀ coeff inter residual numbers named across b i =
-    Going b₀ (buffers coeff₀ inter₀ residual₀) (editsOf count rows columns values) numbers₀ named₀ across₀ coeff inter residual numbers named across b i
+Inv-loop levels₀ coeff₀ inter₀ residual₀ rows columns values ways numbers₀ named₀ across₀ limits₀ count b₀ i₀ levels coeff inter residual numbers named across limits b i =
+    Going b₀ levels₀ (buffers coeff₀ inter₀ residual₀) (editsOf count rows columns values ways) (slices numbers₀ named₀ across₀ limits₀) levels coeff inter residual (slices numbers named across limits) b i
 
 abbrev μ-loop : tie.MeasureT-loop
-μ-loop coeff₀ inter₀ residual₀ rows columns values numbers₀ named₀ across₀ count b₀ i₀ coeff inter residual numbers named across b i =
+μ-loop levels₀ coeff₀ inter₀ residual₀ rows columns values ways numbers₀ named₀ across₀ limits₀ count b₀ i₀ levels coeff inter residual numbers named across limits b i =
     count - i
 
 loop-holds : tie.Need-loop-holds Inv-loop μ-loop
-loop-holds c = going-begins _ _ _ _ _ _
+loop-holds c = going-begins _ _ _ _ _
 
-mul-edit-by-value : tie.Need-mul-edit-by-value Inv-loop μ-loop
-mul-edit-by-value c = omega arith
+mul-edit-one : tie.Need-mul-edit-one Inv-loop μ-loop
+mul-edit-one c = omega arith
 
-shared-slice-read-edit-by-value : tie.Need-shared-slice-read-edit-by-value Inv-loop μ-loop
-shared-slice-read-edit-by-value c = let ask = c .before .before .before .before .before .before .before .before .before .before .before .pre in omega (arith, ask .rows-long)
+shared-slice-read-edit-one : tie.Need-shared-slice-read-edit-one Inv-loop μ-loop
+shared-slice-read-edit-one c = omega (arith, c .before .before .before .before .before .before .before .before .before .before .before .before .before .before .pre .rows-long)
 
-mul-edit-by-value-2 : tie.Need-mul-edit-by-value-2 Inv-loop μ-loop
-mul-edit-by-value-2 c = omega arith
+mul-edit-one-2 : tie.Need-mul-edit-one-2 Inv-loop μ-loop
+mul-edit-one-2 c = omega arith
 
-shared-slice-read-edit-by-value-2 : tie.Need-shared-slice-read-edit-by-value-2 Inv-loop μ-loop
-shared-slice-read-edit-by-value-2 c = let ask = c .before .before .before .before .before .before .before .before .before .before .before .before .pre in omega (arith, ask .columns-long)
+shared-slice-read-edit-one-2 : tie.Need-shared-slice-read-edit-one-2 Inv-loop μ-loop
+shared-slice-read-edit-one-2 c = omega (arith, c .before .before .before .before .before .before .before .before .before .before .before .before .before .before .before .pre .columns-long)
 
-mul-edit-by-value-3 : tie.Need-mul-edit-by-value-3 Inv-loop μ-loop
-mul-edit-by-value-3 c = omega arith
+mul-edit-one-3 : tie.Need-mul-edit-one-3 Inv-loop μ-loop
+mul-edit-one-3 c = omega arith
 
-shared-slice-copy-out-edit-by-value : tie.Need-shared-slice-copy-out-edit-by-value Inv-loop μ-loop
-shared-slice-copy-out-edit-by-value c = let ask = c .before .before .before .before .before .before .before .before .before .before .before .before .pre in omega (arith, ask .values-long)
+shared-slice-copy-out-edit-one : tie.Need-shared-slice-copy-out-edit-one Inv-loop μ-loop
+shared-slice-copy-out-edit-one c = omega (arith, c .before .before .before .before .before .before .before .before .before .before .before .before .before .before .before .pre .values-long)
 
-edit-by-value-requires : tie.Need-edit-by-value-requires Inv-loop μ-loop
-edit-by-value-requires c κs = search needs
+shared-slice-read-edit-one-3 : tie.Need-shared-slice-read-edit-one-3 Inv-loop μ-loop
+shared-slice-read-edit-one-3 c = omega (arith, c .before .before .before .before .before .before .before .before .before .before .before .before .before .before .before .before .before .pre .ways-long)
 
-answer-number-requires : tie.Need-answer-number-requires Inv-loop μ-loop
-answer-number-requires c κs = search needs
+edit-one-requires : tie.Need-edit-one-requires Inv-loop μ-loop
+edit-one-requires c κs = search needs
 
-slice-write-numbers : tie.Need-slice-write-numbers Inv-loop μ-loop
-slice-write-numbers c =
-    let at = c .before .before .before .before .before .before .before .before .before .before .before .before in
-    let s = at .before .before .before .before .before .before in
-    let same : length (at .loop .numbers) ≡ length (s .args .numbers .now) = at .loop .inv .numbers-long in
-    omega (arith, c .before .before .before .before .before .before .before .before .before .before .before .loop-test .taken, s .pre .numbers-long, same)
-
-answer-row-requires : tie.Need-answer-row-requires Inv-loop μ-loop
-answer-row-requires c κs = search needs
-
-slice-write-named : tie.Need-slice-write-named Inv-loop μ-loop
-slice-write-named c =
-    let at = c .before .before .before .before .before .before .before .before .before .before .before .before .before in
-    let s = at .before .before .before .before .before .before in
-    let same : length (at .loop .named) ≡ length (s .args .named .now) = at .loop .inv .rows-long in
-    omega (arith, c .before .before .before .before .before .before .before .before .before .before .before .before .loop-test .taken, s .pre .named-long, same)
-
-answer-column-requires : tie.Need-answer-column-requires Inv-loop μ-loop
-answer-column-requires c κs = search needs
-
-slice-write-across : tie.Need-slice-write-across Inv-loop μ-loop
-slice-write-across c =
-    let at = c .before .before .before .before .before .before .before .before .before .before .before .before .before .before in
-    let s = at .before .before .before .before .before .before in
-    let same : length (at .loop .across) ≡ length (s .args .across .now) = at .loop .inv .columns-long in
-    omega (arith, c .before .before .before .before .before .before .before .before .before .before .before .before .before .loop-test .taken, s .pre .across-long, same)
+put-answer-requires : tie.Need-put-answer-requires Inv-loop μ-loop
+put-answer-requires c κs =
+    let test = c .before .before .before .before .before .before .before .before .before .before .before .before .before .before .before .before .before in
+    let going = test .before .loop .inv in
+    let ask = test .before .before .before .before .before .before .before .before .before .pre in
+    let h = test .loop-test .taken in
+    let ns : length (test .before .loop .numbers) ≡ length (test .before .before .before .before .before .before .before .before .before .args .numbers .now) = going .numbers-long in
+    let rs : length (test .before .loop .named) ≡ length (test .before .before .before .before .before .before .before .before .before .args .named .now) = going .named-long in
+    let cs : length (test .before .loop .across) ≡ length (test .before .before .before .before .before .before .before .before .before .args .across .now) = going .across-long in
+    let ks : length (test .before .loop .limits) ≡ length (test .before .before .before .before .before .before .before .before .before .args .limits .now) = going .limits-long in
+    (omega (arith, h, ask .numbers-long, ns), omega (arith, h, ask .named-long, rs), omega (arith, h, ask .across-long, cs), omega (arith, h, ask .limits-long, ks))
 
 add-i : tie.Need-add-i Inv-loop μ-loop
-add-i c = omega arith
+add-i c = record { fits = omega (arith, c .before .before .before .before .before .before .before .before .before .before .before .before .before .before .before .before .before .before .before .before .before .before .before .before .before .before .before .before .before .before .before .before .before .before .before .before .fits .count .fits, c .before .before .before .before .before .before .before .before .before .before .before .before .before .before .before .before .before .before .before .before .before .before .before .before .before .before .before .loop-test .taken) }
 
 loop-less : tie.Need-loop-less Inv-loop μ-loop
-loop-less c = omega arith
+loop-less c = omega (arith, c .before .before .before .before .before .before .before .before .before .before .before .before .before .before .before .before .before .before .before .before .before .before .before .before .before .before .before .loop-test .taken)
 
 loop-again : tie.Need-loop-again Inv-loop μ-loop
 loop-again c =
-    let called = c .before .before .before .before .before .before .before in
-    let r = called .edit-by-value in
-    let at = called .before .before .before .before .before .before .before .before in
-    let s = at .before .before .before .before .before .before in
-    let a = s .args in
-    let h = called .before .before .before .before .before .before .before .loop-test .taken in
+    let called = c .before .before .before .before .before .before .before .before .before .before .before .before .before .before .before .before .before .before in
+    let r = called .edit-one in
+    let at = called .before .before .before .before .before .before .before .before .before .before in
+    let a = at .before .before .before .before .before .before .before .before .args in
+    let h = called .before .before .before .before .before .before .before .before .before .loop-test .taken in
     let z = getD (a .values .now) (at .loop .i) (pos 0) in
-    let v : toZ w32 (ofZ w32 z) ≡ z = toZ-ofZ w32 z (record { sfits = called .before .edit-by-value-arg4 .given }) in
-    going-on (at .loop .inv) (editAt (a .rows .now) (a .columns .now) (a .values .now) (at .loop .i))
-    (rw editsOf-length h) (editsOf-getD (a .count) (a .rows .now) (a .columns .now) (a .values .now) (at .loop .i) h)
-    (r .result .answer) (r .result .block) (r .last .1 .0) (r .last .1 .1 .0) (r .last .1 .1 .1 .0) (rw v at (r .ensures))
-    (r .kept .1 .0) (r .kept .1 .1 .0) (r .kept .1 .1 .1 .0)
-    (c .before .before .before .answer-number .result) (c .before .before .answer-row .result) (c .before .answer-column .result) (c .before .before .before .answer-number .ensures) (c .before .before .answer-row .ensures) (c .before .answer-column .ensures)
+    let v : toZ w32 (ofZ w32 z) ≡ z = toZ-ofZ w32 z (record { sfits = called .before .before .edit-one-arg5 .given }) in
+    going-on (at .loop .inv) (editAt (a .rows .now) (a .columns .now) (a .values .now) (a .ways .now) (at .loop .i))
+    (rw editsOf-length h) (editsOf-getD (a .count) (a .rows .now) (a .columns .now) (a .values .now) (a .ways .now) (at .loop .i) h)
+    (r .result .answer) (r .result .block) (r .last .1 .0) (r .last .1 .1 .0) (r .last .1 .1 .1 .0) (r .last .1 .1 .1 .1 .0) (rw v at (r .ensures))
+    (r .kept .1 .0) (r .kept .1 .1 .0) (r .kept .1 .1 .1 .0) (r .kept .1 .1 .1 .1 .0) _ (c .before .before .before .before .before .before .before .before .before .put-answer .ensures)
 
 same-length : tie.Need-same-length Inv-loop μ-loop
-same-length c = c .before .loop .inv .coeff-long
+same-length c = c .before .loop .inv .levels-long
 
 same-length-2 : tie.Need-same-length-2 Inv-loop μ-loop
-same-length-2 c = c .before .loop .inv .inter-long
+same-length-2 c = c .before .loop .inv .coeff-long
 
 same-length-3 : tie.Need-same-length-3 Inv-loop μ-loop
-same-length-3 c = c .before .loop .inv .res-long
+same-length-3 c = c .before .loop .inv .inter-long
 
 same-length-4 : tie.Need-same-length-4 Inv-loop μ-loop
-same-length-4 c = c .before .loop .inv .numbers-long
+same-length-4 c = c .before .loop .inv .res-long
 
 same-length-5 : tie.Need-same-length-5 Inv-loop μ-loop
-same-length-5 c = c .before .loop .inv .rows-long
+same-length-5 c = c .before .loop .inv .numbers-long
 
 same-length-6 : tie.Need-same-length-6 Inv-loop μ-loop
-same-length-6 c = c .before .loop .inv .columns-long
+same-length-6 c = c .before .loop .inv .named-long
+
+same-length-7 : tie.Need-same-length-7 Inv-loop μ-loop
+same-length-7 c = c .before .loop .inv .across-long
+
+same-length-8 : tie.Need-same-length-8 Inv-loop μ-loop
+same-length-8 c = c .before .loop .inv .limits-long
 
 returns : tie.Need-returns Inv-loop μ-loop
 returns c =
@@ -127,19 +116,15 @@ edit-each-spec =
     Inv-loop
     μ-loop
     loop-holds
-    mul-edit-by-value
-    shared-slice-read-edit-by-value
-    mul-edit-by-value-2
-    shared-slice-read-edit-by-value-2
-    mul-edit-by-value-3
-    shared-slice-copy-out-edit-by-value
-    edit-by-value-requires
-    answer-number-requires
-    slice-write-numbers
-    answer-row-requires
-    slice-write-named
-    answer-column-requires
-    slice-write-across
+    mul-edit-one
+    shared-slice-read-edit-one
+    mul-edit-one-2
+    shared-slice-read-edit-one-2
+    mul-edit-one-3
+    shared-slice-copy-out-edit-one
+    shared-slice-read-edit-one-3
+    edit-one-requires
+    put-answer-requires
     add-i
     loop-less
     loop-again
@@ -149,4 +134,6 @@ edit-each-spec =
     same-length-4
     same-length-5
     same-length-6
+    same-length-7
+    same-length-8
     returns)

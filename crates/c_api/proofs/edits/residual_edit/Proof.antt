@@ -1,21 +1,21 @@
--- `c_api::edits::residual_edit` meets its contract: the record holds what `edited_block::edit_by_value` handed back, and the buffers are what it left.
-use Rattle.c_api.proofs.EditsLaws.{edits-by}
+-- `c_api::edits::residual_edit` meets its contract: the record and the buffers are what `edited_record::edit_by_value` handed back and left.
 use mathlib.Core.Path.{_≡_}
 use mir.Syntax.{w32}
 use mir.Val.{toZ, ofZ}
 use mir.ValLaws.{toZ-ofZ}
+use Rattle.c_api.proofs.EditsLaws.{edits-by}
 use borrow.Author.Needs.{needs}
 use Rattle.c_api.proofs.edits.residual_edit.Statement.{statement}
 use Rattle.c_api.proofs.edits.residual_edit.Tie as tie
 
-kind-of-requires : tie.Need-kind-of-requires
-kind-of-requires c κs = search needs
+block-of-requires : tie.Need-block-of-requires
+block-of-requires c κs = search needs
 
 edit-by-value-requires : tie.Need-edit-by-value-requires
 edit-by-value-requires c κs = search needs
 
-block-answered-requires : tie.Need-block-answered-requires
-block-answered-requires c κs = search needs
+block-unlimited-requires : tie.Need-block-unlimited-requires
+block-unlimited-requires c κs = search needs
 
 same-length : tie.Need-same-length
 same-length c = search needs
@@ -30,15 +30,15 @@ returns : tie.Need-returns
 returns c =
     let s = c .before .before .before .before .before .before .before .before .before .before in
     let v : toZ w32 (ofZ w32 (s .args .value)) ≡ s .args .value = toZ-ofZ w32 (s .args .value) (search needs) in
-    edits-by (c .block-answered .ensures) (rw (c .before .before .before .before .before .before .before .before .before .kind-of .ensures, v) at (c .before .before .before .before .before .edit-by-value .ensures))
+    edits-by (c .block-unlimited .ensures) (rw (c .before .before .before .before .before .before .before .before .before .block-of .ensures, v) at (c .before .before .before .before .before .edit-by-value .ensures))
 
 pub residual-edit-spec : {M : Type 1} → statement M
 residual-edit-spec =
     tie.close
     (tie.spec
-    kind-of-requires
+    block-of-requires
     edit-by-value-requires
-    block-answered-requires
+    block-unlimited-requires
     same-length
     same-length-2
     same-length-3

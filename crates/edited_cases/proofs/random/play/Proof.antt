@@ -8,13 +8,13 @@ use Rattle.edited_cases.proofs.random.play.Statement.{statement}
 use Rattle.edited_cases.proofs.random.play.Tie as tie
 
 abbrev Inv-loop : tie.InvT-loop
-Inv-loop setting edits coeff₀ inter₀ residual₀ kept₀ block₀ right₀ i₀ coeff inter residual kept block right i = (length coeff ≡ length coeff₀) × (length inter ≡ length inter₀) × (length residual ≡ length residual₀) × (length kept ≡ length kept₀) × (i ≤ 100)
+Inv-loop setting edits levels₀ coeff₀ inter₀ residual₀ kept₀ block₀ right₀ i₀ levels coeff inter residual kept block right i = (length levels ≡ length levels₀) × (length coeff ≡ length coeff₀) × (length inter ≡ length inter₀) × (length residual ≡ length residual₀) × (length kept ≡ length kept₀) × (i ≤ 100)
 
 abbrev μ-loop : tie.MeasureT-loop
-μ-loop setting edits coeff₀ inter₀ residual₀ kept₀ block₀ right₀ i₀ coeff inter residual kept block right i = 100 - i
+μ-loop setting edits levels₀ coeff₀ inter₀ residual₀ kept₀ block₀ right₀ i₀ levels coeff inter residual kept block right i = 100 - i
 
 loop-holds : tie.Need-loop-holds Inv-loop μ-loop
-loop-holds c = (refl, refl, refl, refl, omega arith)
+loop-holds c = (refl, refl, refl, refl, refl, omega arith)
 
 edit-at-requires : tie.Need-edit-at-requires Inv-loop μ-loop
 edit-at-requires c κs = search needs
@@ -33,10 +33,10 @@ loop-less c = omega arith
 
 loop-again : tie.Need-loop-again Inv-loop μ-loop
 loop-again c =
-    let called = c .before .before .before .before .before .before in
-    let l = called .before .before .before .before .before .before .before .loop in
+    let called = c .before .before .before .before .before .before .before in
+    let l = called .before .before .before .before .before .before .before .before .loop in
     let k = called .turn .kept .1 .1 .1 in
-    (k .0 ∙ l .inv .0, k .1 .0 ∙ l .inv .1, k .1 .1 .0 ∙ l .inv .2, k .1 .1 .1 .0 ∙ l .inv .3, omega arith)
+    (k .0 ∙ l .inv .0, k .1 .0 ∙ l .inv .1, k .1 .1 .0 ∙ l .inv .2, k .1 .1 .1 .0 ∙ l .inv .3, k .1 .1 .1 .1 .0 ∙ l .inv .4, omega arith)
 
 put-record-requires : tie.Need-put-record-requires Inv-loop μ-loop
 put-record-requires c κs = search needs
@@ -55,6 +55,9 @@ same-length-3 c = c .before .before .before .loop .inv .2
 
 same-length-4 : tie.Need-same-length-4 Inv-loop μ-loop
 same-length-4 c = c .before .before .before .loop .inv .3
+
+same-length-5 : tie.Need-same-length-5 Inv-loop μ-loop
+same-length-5 c = c .before .before .before .loop .inv .4
 
 returns : tie.Need-returns Inv-loop μ-loop
 returns c = search needs
@@ -78,4 +81,5 @@ play-spec =
     same-length-2
     same-length-3
     same-length-4
+    same-length-5
     returns)
