@@ -23,7 +23,7 @@
  *   coeff               coefficients; one outside the coefficient range is refused with 9 (above) or 19 (below), with its row and column
  *
  * State. A call reads and writes its arguments and nothing else: it keeps no state, takes no memory, opens nothing and prints nothing. So any number of
- * threads may call at once, each on buffers of its own, and a signal handler may. A call takes at most 32 KiB of stack (tests/use measures it).
+ * threads may call at once, each on buffers of its own, and a signal handler may. A call takes at most 32 KiB of stack, a search for edits 96 (tests/use measures it).
  */
 #ifndef RESIDUAL_H
 #define RESIDUAL_H
@@ -285,6 +285,20 @@ residual_answered residual_find_levels(const int32_t *coeff, size_t coeff_len, s
     int32_t *levels, size_t levels_len);
 residual_answered residual_find_levels_scaled(const int32_t *coeff, size_t coeff_len, size_t n, int32_t qp_prime, uint8_t bit_depth, bool extended_precision,
     const uint8_t *list, size_t list_len, uint8_t dc, int32_t *levels, size_t levels_len);
+
+/* ---- Which edits give the wanted samples of a block's residual. target is n * n samples, of which those whose byte in wanted is other than 0 must be met. For each
+ * index the call writes the least and the most value of the coefficient range with which that one coefficient, in place of its own, gives the target at every
+ * wanted sample; every value between them does, and no other of the range. Where there is none they are 1 and 0. coeff is n * n coefficients in the range.
+ * Refuses 1, 2, 4, 6 (coeff, target, wanted), 7 (least, most), and 9 or 19, with row and column. */
+residual_answered residual_find_edits(bool dst, size_t n, uint8_t bit_depth, bool extended_precision, const int32_t *coeff, size_t coeff_len, const int32_t *target,
+    size_t target_len, const uint8_t *wanted, size_t wanted_len, int32_t *least, size_t least_len, int32_t *most, size_t most_len);
+/* The same of a block of levels, which may be any, without and with a list: the least and the most level of the range. Refuses 1, 2, 4, 5, 6, 7. */
+residual_answered residual_find_level_edits(bool dst, size_t n, int32_t qp_prime, uint8_t bit_depth, bool extended_precision, const int32_t *levels,
+    size_t levels_len, const int32_t *target, size_t target_len, const uint8_t *wanted, size_t wanted_len, int32_t *least, size_t least_len, int32_t *most,
+    size_t most_len);
+residual_answered residual_find_level_edits_scaled(bool dst, size_t n, int32_t qp_prime, uint8_t bit_depth, bool extended_precision, const uint8_t *list,
+    size_t list_len, uint8_t dc, const int32_t *levels, size_t levels_len, const int32_t *target, size_t target_len, const uint8_t *wanted, size_t wanted_len,
+    int32_t *least, size_t least_len, int32_t *most, size_t most_len);
 
 /* ---- By how much 2^(7 + s2) times a residual may differ from the exact product of its coefficients, where no stage-one value was limited;
  * s2 is R + 5 - bit_depth. Refuses 1, 2, 4. */

@@ -15,9 +15,9 @@
     ROW(1, SIZE_INVALID, "the size is none of 4, 8, 16, 32") \
     ROW(2, DEPTH_INVALID, "the depth is below 8 or above 16") \
     ROW(3, WIDTH_TOO_NARROW, "16-bit output, and the depth is above 9 or precision is extended") \
-    ROW(4, DST_SIZE_INVALID, "edited block, feed or rounding bound: DST with a size other than 4") \
+    ROW(4, DST_SIZE_INVALID, "edited block, search for edits, feed or rounding bound: DST with a size other than 4") \
     ROW(5, LIST_LENGTH_INVALID, "the list, or a default list, does not have 64 entries; lists to write are fewer than 20") \
-    ROW(6, INPUT_TOO_SHORT, "fewer than n * n levels or coefficients, residuals or prediction samples") \
+    ROW(6, INPUT_TOO_SHORT, "fewer than n * n levels or coefficients, residuals or prediction samples, targets or bytes that say what is wanted") \
     ROW(7, OUTPUT_TOO_SHORT, "an output or work buffer has fewer than n * n elements; for scaling lists fewer than 1,280 entries or 20 DC numbers have room, or fewer bytes than the bits take; a table of lists is too short") \
     ROW(8, PLACE_OUTSIDE, "an edit's row or column is not below n; m is looked up at an index not below n * n") \
     ROW(9, COEFFICIENT_ABOVE, "a coefficient is above its range") \

@@ -9,7 +9,7 @@ import layers
 import same_laws
 
 # public only so that the crates above can call them; docs/ARCHITECTURE.md says so
-INTERNAL = {"integers", "coefficients", "scaling_values", "scaling_blocks", "list_places", "bits", "bits_written", "diagonal", "scaling_lists_put", "transform_1d", "lines", "lines_quarter", "tiles", "tiles_32", "tiles_quarter", "tiles_wide", "lines_wide", "stages", "stages_wide", "transform_blocks", "text", "feed_block", "feed_records", "scale_trace_block"}
+INTERNAL = {"integers", "coefficients", "scaling_values", "scaling_blocks", "list_places", "bits", "bits_written", "diagonal", "scaling_lists_put", "transform_1d", "lines", "lines_quarter", "tiles", "tiles_32", "tiles_quarter", "tiles_wide", "lines_wide", "stages", "stages_wide", "transform_blocks", "edit_values", "edit_blocks", "text", "feed_block", "feed_records", "scale_trace_block"}
 
 # each function calls one entry point and cites its definition, so that entry point's edits stand for it too
 WRAPPERS = {"c_api"}

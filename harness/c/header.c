@@ -278,6 +278,22 @@ static void tools(void) {
 }
 #endif
 
+#ifdef has_search
+static void search(void) {
+    int32_t coeff[16] = {0}, target[16], least[16], most[16];
+    uint8_t list[64], wanted[16];
+    memset(list, 16, 64);
+    memset(wanted, 1, 16);
+    for (int i = 0; i < 16; i++) target[i] = 1;
+    residual_answered a = residual_find_edits(false, 4, 8, false, coeff, 16, target, 16, wanted, 16, least, 16, most, 16);
+    expect(a.number == 0 && least[0] == 63 && most[0] == 190 && least[1] == 1 && most[1] == 0, "find_edits");
+    a = residual_find_level_edits(false, 4, 4, 8, false, coeff, 16, target, 16, wanted, 16, least, 16, most, 16);
+    expect(a.number == 0 && least[0] == 2 && most[0] == 5 && least[1] == 1 && most[1] == 0, "find_level_edits");
+    a = residual_find_level_edits_scaled(false, 4, 4, 8, false, list, 63, 16, coeff, 16, target, 16, wanted, 16, least, 16, most, 16);
+    expect(a.number == 5 && least[0] == 2 && most[0] == 5, "find_level_edits_scaled, refused");
+}
+#endif
+
 int main(void) {
     quantities();
 #ifdef has_scaling
@@ -304,6 +320,9 @@ int main(void) {
 #endif
 #ifdef has_tools
     tools();
+#endif
+#ifdef has_search
+    search();
 #endif
     printf("header: %d calls, %d failed\n", called, failed);
     return failed != 0;

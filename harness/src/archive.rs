@@ -314,3 +314,41 @@ pub mod tools {
         }
     }
 }
+
+#[cfg(has_search)]
+pub mod search {
+    use super::Answered;
+
+    unsafe extern "C" {
+        fn residual_find_edits(
+            dst: bool, n: usize, bit_depth: u8, extended_precision: bool, coeff: *const i32, coeff_len: usize, target: *const i32, target_len: usize, wanted: *const u8, wanted_len: usize, least: *mut i32, least_len: usize,
+            most: *mut i32, most_len: usize,
+        ) -> Answered;
+        fn residual_find_level_edits(
+            dst: bool, n: usize, qp_prime: i32, bit_depth: u8, extended_precision: bool, levels: *const i32, levels_len: usize, target: *const i32, target_len: usize, wanted: *const u8, wanted_len: usize, least: *mut i32,
+            least_len: usize, most: *mut i32, most_len: usize,
+        ) -> Answered;
+        fn residual_find_level_edits_scaled(
+            dst: bool, n: usize, qp_prime: i32, bit_depth: u8, extended_precision: bool, list: *const u8, list_len: usize, dc: u8, levels: *const i32, levels_len: usize, target: *const i32, target_len: usize, wanted: *const u8,
+            wanted_len: usize, least: *mut i32, least_len: usize, most: *mut i32, most_len: usize,
+        ) -> Answered;
+    }
+
+    pub fn find_edits(dst: bool, n: usize, bit_depth: u8, extended_precision: bool, coeff: &[i32], target: &[i32], wanted: &[u8], least: &mut [i32], most: &mut [i32]) -> Answered {
+        let (from, count, by, flags) = (target.as_ptr(), target.len(), wanted.as_ptr(), wanted.len());
+        unsafe { residual_find_edits(dst, n, bit_depth, extended_precision, coeff.as_ptr(), coeff.len(), from, count, by, flags, least.as_mut_ptr(), least.len(), most.as_mut_ptr(), most.len()) }
+    }
+
+    pub fn find_level_edits(
+        dst: bool, n: usize, qp_prime: i32, bit_depth: u8, extended_precision: bool, list: Option<(&[u8], u8)>, levels: &[i32], target: &[i32], wanted: &[u8], least: &mut [i32], most: &mut [i32],
+    ) -> Answered {
+        let (at, len, from, count, by, flags) = (levels.as_ptr(), levels.len(), target.as_ptr(), target.len(), wanted.as_ptr(), wanted.len());
+        let (first, places, last, room) = (least.as_mut_ptr(), least.len(), most.as_mut_ptr(), most.len());
+        match list {
+            None => unsafe { residual_find_level_edits(dst, n, qp_prime, bit_depth, extended_precision, at, len, from, count, by, flags, first, places, last, room) },
+            Some((list, dc)) => unsafe {
+                residual_find_level_edits_scaled(dst, n, qp_prime, bit_depth, extended_precision, list.as_ptr(), list.len(), dc, at, len, from, count, by, flags, first, places, last, room)
+            },
+        }
+    }
+}

@@ -1,5 +1,5 @@
-//! Compares the archive of the crate c_api with the Rust that was ported, on every exported function; the functions of pictures, of scaling lists, of tables of them, of the block tools, of the search for levels and of the rounding bound, which were not ported, with a plain writing of their rules.
-#![cfg_attr(not(all(has_scaling, has_transform, has_edits, has_lists, has_picture, has_rounding, has_tables, has_tools)), allow(dead_code, unused_mut))]
+//! Compares the archive of the crate c_api with the Rust that was ported, on every exported function; the functions of pictures, of scaling lists, of tables of them, of the block tools, of the searches for levels and for edits and of the rounding bound, which were not ported, with a plain writing of their rules.
+#![cfg_attr(not(all(has_scaling, has_transform, has_edits, has_lists, has_picture, has_rounding, has_search, has_tables, has_tools)), allow(dead_code, unused_mut))]
 mod archive;
 mod blocks;
 #[cfg(has_edits)]
@@ -16,6 +16,8 @@ mod reference;
 mod rounding;
 #[cfg(has_scaling)]
 mod scaling;
+#[cfg(has_search)]
+mod search;
 #[cfg(has_tables)]
 mod tables;
 mod tally;
@@ -88,6 +90,10 @@ fn differential(arguments: &Arguments) -> bool {
     {
         planned += tools::FUNCTIONS;
     }
+    #[cfg(has_search)]
+    {
+        planned += search::FUNCTIONS;
+    }
     let mut tally = tally::Tally::new(planned);
     parameters::compare(&mut tally, arguments.seed, arguments.cases);
     #[cfg(has_scaling)]
@@ -106,6 +112,8 @@ fn differential(arguments: &Arguments) -> bool {
     tables::compare(&mut tally, arguments.seed, arguments.cases);
     #[cfg(has_tools)]
     tools::compare(&mut tally, arguments.seed, arguments.cases);
+    #[cfg(has_search)]
+    search::compare(&mut tally, arguments.seed, arguments.cases);
     println!("seed {}, {} random cases a function", arguments.seed, arguments.cases);
     tally.finish()
 }

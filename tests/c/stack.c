@@ -1,4 +1,5 @@
-/* Measures the stack that each group of functions takes, on a thread whose stack was filled before. Fails above the 32 KiB that include/residual.h names. */
+/* Measures the stack that each group of functions takes, on a thread whose stack was filled before. Fails above the 32 KiB that include/residual.h names, of the
+ * searches for edits above its 96. */
 #define _GNU_SOURCE
 #include "picture.h"
 #include "residual.h"
@@ -8,12 +9,12 @@
 #include <string.h>
 #include <sys/mman.h>
 
-enum { STACK = 1 << 20, LIMIT = 32 << 10, N = 32, CELLS = N * N };
+enum { STACK = 1 << 20, LIMIT = 32 << 10, WIDE = 96 << 10, N = 32, CELLS = N * N };
 
 static unsigned char *stack;
 static int32_t coeff[CELLS], inter[CELLS], residual[CELLS], levels[CELLS];
 static int16_t coeff16[CELLS], out16[CELLS];
-static uint8_t list[64], lists[1280], dcs[20], bytes[2765], table[1584];
+static uint8_t wanted[CELLS], list[64], lists[1280], dcs[20], bytes[2765], table[1584];
 static uint16_t plane[256 * 256], prediction[CELLS];
 
 static void nothing(void) {}
@@ -107,6 +108,14 @@ static void search(void)
     residual_find_levels_scaled(coeff, CELLS, N, 4, 12, true, list, 64, 16, levels, CELLS);
 }
 
+static void found(void)
+{
+    memset(coeff, 0, sizeof coeff), memset(wanted, 1, sizeof wanted), memset(residual, 0, sizeof residual);
+    residual_find_edits(false, N, 12, true, coeff, CELLS, residual, CELLS, wanted, CELLS, inter, CELLS, levels, CELLS);
+    residual_find_level_edits(false, N, 4, 12, true, coeff, CELLS, residual, CELLS, wanted, CELLS, inter, CELLS, levels, CELLS);
+    residual_find_level_edits_scaled(false, N, 4, 12, true, list, 64, 16, coeff, CELLS, residual, CELLS, wanted, CELLS, inter, CELLS, levels, CELLS);
+}
+
 static void pictures(void)
 {
     picture_rebuild_block(N, 8, residual, CELLS, prediction, CELLS, 256, 256, 256, 5, 5, plane, 256 * 256);
@@ -133,11 +142,13 @@ static size_t taken(void (*group)(void))
 
 int main(void)
 {
-    const struct { const char *name; void (*group)(void); } groups[] = {
-        {"quantities", quantities}, {"scaling", scaling}, {"transforms", transforms}, {"edits", edits}, {"lists", scaling_lists},
-        {"tables", tables}, {"tools", tools}, {"search", search}, {"pictures", pictures},
+    const struct { const char *name; void (*group)(void); size_t limit; } groups[] = {
+        {"quantities", quantities, LIMIT}, {"scaling", scaling, LIMIT}, {"transforms", transforms, LIMIT}, {"edits", edits, LIMIT},
+        {"lists", scaling_lists, LIMIT}, {"tables", tables, LIMIT}, {"tools", tools, LIMIT}, {"search", search, LIMIT}, {"pictures", pictures, LIMIT},
+        {"searches for edits", found, WIDE},
     };
-    size_t most = 0, own;
+    size_t own;
+    int failed = 0;
     stack = mmap(NULL, STACK, PROT_READ | PROT_WRITE, MAP_PRIVATE | MAP_ANONYMOUS, -1, 0);
     if (stack == MAP_FAILED) return 2;
     memset(list, 16, 64);
@@ -145,8 +156,8 @@ int main(void)
     for (size_t i = 0; i < sizeof groups / sizeof groups[0]; i++) {
         size_t bytes_taken = taken(groups[i].group) - own;
         printf("stack: %s %zu bytes\n", groups[i].name, bytes_taken);
-        if (bytes_taken > most) most = bytes_taken;
+        failed += bytes_taken > groups[i].limit;
     }
-    printf("stack: at most %zu bytes\n", most);
-    return most > LIMIT;
+    printf("stack: %d groups of functions take more than they may\n", failed);
+    return failed;
 }

@@ -81,6 +81,28 @@ def find_levels(coefficients, n, qp_prime, depth, extended=False, scaling_list=N
     return out
 
 
+# ---- which edits give the wanted samples
+def find_edits(coefficients, target, wanted, n, depth, extended=False, dst=False):
+    """For each index the least and the most value with which that one coefficient gives the target at every wanted sample; 1 and 0 where there is none.
+
+    Every value between the two does so, and no other of the coefficient range. `wanted` has a true value for each sample that must be met.
+    """
+    least, most = _block(n), _block(n)
+    call("residual_find_edits", dst, n, depth, extended, coefficients, target, bytes(bool(w) for w in wanted), least, most)
+    return least, most
+
+
+def find_level_edits(levels, target, wanted, n, qp_prime, depth, extended=False, dst=False, scaling_list=None):
+    """The same of a block of levels: the least and the most level at each index."""
+    least, most = _block(n), _block(n)
+    flags = bytes(bool(w) for w in wanted)
+    if scaling_list is None:
+        call("residual_find_level_edits", dst, n, qp_prime, depth, extended, levels, target, flags, least, most)
+    else:
+        call("residual_find_level_edits_scaled", dst, n, qp_prime, depth, extended, *_listed(scaling_list), levels, target, flags, least, most)
+    return least, most
+
+
 # ---- transforms
 def inverse_transform(coefficients, n, depth, extended=False, dst=False, columns=None):
     """The residual of a block of coefficients; columns from `columns` on are read as zero."""

@@ -38,6 +38,7 @@ mod picture;
 mod quantities;
 mod refusal;
 mod scaling;
+mod search;
 mod transform;
 
 pub use edited::{EditedBlock, LevelLimited};
@@ -47,6 +48,7 @@ pub use quantities::{coefficient_range, dequant_params, qp_bd_offset, qp_prime, 
 pub use refusal::Refusal;
 pub(crate) use refusal::told;
 pub use scaling::{bypass, Accumulate, Element, List, ScaledLevel, Scaling};
+pub use search::find_edits;
 pub use transform::{inverse_transform, inverse_transform_16, refresh_residual};
 
 /// The version of the headers that this crate was written for.

@@ -1,5 +1,5 @@
 //! From levels to coefficients and back, transform skip, and the block tools of the range extensions.
-use crate::{ffi, told, Refusal};
+use crate::{ffi, told, Kind, Refusal};
 
 /// A scaling list: 64 entries in row order at every size, and the DC number, which sizes 16 and 32 use.
 #[derive(Clone, Copy, Debug, PartialEq, Eq)]
@@ -170,6 +170,22 @@ impl Scaling<'_> {
         told!(match self.list {
             None => unsafe { ffi::residual_find_levels(at, len, self.n, self.qp_prime, self.depth, self.extended, to, room) },
             Some(l) => unsafe { ffi::residual_find_levels_scaled(at, len, self.n, self.qp_prime, self.depth, self.extended, l.entries.as_ptr(), l.entries.len(), l.dc, to, room) },
+        })
+        .map(|_| ())
+    }
+
+    /// For each index the least and the most level with which that one level, in place of its own, gives `target` at every sample whose byte in `wanted` is other
+    /// than 0; 1 and 0 where there is none. Every level between the two does so, and no other of the coefficient range.
+    pub fn find_level_edits(&self, kind: Kind, levels: &[i32], target: &[i32], wanted: &[u8], least: &mut [i32], most: &mut [i32]) -> Result<(), Refusal> {
+        let (dst, at, len, to, room) = (kind == Kind::Dst, levels.as_ptr(), levels.len(), most.as_mut_ptr(), most.len());
+        let (from, count, by, flags, first, places) = (target.as_ptr(), target.len(), wanted.as_ptr(), wanted.len(), least.as_mut_ptr(), least.len());
+        told!(match self.list {
+            None => unsafe { ffi::residual_find_level_edits(dst, self.n, self.qp_prime, self.depth, self.extended, at, len, from, count, by, flags, first, places, to, room) },
+            Some(l) => unsafe {
+                ffi::residual_find_level_edits_scaled(
+                    dst, self.n, self.qp_prime, self.depth, self.extended, l.entries.as_ptr(), l.entries.len(), l.dc, at, len, from, count, by, flags, first, places, to, room,
+                )
+            },
         })
         .map(|_| ())
     }

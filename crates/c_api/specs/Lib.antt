@@ -5,3 +5,4 @@ pub mod Pictures
 pub mod Lists
 pub mod Tables
 pub mod Tools
+pub mod Searches

@@ -172,7 +172,7 @@ module _ (list : ScalingList) (n : ℕ) (q : ℤ) (b : ℕ) (x : Bool) (coeff ou
 abbrev pub sixteens : ScalingList
 sixteens = listed (replicate 64 16) 16
 
-sixteens-factor : (n i : ℕ) → T (isSize n) → i < n * n → scalingFactor sixteens n i ≡ 16
+pub sixteens-factor : (n i : ℕ) → T (isSize n) → i < n * n → scalingFactor sixteens n i ≡ 16
 sixteens-factor n i t h = by-size (ltb 8 n) refl
   where
     by-index : 16 ≤ n → (j : ℕ) → i ≡ j → scalingFactor sixteens n i ≡ 16
