@@ -1,6 +1,6 @@
 // feed_damage PROGRAM COUNT [SEED]: runs the feed program on COUNT feeds, each in a process of its own: random bytes, and good feeds
 // with bytes changed, cut or inserted. Stops with the feed's bytes at the first run that does not end by itself with status 0 within
-// ten seconds, or that writes anything but rows, one `refused` line or `blocks` line at the end.
+// ten seconds, or that writes anything but blocks of n rows with a `limited` line, and one `refused` line or `blocks` line at the end.
 #define _GNU_SOURCE
 #include <ctype.h>
 #include <signal.h>
@@ -78,6 +78,20 @@ static int number(const char **at, int sign) {
 }
 
 // rows, then the one line that ends the text
+// the rows of a block, as many as the first has numbers, then the line of how many coefficients were limited
+static int rows_and_count(const char **p) {
+    size_t n = 0, rows = 0;
+    while (strncmp(*p, "limited ", 8)) {
+        size_t numbers = 0;
+        while (number(p, 1) && ++numbers && **p == ' ') ++*p;
+        if (*(*p)++ != '\n' || (rows && numbers != n)) return 0;
+        n = numbers;
+        rows++;
+    }
+    *p += 8;
+    return rows == n && number(p, 0) && *(*p)++ == '\n';
+}
+
 static int well_formed(const char *p) {
     for (;;) {
         int refused = !strncmp(p, "refused ", 8), blocks = !strncmp(p, "blocks ", 7);
@@ -87,8 +101,7 @@ static int well_formed(const char *p) {
             if (refused && (*p++ != ' ' || !number(&p, 0))) return 0;
             return p[0] == '\n' && p[1] == 0;
         }
-        while (number(&p, 1) && *p == ' ') p++;
-        if (*p++ != '\n') return 0;
+        if (!rows_and_count(&p)) return 0;
     }
 }
 
