@@ -3,6 +3,7 @@ pub mod SizeLaws
 pub mod PartsLaws
 pub mod StageLaws
 pub mod ColumnLaws
+pub mod NarrowLaws
 pub mod MovesLaws
 pub mod ResultLaws
 pub mod ProductsLaws

@@ -6,10 +6,11 @@
 --   filled-products, picked-four           one line more; the values of a column of four
 --   limitedAsk-four                        what a stage of 4 points asks
 --   four-rows                              what a stage of 4 points gives
+--   column-values, put-line                the values of one column meet what a line asks; its outputs, limited and put, are the intermediate's column
 use mathlib.Core.Path.{_≡_, refl, sym, ap, _∙_, subst}
 use mathlib.Core.List.{List, [], _∷_}
 use Prim.Native.Nat.{ℕ, zero, suc, _+_, _*_, _^_, _≤_, _<_}
-use native.Mathlib.Nat.{not-suc-le-zero, mul-le-mul-right, mul-le-mul, suc-mul}
+use native.Mathlib.Nat.{not-suc-le-zero, zero-add, mul-le-mul-right, mul-le-mul, suc-mul}
 use native.Mathlib.Decide.{decLt}
 use native.Mathlib.Omega.{arith}
 use borrow.Author.Tests.{lt-ltb, le-ltb}
@@ -18,17 +19,19 @@ use lib.ListN.{length, getD, replicate}
 use Rattle.integers.specs.Shift.{roundShift}
 use Rattle.integers.specs.Within.{Within}
 use Rattle.integers.proofs.BoundLaws.{within-eq, within-le, within-pos}
-use Rattle.h265.specs.Transform.{transformLine, blockAt}
+use Rattle.h265.specs.Range.{clipCoeff}
+use Rattle.h265.specs.Transform.{transformLine, blockAt, stageOneSum, stageOneValue, intermediate}
 use Rattle.tiles_wide.proofs.SplitLaws.{placed-run}
 use Rattle.stages_wide.specs.Wide.{limitedBlock}
 use Rattle.lines_wide.specs.Values.{WideValues, WideOutputs}
 use Rattle.transform_1d.specs.Rows.{Placed, Filled}
 use Rattle.transform_1d.proofs.RowsLaws.{placed-cong, filled-suc, filled-cong, zeros-getD}
 use Rattle.transform_1d.proofs.MatrixLaws.{transformLine-cong}
-use Rattle.stages_wide.specs.Parts.{limitedAt, stageOf}
+use Rattle.stages_wide.specs.Parts.{limitedAt, stageOf, ColumnPlaced}
 use Rattle.stages_wide.specs.Products.{limitedUpTo, matrixValue, Picked, RoundAsk, ProductsAsk, LimitedAsk}
 use Rattle.stages_wide.proofs.PartsLaws.{limited-within}
 use Rattle.stages_wide.proofs.StageLaws.{place-column, place-inside}
+use Rattle.stages_wide.proofs.ColumnLaws.{columnPlaced-cong}
 
 pub limitedUpTo-in : (r : ℕ) (xs : List ℤ) (w i : ℕ) → i < w → limitedUpTo r xs w i ≡ limitedAt r xs i
 unfolding limitedUpTo
@@ -128,4 +131,21 @@ four-rows t r s xs h f =
     (λ c j a b. ap (λ (z : ℤ). roundShift z s)
     (transformLine-cong t t 4 (λ k. limitedUpTo r xs 16 (c * 1 + k * 4)) (λ k. limitedAt r xs (k * 4 + c)) j (λ k i. refl)
     (λ k i. limitedUpTo-in r xs 16 (c * 1 + k * 4) (place-inside 4 1 4 c k (omega arith) (omega arith) i) ∙ ap (limitedAt r xs) (place-column 4 c k))))
+    f
+
+-- ---- one column by one line
+pub column-values : {n r : ℕ} (coeff : List ℤ) (column : ℕ) {x₀ x : List ℤ} → r ≤ 22 → Placed 0 n (λ k. limitedAt r coeff (k * n + column)) x₀ x → WideValues n x
+column-values coeff column h p = record { at = λ k i. within-eq (placed-run p k i) (limited-within _ h) }
+
+pub put-line : (t : ℕ → ℕ → ℤ) (n r : ℕ) (coeff : List ℤ) {column : ℕ} {x₀ x z r₀ y i₀ i : List ℤ} → Placed 0 n (λ k. limitedAt r coeff (k * n + column)) x₀ x
+    → WideOutputs t n x z → Placed 0 n (λ j. roundShift (getD z j (pos 0)) 7) r₀ y → ColumnPlaced n column (λ m. limitedAt r y (0 + m)) n i₀ i
+    → ColumnPlaced n column (λ m. intermediate t n r (limitedBlock r n coeff) m column) n i₀ i
+unfolding blockAt intermediate stageOneValue stageOneSum
+put-line t n r coeff {column} {x = x} {y = y} p o q f =
+    columnPlaced-cong
+    (λ m a. ap (limitedAt r y) (zero-add m)
+    ∙ ap (clipCoeff r)
+    (placed-run q m a
+    ∙ ap (λ (v : ℤ). roundShift v 7)
+    (o .output m a ∙ transformLine-cong t t n (λ k. getD x k (pos 0)) (λ k. limitedAt r coeff (k * n + column)) m (λ k i. refl) (λ k i. placed-run p k i))))
     f

@@ -2,6 +2,7 @@
 --   limitedAt r xs i       place i of xs, limited to the range
 --   stageOf t n y s c m    output m of the line over column c of a block, rounded: what a stage writes to row c and column m
 --   ColumnPlaced           ys is xs with f 0, .., f (m - 1) down column c
+--   NarrowColumn n c m xs  the first m values of column c of xs, whose rows are n long, fit 16 bits
 --   SizeAsk                what one stage of a block asks of its range, its shift, and the lengths of its source and its target
 --   StagesAsk              the same of both stages, with the column count
 --   bothStages             the residual by a matrix, for a shift, of coefficients that are limited as they are read
@@ -10,6 +11,8 @@ use mathlib.Core.List.{List}
 use Prim.Native.Nat.{ℕ, _+_, _*_, _<_, _≤_}
 use lib.IntN.{ℤ, pos}
 use lib.ListN.{getD, length}
+use mir.Syntax.{w16}
+use mir.Val.{SFits}
 use Rattle.integers.specs.Shift.{roundShift}
 use Rattle.h265.specs.Range.{clipCoeff}
 use Rattle.h265.specs.Transform.{transformLine, columnsRead, intermediate, stageTwo}
@@ -25,6 +28,9 @@ pub record ColumnPlaced (n c : ℕ) (f : ℕ → ℤ) (m : ℕ) (xs ys : List �
   pub long : length ys ≡ length xs
   pub done : (k : ℕ) → k < m → getD ys (k * n + c) (pos 0) ≡ f k
   pub kept : (i : ℕ) → ((k : ℕ) → k < m → i ≡ k * n + c → ⊥) → getD ys i (pos 0) ≡ getD xs i (pos 0)
+
+pub record NarrowColumn (n c m : ℕ) (xs : List ℤ) : Type 0 where
+  pub at : (k : ℕ) → k < m → SFits w16 (getD xs (k * n + c) (pos 0))
 
 pub record SizeAsk (n r s sourceLength targetLength : ℕ) : Type 0 where
   pub rangeLeast : 15 ≤ r

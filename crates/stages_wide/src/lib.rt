@@ -4,6 +4,7 @@
 mod parts; // values limited to the range, and sums rounded
 mod products; // lines of 4 points in 32-bit products
 mod moves; // blocks turned over, columns taken and put
+mod narrow; // the same where values fit 16 bits
 mod sizes; // stages of a block, a function for each size
 mod blocks; // both stages of a block of any size, and a block with one coefficient
 

@@ -43,6 +43,18 @@ pub fn take_column(s: &[i32], n: usize, column: usize, g: &mut [i32])
     }
 }
 
+// The values of one column, limited.
+pub fn limited_column(s: &[i32], n: usize, range: u32, column: usize, x: &mut [i32])
+    requires { ⌜ (range ≤ 22) × (n ≤ 32) × (column < n) × (n * n ≤ length (now s)) × (n ≤ length (now x)) ⌝ }
+    ensures { λ _. ⌜ Placed 0 n (λ k. limitedAt range (now (s .entry)) (k * n + column)) (now (x .entry)) (now (x .exit)) ⌝ }
+{
+    let mut k: usize = 0;
+    while k < n {
+        x[k] = limited(s[k * n + column], range);
+        k += 1;
+    }
+}
+
 // n values of r from place base on, limited, down one column.
 pub fn put_column(r: &[i32], base: usize, n: usize, range: u32, inter: &mut [i32], column: usize)
     requires { ⌜ (range ≤ 22) × (n ≤ 32) × (column < n) × (base + n ≤ length (now r)) × (n * n ≤ length (now inter)) ⌝ }

@@ -26,7 +26,7 @@ fn limit(s: &[i32], w: usize, range: u32, x: &mut [i32])
 }
 
 // w sums, rounded, from place at on.
-fn put_rounded(z: &[i32], w: usize, shift: u32, out: &mut [i32], at: usize)
+pub fn put_rounded(z: &[i32], w: usize, shift: u32, out: &mut [i32], at: usize)
     requires { ⌜ RoundAsk w (now z) shift × (at + w ≤ length (now out)) ⌝ }
     ensures { λ _. ⌜ Placed at w (λ j. roundShift (getD (now (z .entry)) j (pos 0)) shift) (now (out .entry)) (now (out .exit)) ⌝ }
 {

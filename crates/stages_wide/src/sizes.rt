@@ -10,12 +10,20 @@ ghost use Rattle.transform_1d.specs.Rows.{Filled};
 ghost use Rattle.coefficients.specs.Rows.{RowsUsed};
 ghost use Rattle.stages_wide.specs.Wide.{limitedBlock};
 ghost use Rattle.stages_wide.specs.Parts.{ColumnPlaced, SizeAsk, StagesAsk, bothStages};
+use crate::moves::limited_column;
 use crate::moves::put_column;
 use crate::moves::put_columns;
 use crate::moves::take_column;
 use crate::moves::turn;
+use crate::narrow::column_narrow;
+use crate::narrow::take_narrow;
+use crate::narrow::turn_narrow;
+use crate::products::put_rounded;
 use crate::products::stage_4;
+use lines_wide::line_4;
+use lines_wide::line_8;
 use tiles_quarter::rest_zero;
+use tiles_wide::all_narrow;
 use tiles_wide::pass_8;
 use tiles_wide::pass_8q;
 use tiles_wide::pass_16;
@@ -49,10 +57,11 @@ pub fn column_4(kind: Kind, coeff: &[i32], range: u32, column: usize, inter: &mu
     requires { ⌜ SizeAsk 4 range 7 (length (now coeff)) (length (now inter)) × (column < 4) ⌝ }
     ensures { λ _. ⌜ ColumnPlaced 4 column (λ m. intermediate (matrixOf kind 4) 4 range (limitedBlock range 4 (now (coeff .entry))) m column) 4 (now (inter .entry)) (now (inter .exit)) ⌝ }
 {
-    let mut x = [0i32; 16];
-    let mut r = [0i32; 16];
-    take_column(coeff, 4, column, &mut x[..]);
-    stage_4(kind, &x[..], range, 1, 7, &mut r[..]);
+    let mut x = [0i32; 4];
+    let mut r = [0i32; 4];
+    limited_column(coeff, 4, range, column, &mut x[..]);
+    let z = line_4(kind, x);
+    put_rounded(&z[..], 4, 7, &mut r[..], 0);
     put_column(&r[..], 0, 4, range, inter, column);
 }
 
@@ -90,14 +99,29 @@ pub fn stages_8(shift: u32, range: u32, nx: usize, coeff: &[i32], out: &mut [i32
     both_8(shift, range, nx, coeff, out);
 }
 
-// Stage two of 8 points over an intermediate in row order.
-pub fn rows_8(inter: &[i32], range: u32, shift: u32, out: &mut [i32])
+// Stage two of 8 points over an intermediate in row order, in two parts where its values take more than 16 bits.
+fn wide_rows_8(inter: &[i32], range: u32, shift: u32, out: &mut [i32])
     requires { ⌜ SizeAsk 8 range shift (length (now inter)) (length (now out)) ⌝ }
     ensures { λ _. ⌜ Filled 8 8 (stageTwo (transMatrix 8) 8 shift (limitedBlock range 8 (now (inter .entry)))) 8 (now (out .entry)) (now (out .exit)) ⌝ }
 {
     let mut g = [0i32; 64];
     turn(inter, 8, &mut g[..]);
     pass_8(&g[..], range, 8, shift, out);
+}
+
+// The same; values that fit 16 bits are narrowed as they are turned over.
+pub fn rows_8(inter: &[i32], range: u32, shift: u32, out: &mut [i32])
+    requires { ⌜ SizeAsk 8 range shift (length (now inter)) (length (now out)) ⌝ }
+    ensures { λ _. ⌜ Filled 8 8 (stageTwo (transMatrix 8) 8 shift (limitedBlock range 8 (now (inter .entry)))) 8 (now (out .entry)) (now (out .exit)) ⌝ }
+{
+    if all_narrow(inter, 64) {
+        let mut l = [0i16; 64];
+        let mut none = [0i16; 1];
+        turn_narrow(inter, 8, &mut l[..]);
+        tiles::stage_8(&l, 8, tiles::half(shift), shift, true, out, &mut none[..]);
+    } else {
+        wide_rows_8(inter, range, shift, out);
+    }
 }
 
 // Stage one of 8 points, in row order.
@@ -115,10 +139,11 @@ pub fn column_8(coeff: &[i32], range: u32, column: usize, inter: &mut [i32])
     requires { ⌜ SizeAsk 8 range 7 (length (now coeff)) (length (now inter)) × (column < 8) ⌝ }
     ensures { λ _. ⌜ ColumnPlaced 8 column (λ m. intermediate (transMatrix 8) 8 range (limitedBlock range 8 (now (coeff .entry))) m column) 8 (now (inter .entry)) (now (inter .exit)) ⌝ }
 {
-    let mut x = [0i32; 64];
+    let mut x = [0i32; 8];
     let mut r = [0i32; 8];
-    take_column(coeff, 8, column, &mut x[..]);
-    pass_8(&x[..], range, 1, 7, &mut r[..]);
+    limited_column(coeff, 8, range, column, &mut x[..]);
+    let z = line_8(x);
+    put_rounded(&z[..], 8, 7, &mut r[..], 0);
     put_column(&r[..], 0, 8, range, inter, column);
 }
 
@@ -156,14 +181,29 @@ pub fn stages_16(shift: u32, range: u32, nx: usize, coeff: &[i32], out: &mut [i3
     both_16(shift, range, nx, coeff, out);
 }
 
-// Stage two of 16 points over an intermediate in row order.
-pub fn rows_16(inter: &[i32], range: u32, shift: u32, out: &mut [i32])
+// Stage two of 16 points over an intermediate in row order, in two parts where its values take more than 16 bits.
+fn wide_rows_16(inter: &[i32], range: u32, shift: u32, out: &mut [i32])
     requires { ⌜ SizeAsk 16 range shift (length (now inter)) (length (now out)) ⌝ }
     ensures { λ _. ⌜ Filled 16 16 (stageTwo (transMatrix 16) 16 shift (limitedBlock range 16 (now (inter .entry)))) 16 (now (out .entry)) (now (out .exit)) ⌝ }
 {
     let mut g = [0i32; 256];
     turn(inter, 16, &mut g[..]);
     pass_16(&g[..], range, 16, shift, out);
+}
+
+// The same; values that fit 16 bits are narrowed as they are turned over.
+pub fn rows_16(inter: &[i32], range: u32, shift: u32, out: &mut [i32])
+    requires { ⌜ SizeAsk 16 range shift (length (now inter)) (length (now out)) ⌝ }
+    ensures { λ _. ⌜ Filled 16 16 (stageTwo (transMatrix 16) 16 shift (limitedBlock range 16 (now (inter .entry)))) 16 (now (out .entry)) (now (out .exit)) ⌝ }
+{
+    if all_narrow(inter, 256) {
+        let mut l = [0i16; 256];
+        let mut none = [0i16; 1];
+        turn_narrow(inter, 16, &mut l[..]);
+        tiles::stage_16(&l, 16, tiles::half(shift), shift, true, out, &mut none[..]);
+    } else {
+        wide_rows_16(inter, range, shift, out);
+    }
 }
 
 // Stage one of 16 points, in row order.
@@ -176,8 +216,8 @@ pub fn columns_16(coeff: &[i32], range: u32, inter: &mut [i32])
     put_columns(&g[..], 16, range, inter);
 }
 
-// One column of stage one of 16 points.
-pub fn column_16(coeff: &[i32], range: u32, column: usize, inter: &mut [i32])
+// One column of stage one of 16 points, in two parts where its values take more than 16 bits.
+fn wide_column_16(coeff: &[i32], range: u32, column: usize, inter: &mut [i32])
     requires { ⌜ SizeAsk 16 range 7 (length (now coeff)) (length (now inter)) × (column < 16) ⌝ }
     ensures { λ _. ⌜ ColumnPlaced 16 column (λ m. intermediate (transMatrix 16) 16 range (limitedBlock range 16 (now (coeff .entry))) m column) 16 (now (inter .entry)) (now (inter .exit)) ⌝ }
 {
@@ -186,6 +226,23 @@ pub fn column_16(coeff: &[i32], range: u32, column: usize, inter: &mut [i32])
     take_column(coeff, 16, column, &mut x[..]);
     pass_16(&x[..], range, 1, 7, &mut r[..]);
     put_column(&r[..], 0, 16, range, inter, column);
+}
+
+// The same; values that fit 16 bits are narrowed before they stand in a block.
+pub fn column_16(coeff: &[i32], range: u32, column: usize, inter: &mut [i32])
+    requires { ⌜ SizeAsk 16 range 7 (length (now coeff)) (length (now inter)) × (column < 16) ⌝ }
+    ensures { λ _. ⌜ ColumnPlaced 16 column (λ m. intermediate (transMatrix 16) 16 range (limitedBlock range 16 (now (coeff .entry))) m column) 16 (now (inter .entry)) (now (inter .exit)) ⌝ }
+{
+    if column_narrow(coeff, 16, column) {
+        let mut l = [0i16; 256];
+        let mut r = [0i32; 16];
+        let mut none = [0i16; 1];
+        take_narrow(coeff, 16, column, &mut l[..]);
+        tiles::stage_16(&l, 1, 64, 7, true, &mut r[..], &mut none[..]);
+        put_column(&r[..], 0, 16, range, inter, column);
+    } else {
+        wide_column_16(coeff, range, column, inter);
+    }
 }
 
 // Both stages of 32 points where rows and columns from 8 on are zero.
@@ -222,14 +279,29 @@ pub fn stages_32(shift: u32, range: u32, nx: usize, coeff: &[i32], out: &mut [i3
     both_32(shift, range, nx, coeff, out);
 }
 
-// Stage two of 32 points over an intermediate in row order.
-pub fn rows_32(inter: &[i32], range: u32, shift: u32, out: &mut [i32])
+// Stage two of 32 points over an intermediate in row order, in two parts where its values take more than 16 bits.
+fn wide_rows_32(inter: &[i32], range: u32, shift: u32, out: &mut [i32])
     requires { ⌜ SizeAsk 32 range shift (length (now inter)) (length (now out)) ⌝ }
     ensures { λ _. ⌜ Filled 32 32 (stageTwo (transMatrix 32) 32 shift (limitedBlock range 32 (now (inter .entry)))) 32 (now (out .entry)) (now (out .exit)) ⌝ }
 {
     let mut g = [0i32; 1024];
     turn(inter, 32, &mut g[..]);
     pass_32(&g[..], range, 32, shift, out);
+}
+
+// The same; values that fit 16 bits are narrowed as they are turned over.
+pub fn rows_32(inter: &[i32], range: u32, shift: u32, out: &mut [i32])
+    requires { ⌜ SizeAsk 32 range shift (length (now inter)) (length (now out)) ⌝ }
+    ensures { λ _. ⌜ Filled 32 32 (stageTwo (transMatrix 32) 32 shift (limitedBlock range 32 (now (inter .entry)))) 32 (now (out .entry)) (now (out .exit)) ⌝ }
+{
+    if all_narrow(inter, 1024) {
+        let mut l = [0i16; 1024];
+        let mut none = [0i16; 1];
+        turn_narrow(inter, 32, &mut l[..]);
+        tiles_32::stage_32(&l, 32, tiles::half(shift), shift, true, out, &mut none[..]);
+    } else {
+        wide_rows_32(inter, range, shift, out);
+    }
 }
 
 // Stage one of 32 points, in row order.
@@ -242,8 +314,8 @@ pub fn columns_32(coeff: &[i32], range: u32, inter: &mut [i32])
     put_columns(&g[..], 32, range, inter);
 }
 
-// One column of stage one of 32 points.
-pub fn column_32(coeff: &[i32], range: u32, column: usize, inter: &mut [i32])
+// One column of stage one of 32 points, in two parts where its values take more than 16 bits.
+fn wide_column_32(coeff: &[i32], range: u32, column: usize, inter: &mut [i32])
     requires { ⌜ SizeAsk 32 range 7 (length (now coeff)) (length (now inter)) × (column < 32) ⌝ }
     ensures { λ _. ⌜ ColumnPlaced 32 column (λ m. intermediate (transMatrix 32) 32 range (limitedBlock range 32 (now (coeff .entry))) m column) 32 (now (inter .entry)) (now (inter .exit)) ⌝ }
 {
@@ -252,4 +324,21 @@ pub fn column_32(coeff: &[i32], range: u32, column: usize, inter: &mut [i32])
     take_column(coeff, 32, column, &mut x[..]);
     pass_32(&x[..], range, 1, 7, &mut r[..]);
     put_column(&r[..], 0, 32, range, inter, column);
+}
+
+// The same; values that fit 16 bits are narrowed before they stand in a block.
+pub fn column_32(coeff: &[i32], range: u32, column: usize, inter: &mut [i32])
+    requires { ⌜ SizeAsk 32 range 7 (length (now coeff)) (length (now inter)) × (column < 32) ⌝ }
+    ensures { λ _. ⌜ ColumnPlaced 32 column (λ m. intermediate (transMatrix 32) 32 range (limitedBlock range 32 (now (coeff .entry))) m column) 32 (now (inter .entry)) (now (inter .exit)) ⌝ }
+{
+    if column_narrow(coeff, 32, column) {
+        let mut l = [0i16; 1024];
+        let mut r = [0i32; 32];
+        let mut none = [0i16; 1];
+        take_narrow(coeff, 32, column, &mut l[..]);
+        tiles_32::stage_32(&l, 1, 64, 7, true, &mut r[..], &mut none[..]);
+        put_column(&r[..], 0, 32, range, inter, column);
+    } else {
+        wide_column_32(coeff, range, column, inter);
+    }
 }

@@ -8,7 +8,8 @@ ghost use Rattle.tiles_wide.specs.Split.{PassAsk, PassGives};
 
 mod parts; // values in 16 bits, or limited to the range and split into two parts, and sums joined
 
-use parts::all_narrow;
+pub use parts::all_narrow;
+pub use parts::is_wide;
 use parts::join;
 use parts::narrow;
 use parts::split;

@@ -16,7 +16,7 @@ ghost use Rattle.transform_1d.specs.Rows.{Placed};
 ghost use Rattle.tiles_wide.specs.Split.{highOf, lowOf, Narrow, JoinAsk};
 
 // Whether x takes more than 16 bits.
-fn is_wide(x: i32) -> bool
+pub fn is_wide(x: i32) -> bool
     ensures { λ r. ⌜ (r ≡ false → SFits w16 x) ⌝ }
 {
     if x < -32768 {

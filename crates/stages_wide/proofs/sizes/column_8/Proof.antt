@@ -1,25 +1,23 @@
--- `stages_wide::sizes::column_8` meets its contract: a stage over the column alone, limited and put in its place.
+-- `stages_wide::sizes::column_8` meets its contract: one line over the column's limited values, rounded, limited and put in its place.
 use native.Mathlib.Omega.{arith}
 use borrow.Author.Needs.{needs}
 use Rattle.h265.specs.Matrix.{transMatrix}
-use Rattle.stages_wide.proofs.StageLaws.{pass-rows}
-use Rattle.stages_wide.proofs.MovesLaws.{put-one}
+use Rattle.stages_wide.proofs.ProductsLaws.{column-values, roundAsk-outputs, put-line}
 use Rattle.stages_wide.proofs.sizes.column_8.Statement.{statement}
 use Rattle.stages_wide.proofs.sizes.column_8.Tie as tie
 
-pass-requires : tie.Need-pass-8-requires
-pass-requires c κs = let p = c .before .before .before .before .before .pre .0 in record { rangeLeast = p .rangeLeast; rangeMost = p .rangeMost; parts = p .parts; shiftLeast = omega arith; shiftMost = omega arith; source = omega (arith, c .before .before .before .take-column .ensures .long); few = omega arith; room = omega arith }
+line-requires : tie.Need-line-8-requires
+line-requires c κs = let s = c .before .before .before in column-values (s .args .coeff .now) (s .args .column) (s .pre .0 .rangeMost) (c .before .limited-column .ensures)
 
-put-requires : tie.Need-put-column-requires
-put-requires c κs =
-    let p = c .before .before .before .before .before .before .before .before .before .pre in (p .0 .rangeMost, omega arith, p .1, omega (arith, c .before .before .before .pass-8 .ensures .rows .long), p .0 .room)
+round-requires : tie.Need-put-rounded-requires
+round-requires c κs = (roundAsk-outputs (c .before .before .line-8 .ensures) (omega arith) (omega arith), omega arith)
 
 returns : tie.Need-returns
 returns c =
-    let a = c .before .before .before .before .before .before .before .before .before .before .before .args in
-    put-one (transMatrix 8) 8 (a .range) (a .coeff .now) (c .before .before .before .before .before .before .before .before .before .take-column .ensures) (pass-rows 8 8 (a .range) _ (omega arith) (λ k i u v w. absurd (let x : ⊥ = omega arith in x)) 7 (c .before .before .before .before .before .pass-8 .ensures)) (c .before .put-column .ensures)
+    let a = c .before .before .before .before .before .before .before .before .before .before .before .before .args in
+    put-line (transMatrix 8) 8 (a .range) (a .coeff .now) (c .before .before .before .before .before .before .before .before .before .before .limited-column .ensures) (c .before .before .before .before .before .before .before .before .line-8 .ensures) (c .before .before .before .before .before .put-rounded .ensures) (c .before .put-column .ensures)
 
 pub column-8-spec : {M : Type 1} → statement M
 column-8-spec =
     tie.close
-    (tie.spec (λ c. search needs) (λ c κs. search needs) (λ c. search needs) (λ c. search needs) pass-requires (λ c. search needs) put-requires (λ c. search needs) returns)
+    (tie.spec (λ c. search needs) (λ c κs. search needs) line-requires (λ c. search needs) (λ c. search needs) round-requires (λ c. search needs) (λ c κs. search needs) (λ c. search needs) returns)
