@@ -2,8 +2,8 @@
 -- refusals, and what the working functions' lists are in clause 8.6's terms.
 --   block-refused        a call whose numbers are refused hands back that refusal and the output as lent
 --   Ready, block-ready   what holds once the numbers are there
---   ready-regular        the numbers are regular
---   narrow-ends, narrow-shift   of a 16-bit output: the range's ends fit 16 bits, and t > 0
+--   ready-regular, ready-listed   the numbers are regular, and listable where R = 15
+--   narrow-ends, narrow-listable, narrow-shift   of a 16-bit output: the range's ends fit 16 bits, R = 15, and t > 0
 --   flat-writes, listed-writes, flat-skips, listed-skips   what was written and counted is what the definition says
 use mathlib.Core.Path.{_≡_, refl, sym, ap, subst, _∙_}
 use mathlib.Core.Bool.{Bool, true, false, _&&_}
@@ -41,12 +41,14 @@ use Rattle.scaling_blocks.specs.declared.CountAnswer.the-variants.{Limit
 use Rattle.scaling_values.specs.Factor.{WholeList}
 use Rattle.scaling_values.specs.Level.{Ends}
 use Rattle.scaling_values.specs.Flat.{Regular}
+use Rattle.scaling_values.specs.Listed.{Listable, Listed}
 use Rattle.scaling_values.specs.Skip.{Skippable}
 use Rattle.scaling_values.specs.Work.{flatAt, listedAt, flatLimitedAt, listedLimitedAt, flatResidualAt, listedResidualAt, Counted, Room}
 use Rattle.refusal.proofs.LadderLaws.{Rung, Passed, first-accepted, first-passed, first-refused, with-value}
 use Rattle.refusal.proofs.LadderLaws.Rung.{rung}
 use Rattle.scaling_values.proofs.FactorLaws.{size-square}
 use Rattle.scaling_values.proofs.FlatLaws.{dequantOf-regular}
+use Rattle.scaling_values.proofs.ListedLaws.{dequantOf-listed}
 use Rattle.scaling_values.proofs.CountLaws.{count-cong}
 use Rattle.scaling_values.proofs.LevelLaws.{dequantOf-manageable, flatLevel-eq, listedLevel-eq, listedLimited-eq}
 
@@ -123,7 +125,17 @@ unfolding transformSkipOf
 ready-regular {n = n} {q} {b} {x} r =
     subst (λ (s : TransformSkipParams). Regular (s .dequant)) (sym (r .is)) (dequantOf-regular (log2Size n) q b x (r .known))
 
+pub ready-listed : {narrow : Bool} {n : ℕ} {q : ℤ} {b : ℕ} {x : Bool} {entries levels places : ℕ} {p : TransformSkipParams}
+    → Ready narrow n q b x entries levels places p → Listed (p .dequant)
+unfolding transformSkipOf
+ready-listed {n = n} {q} {b} {x} r =
+    subst (λ (s : TransformSkipParams). Listed (s .dequant)) (sym (r .is)) (dequantOf-listed (log2Size n) q b x (r .known))
+
 -- ---- 16-bit output
+plain-most : (l : ℕ) (q : ℤ) (b : ℕ) → dequantOf l q b false .«clip_max» ≡ pos 32767
+unfolding dequantOf transformRange coeffMax
+plain-most l q b = refl
+
 plain-ends : (l : ℕ) (q : ℤ) (b : ℕ) → Ends w16 (dequantOf l q b false)
 unfolding dequantOf transformRange coeffMin coeffMax
 plain-ends l q b = record { least = record { sfits = lit< tt }; most = record { sfits = lit< tt } }
@@ -140,6 +152,14 @@ module _ (n : ℕ) (q : ℤ) (b : ℕ) (x : Bool) (entries levels places : ℕ) 
       let w = width-accepted b x (r .passed .1 .1 .0) in
       subst (λ (s : TransformSkipParams). Ends w16 (s .dequant)) (sym (r .is))
       (subst (λ (y : Bool). Ends w16 (dequantOf (log2Size n) q b y)) (sym (w .1)) (plain-ends (log2Size n) q b))
+
+  pub narrow-listable : Listable (p .dequant)
+  unfolding transformSkipOf
+  narrow-listable =
+      let w = width-accepted b x (r .passed .1 .1 .0) in
+      ready-listed r .short
+      (subst (λ (s : TransformSkipParams). s .dequant .«clip_max» ≡ pos 32767) (sym (r .is))
+      (subst (λ (y : Bool). dequantOf (log2Size n) q b y .«clip_max» ≡ pos 32767) (sym (w .1)) (plain-most (log2Size n) q b)))
 
   pub narrow-shift : pos 1 ≤ℤ p .«tr_shift»
   unfolding transformSkipOf

@@ -8,16 +8,18 @@ ghost use mir.Syntax.{w16};
 ghost use Rattle.integers.specs.Lists.{overwrite};
 ghost use Rattle.h265.specs.ScalingFactor.ScalingList.{listed};
 ghost use Rattle.scaling_values.specs.Factor.{WholeList};
-ghost use Rattle.scaling_values.specs.Level.{Manageable, Ends};
+ghost use Rattle.scaling_values.specs.Level.{Manageable};
 ghost use Rattle.scaling_values.specs.Flat.{shortAt, shortLimitedAt, Short, ShortFits};
+ghost use Rattle.scaling_values.specs.Listed.{compactAt, compactLimitedAt, Listable, Compact};
 ghost use Rattle.scaling_values.specs.Skip.{Skippable};
-ghost use Rattle.scaling_values.specs.Work.{directAt, directLimitedAt, listedAt, listedLimitedAt, residualAt, Counted, Room};
+ghost use Rattle.scaling_values.specs.Work.{listedAt, listedLimitedAt, residualAt, Counted, Room};
 use crate::spread;
 use parameters::DequantParams;
 use parameters::TransformSkipParams;
 use scaling_values::FlatParams;
+use scaling_values::ListedParams;
 use scaling_values::flat;
-use scaling_values::level;
+use scaling_values::listed;
 use scaling_values::skip;
 
 // The coefficients of a block without a list, and how many were limited.
@@ -41,27 +43,26 @@ pub fn scale_flat(levels: &[i32], count: usize, by: FlatParams, out: &mut [i16])
 }
 
 // The same with a list whose entries stand at the indices themselves.
-fn scale_direct(
+fn scale_compact(
     levels: &[i32],
     count: usize,
-    by: DequantParams,
+    by: ListedParams,
     entries: &[u8],
     out: &mut [i16],
 ) -> u16
-    requires { ⌜ Manageable by ⌝ }
+    requires { ⌜ Compact by ⌝ }
     requires { ⌜ Room count (length (now levels)) (length (now out)) ⌝ }
     requires { ⌜ count ≤ length (now entries) ⌝ }
     requires { ⌜ count ≤ 1024 ⌝ }
-    requires { ⌜ Ends w16 by ⌝ }
-    ensures { λ r. ⌜ Counted (directAt by (now (entries .entry)) (now (levels .entry))) (directLimitedAt by (now (entries .entry)) (now (levels .entry))) count (now (out .entry)) (now (out .exit)) r ⌝ }
+    ensures { λ r. ⌜ Counted (compactAt by (now (entries .entry)) (now (levels .entry))) (compactLimitedAt by (now (entries .entry)) (now (levels .entry))) count (now (out .entry)) (now (out .exit)) r ⌝ }
 {
     let mut limited: u32 = 0;
     let mut i = 0;
     while i < count {
-        let scaled = level::scaled_listed(levels[i], entries[i], by);
+        let scaled = listed::scaled_compact(levels[i], entries[i], by);
         let value = scaled.value;
         out[i] = value as i16;
-        limited += level::limited_once(scaled);
+        limited += scaled.limited;
         i += 1;
     }
     limited as u16
@@ -79,15 +80,16 @@ pub fn scale_listed(
     requires { ⌜ Manageable by ⌝ }
     requires { ⌜ Room (n * n) (length (now levels)) (length (now out)) ⌝ }
     requires { ⌜ WholeList (length (now list)) n ⌝ }
-    requires { ⌜ Ends w16 by ⌝ }
+    requires { ⌜ Listable by ⌝ }
     ensures { λ r. ⌜ Counted (listedAt by (listed (now (list .entry)) dc) n (now (levels .entry))) (listedLimitedAt by (listed (now (list .entry)) dc) n (now (levels .entry))) (n * n) (now (out .entry)) (now (out .exit)) r ⌝ }
 {
+    let compact = listed::listed_params(by);
     if n <= 8 {
-        return scale_direct(levels, n * n, by, list, out);
+        return scale_compact(levels, n * n, compact, list, out);
     }
     let mut entries = [0u8; 1024];
     spread::spread(list, n, dc, &mut entries);
-    scale_direct(levels, n * n, by, &entries, out)
+    scale_compact(levels, n * n, compact, &entries, out)
 }
 
 // Coefficients turned into residuals, where they stand.

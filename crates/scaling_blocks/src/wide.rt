@@ -7,14 +7,17 @@ ghost use Rattle.h265.specs.ScalingFactor.ScalingList.{listed};
 ghost use Rattle.scaling_values.specs.Factor.{WholeList};
 ghost use Rattle.scaling_values.specs.Level.{Manageable};
 ghost use Rattle.scaling_values.specs.Flat.{shortAt, shortLimitedAt, Short};
+ghost use Rattle.scaling_values.specs.Listed.{compactAt, compactLimitedAt, Listable, Listed, Compact};
 ghost use Rattle.scaling_values.specs.Skip.{Skippable};
 ghost use Rattle.scaling_values.specs.Work.{directAt, directLimitedAt, listedAt, listedLimitedAt, residualAt, Counted, Room, Coefficients};
 use crate::spread;
 use parameters::DequantParams;
 use parameters::TransformSkipParams;
 use scaling_values::FlatParams;
+use scaling_values::ListedParams;
 use scaling_values::flat;
 use scaling_values::level;
+use scaling_values::listed;
 use scaling_values::skip;
 
 // The coefficients of a block without a list, and how many were limited.
@@ -36,8 +39,8 @@ pub fn scale_flat(levels: &[i32], count: usize, by: FlatParams, out: &mut [i32])
     limited as u16
 }
 
-// The same with a list whose entries stand at the indices themselves.
-fn scale_direct(
+// The coefficients of a block with a list whose entries stand at the indices themselves, and how many were limited.
+fn scale_long(
     levels: &[i32],
     count: usize,
     by: DequantParams,
@@ -62,8 +65,34 @@ fn scale_direct(
     limited as u16
 }
 
-// The coefficients of a block with a list, and how many were limited. At sizes 4 and 8 the entry at an index is its m.
-pub fn scale_listed(
+// The same where R = 15, by the numbers without the power of two.
+fn scale_compact(
+    levels: &[i32],
+    count: usize,
+    by: ListedParams,
+    entries: &[u8],
+    out: &mut [i32],
+) -> u16
+    requires { ⌜ Compact by ⌝ }
+    requires { ⌜ Room count (length (now levels)) (length (now out)) ⌝ }
+    requires { ⌜ count ≤ length (now entries) ⌝ }
+    requires { ⌜ count ≤ 1024 ⌝ }
+    ensures { λ r. ⌜ Counted (compactAt by (now (entries .entry)) (now (levels .entry))) (compactLimitedAt by (now (entries .entry)) (now (levels .entry))) count (now (out .entry)) (now (out .exit)) r ⌝ }
+{
+    let mut limited: u32 = 0;
+    let mut i = 0;
+    while i < count {
+        let scaled = listed::scaled_compact(levels[i], entries[i], by);
+        let value = scaled.value;
+        out[i] = value;
+        limited += scaled.limited;
+        i += 1;
+    }
+    limited as u16
+}
+
+// The coefficients of a block with a list at any range, and how many were limited. At sizes 4 and 8 the entry at an index is its m.
+fn listed_long(
     levels: &[i32],
     n: usize,
     by: DequantParams,
@@ -77,11 +106,56 @@ pub fn scale_listed(
     ensures { λ r. ⌜ Counted (listedAt by (listed (now (list .entry)) dc) n (now (levels .entry))) (listedLimitedAt by (listed (now (list .entry)) dc) n (now (levels .entry))) (n * n) (now (out .entry)) (now (out .exit)) r ⌝ }
 {
     if n <= 8 {
-        return scale_direct(levels, n * n, by, list, out);
+        return scale_long(levels, n * n, by, list, out);
     }
     let mut entries = [0u8; 1024];
     spread::spread(list, n, dc, &mut entries);
-    scale_direct(levels, n * n, by, &entries, out)
+    scale_long(levels, n * n, by, &entries, out)
+}
+
+// The same where R = 15.
+fn listed_compact(
+    levels: &[i32],
+    n: usize,
+    by: DequantParams,
+    list: &[u8],
+    dc: u8,
+    out: &mut [i32],
+) -> u16
+    requires { ⌜ Manageable by ⌝ }
+    requires { ⌜ Room (n * n) (length (now levels)) (length (now out)) ⌝ }
+    requires { ⌜ WholeList (length (now list)) n ⌝ }
+    requires { ⌜ Listable by ⌝ }
+    ensures { λ r. ⌜ Counted (listedAt by (listed (now (list .entry)) dc) n (now (levels .entry))) (listedLimitedAt by (listed (now (list .entry)) dc) n (now (levels .entry))) (n * n) (now (out .entry)) (now (out .exit)) r ⌝ }
+{
+    let compact = listed::listed_params(by);
+    if n <= 8 {
+        return scale_compact(levels, n * n, compact, list, out);
+    }
+    let mut entries = [0u8; 1024];
+    spread::spread(list, n, dc, &mut entries);
+    scale_compact(levels, n * n, compact, &entries, out)
+}
+
+// The one or the other.
+pub fn scale_listed(
+    levels: &[i32],
+    n: usize,
+    by: DequantParams,
+    list: &[u8],
+    dc: u8,
+    out: &mut [i32],
+) -> u16
+    requires { ⌜ Manageable by ⌝ }
+    requires { ⌜ Room (n * n) (length (now levels)) (length (now out)) ⌝ }
+    requires { ⌜ WholeList (length (now list)) n ⌝ }
+    requires { ⌜ Listed by ⌝ }
+    ensures { λ r. ⌜ Counted (listedAt by (listed (now (list .entry)) dc) n (now (levels .entry))) (listedLimitedAt by (listed (now (list .entry)) dc) n (now (levels .entry))) (n * n) (now (out .entry)) (now (out .exit)) r ⌝ }
+{
+    if by.clip_max == 32767 {
+        return listed_compact(levels, n, by, list, dc, out);
+    }
+    listed_long(levels, n, by, list, dc, out)
 }
 
 // Coefficients turned into residuals, where they stand.

@@ -47,7 +47,7 @@ use Rattle.scaling_values.proofs.LevelLaws.{levelBy-fits, listedLevel-w
 use Rattle.scaling_values.proofs.ThresholdLaws.{coeffMax-pos, limited-exact, value-between, value-above, value-below}
 
 -- ---- shifts
-shrZ-shrZ : (z : ℤ) (j k : ℕ) → shrZ (shrZ z (2 ^ j)) (2 ^ k) ≡ shrZ z (2 ^ (j + k))
+pub shrZ-shrZ : (z : ℤ) (j k : ℕ) → shrZ (shrZ z (2 ^ j)) (2 ^ k) ≡ shrZ z (2 ^ (j + k))
 shrZ-shrZ (pos n) j k = ap pos (shr-shr n j k)
 shrZ-shrZ (negsuc n) j k = ap negsuc (shr-shr n j k)
 

@@ -1,5 +1,5 @@
 -- Laws of one level by the machine's numbers.
---   between-fits, levelBy-fits     what is limited to ends that fit a width fits it: the one law under both output widths
+--   between-fits, clip3-fits, levelBy-fits     what is limited to ends that fit a width fits it: the one law under both output widths
 --   manageable-ends               32 bits hold the ends of every range
 --   levelBy-within                a coefficient is at most 2^22 in size
 --   flatLevel-…, listedLevel-…    the same of a level without a list, and of one with the m of a list
@@ -41,7 +41,7 @@ pub between-fits : {w : Width} (lo hi x : ℤ) → SFits w lo → SFits w hi →
 between-fits lo hi (pos n) f g h k = record { sfits = omega (arith, le-in k, sfits-posPart g) }
 between-fits lo hi (negsuc n) f g h k = record { sfits = omega (arith, le-in h, sfits-negPart f) }
 
-clip3-fits : {w : Width} (lo hi x : ℤ) → SFits w lo → SFits w hi → SFits w (clip3 lo hi x)
+pub clip3-fits : {w : Width} (lo hi x : ℤ) → SFits w lo → SFits w hi → SFits w (clip3 lo hi x)
 clip3-fits {w} lo hi x f g = clip3-cases (λ z. SFits w z) lo hi x (λ h. f) (λ h k. g) (λ h k. between-fits lo hi x f g h k)
 
 pub levelBy-fits : {w : Width} {p : DequantParams} (f level : ℤ) → Ends w p → SFits w (levelBy p f level)

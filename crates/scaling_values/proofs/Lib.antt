@@ -5,4 +5,5 @@ pub mod LevelLaws
 pub mod DivisionLaws
 pub mod ThresholdLaws
 pub mod FlatLaws
+pub mod ListedLaws
 pub mod SkipLaws

@@ -1,5 +1,6 @@
 pub mod Factor
 pub mod Level
 pub mod Flat
+pub mod Listed
 pub mod Skip
 pub mod Work

@@ -2,6 +2,7 @@
 // Internal: no refusal; callers meet each `requires`.
 pub mod flat;
 pub mod level;
+pub mod listed;
 pub mod skip;
 
 // The coefficient of a level, whether the level was limited, and whether the result was.
@@ -11,7 +12,7 @@ pub struct ScaledLevel {
     pub result_limited: bool,
 }
 
-// The coefficient of a level without a list, and 1 where the level or the result was limited.
+// The coefficient of a level in 32 bits, and 1 where the level or the result was limited.
 pub struct FlatLevel {
     pub value: i32,
     pub limited: u32,
@@ -27,4 +28,15 @@ pub struct FlatParams {
     pub top: i32,
     pub under: i32,
     pub over: i32,
+}
+
+// The numbers of a block with a list where R = 15, without the power of two that the factor and the shift share: `base` is the odd part of what
+// m is multiplied by, and a product is shifted `down` with the rounding `add`, or `up` with none; between `low` and `top` nothing limits it.
+pub struct ListedParams {
+    pub base: i32,
+    pub add: i32,
+    pub down: u32,
+    pub up: u32,
+    pub low: i32,
+    pub top: i32,
 }

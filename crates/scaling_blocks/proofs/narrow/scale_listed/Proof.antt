@@ -5,19 +5,24 @@ use Prim.Native.Nat.{_*_}
 use native.Mathlib.Nat.{mul-le-mul}
 use native.Mathlib.Omega.{arith}
 use borrow.Author.Needs.{needs}
+use Rattle.scaling_values.proofs.ListedLaws.{compact-counted}
 use Rattle.scaling_values.proofs.FactorLaws.{size-square, size-large, factor-small}
 use Rattle.scaling_blocks.proofs.WorkLaws.{direct-counted}
 use Rattle.scaling_blocks.proofs.narrow.scale_listed.Statement.{statement}
 use Rattle.scaling_blocks.proofs.narrow.scale_listed.Tie as tie
 
-mul-scale-direct : tie.Need-mul-scale-direct
-mul-scale-direct c = search needs
+listed-params-requires : tie.Need-listed-params-requires
+listed-params-requires c κs = search needs
 
-scale-direct-requires : tie.Need-scale-direct-requires
-scale-direct-requires c κs =
+mul-scale-compact : tie.Need-mul-scale-compact
+mul-scale-compact c = search needs
+
+scale-compact-requires : tie.Need-scale-compact-requires
+scale-compact-requires c κs =
     let t = c .before in
-    let s = t .before .before in
-    (s .pre .0, (s .pre .1 .0, (omega (arith, s .pre .1 .1 .0 .whole, mul-le-mul (t .if1 .taken) (t .if1 .taken)), (size-square (s .args .n) (s .pre .1 .1 .0 .size), s .pre .1 .1 .1))))
+    let p = t .before in
+    let s = p .before .before in
+    (p .listed-params .ensures .compact, (s .pre .1 .0, (omega (arith, s .pre .1 .1 .0 .whole, mul-le-mul (t .if1 .taken) (t .if1 .taken)), size-square (s .args .n) (s .pre .1 .1 .0 .size))))
 
 same-length : tie.Need-same-length
 same-length c = search needs
@@ -26,10 +31,12 @@ returns : tie.Need-returns
 returns c =
     let d = c .before in
     let t = d .before .before in
-    let s = t .before .before in
+    let p = t .before in
+    let s = p .before .before in
     let a = s .args in
     direct-counted (a .by) (a .list .now) (a .dc) (a .n) (a .levels .now) (a .list .now)
-    (λ i h. sym (factor-small (a .list .now) (a .dc) (a .n) i (s .pre .1 .1 .0 .size) (t .if1 .taken))) (d .scale-direct .ensures)
+    (λ i h. sym (factor-small (a .list .now) (a .dc) (a .n) i (s .pre .1 .1 .0 .size) (t .if1 .taken)))
+    (compact-counted (p .listed-params .ensures) (a .list .now) (a .levels .now) (d .scale-compact .ensures))
 
 slice-aggregate-spread : tie.Need-slice-aggregate-spread
 slice-aggregate-spread c = search needs
@@ -37,21 +44,22 @@ slice-aggregate-spread c = search needs
 spread-requires : tie.Need-spread-requires
 spread-requires c κs =
     let e = c .before in
-    let s = e .before .before in
+    let s = e .before .before .before in
     (size-square (s .args .n) (s .pre .1 .1 .0 .size), (s .pre .1 .1 .0, size-large (s .args .n) (s .pre .1 .1 .0 .size) (omega (arith, e .if1 .left))))
 
-mul-scale-direct-2 : tie.Need-mul-scale-direct-2
-mul-scale-direct-2 c = search needs
+mul-scale-compact-2 : tie.Need-mul-scale-compact-2
+mul-scale-compact-2 c = search needs
 
-slice-aggregate-scale-direct : tie.Need-slice-aggregate-scale-direct
-slice-aggregate-scale-direct c = search needs
+slice-aggregate-scale-compact : tie.Need-slice-aggregate-scale-compact
+slice-aggregate-scale-compact c = search needs
 
-scale-direct-requires-2 : tie.Need-scale-direct-requires-2
-scale-direct-requires-2 c κs =
+scale-compact-requires-2 : tie.Need-scale-compact-requires-2
+scale-compact-requires-2 c κs =
     let f = c .before .before .before in
-    let s = f .before .before .before .before in
+    let p = f .before .before .before in
+    let s = p .before .before in
     let square = size-square (s .args .n) (s .pre .1 .1 .0 .size) in
-    (s .pre .0, (s .pre .1 .0, (omega (arith, f .spread .ensures .same, square), (square, s .pre .1 .1 .1))))
+    (p .listed-params .ensures .compact, (s .pre .1 .0, (omega (arith, f .spread .ensures .same, square), square)))
 
 same-length-2 : tie.Need-same-length-2
 same-length-2 c = search needs
@@ -60,23 +68,25 @@ returns-2 : tie.Need-returns-2
 returns-2 c =
     let d = c .before in
     let f = d .before .before .before .before in
-    let s = f .before .before .before .before in
+    let p = f .before .before .before in
+    let s = p .before .before in
     let a = s .args in
     direct-counted (a .by) (a .list .now) (a .dc) (a .n) (a .levels .now) _
-    (f .spread .ensures .more (λ k h. absurd (let x : ⊥ = omega arith in x))) (d .scale-direct2 .ensures)
+    (f .spread .ensures .more (λ k h. absurd (let x : ⊥ = omega arith in x))) (compact-counted (p .listed-params .ensures) _ (a .levels .now) (d .scale-compact2 .ensures))
 
 pub scale-listed-spec : {M : Type 1} → statement M
 scale-listed-spec =
     tie.close
     (tie.spec
-    mul-scale-direct
-    scale-direct-requires
+    listed-params-requires
+    mul-scale-compact
+    scale-compact-requires
     same-length
     returns
     slice-aggregate-spread
     spread-requires
-    mul-scale-direct-2
-    slice-aggregate-scale-direct
-    scale-direct-requires-2
+    mul-scale-compact-2
+    slice-aggregate-scale-compact
+    scale-compact-requires-2
     same-length-2
     returns-2)

@@ -1,82 +1,41 @@
--- `scaling_blocks::wide::scale_listed` meets its contract: at sizes 4 and 8 the list's entries are the m of their indices, at 16 and 32 the entries
--- that were laid out are.
-use mathlib.Core.Path.{_≡_, sym}
-use Prim.Native.Nat.{_*_}
-use native.Mathlib.Nat.{mul-le-mul}
-use native.Mathlib.Omega.{arith}
+-- `scaling_blocks::wide::scale_listed` meets its contract: each loop's contract is the one asked for.
+use mathlib.Core.Path.{_≡_}
 use borrow.Author.Needs.{needs}
-use Rattle.scaling_values.proofs.FactorLaws.{size-square, size-large, factor-small}
-use Rattle.scaling_blocks.proofs.WorkLaws.{direct-counted}
+use lib.IntN.{pos}
+use mir.Syntax.{w64}
+use mir.Val.{SFits}
+use Rattle.integers.proofs.BoundLaws.{within-fits}
+use Rattle.integers.proofs.MachineLaws.{eq-bits}
 use Rattle.scaling_blocks.proofs.wide.scale_listed.Statement.{statement}
 use Rattle.scaling_blocks.proofs.wide.scale_listed.Tie as tie
 
-mul-scale-direct : tie.Need-mul-scale-direct
-mul-scale-direct c = search needs
+most-fits : (c : tie.Start) → SFits w64 (c .args .by .«clip_max»)
+most-fits c = within-fits tt (c .pre .0 .most)
 
-scale-direct-requires : tie.Need-scale-direct-requires
-scale-direct-requires c κs =
+most-is : (c : tie.Then1) → c .before .before .before .before .args .by .«clip_max» ≡ pos 32767
+most-is c = eq-bits (most-fits (c .before .before .before .before)) (c .if1 .taken)
+
+listed-compact-requires : tie.Need-listed-compact-requires
+listed-compact-requires c κs =
     let t = c .before in
-    let s = t .before .before in
-    (s .pre .0, (s .pre .1 .0, (omega (arith, s .pre .1 .1 .whole, mul-le-mul (t .if1 .taken) (t .if1 .taken)), size-square (s .args .n) (s .pre .1 .1 .size))))
+    let s = t .before .before .before .before in
+    (s .pre .0, (s .pre .1 .0, (s .pre .1 .1 .0, s .pre .1 .1 .1 .short (most-is t))))
 
 same-length : tie.Need-same-length
 same-length c = search needs
 
 returns : tie.Need-returns
-returns c =
-    let d = c .before in
-    let t = d .before .before in
-    let s = t .before .before in
-    let a = s .args in
-    direct-counted (a .by) (a .list .now) (a .dc) (a .n) (a .levels .now) (a .list .now)
-    (λ i h. sym (factor-small (a .list .now) (a .dc) (a .n) i (s .pre .1 .1 .size) (t .if1 .taken))) (d .scale-direct .ensures)
+returns c = search needs
 
-slice-aggregate-spread : tie.Need-slice-aggregate-spread
-slice-aggregate-spread c = search needs
-
-spread-requires : tie.Need-spread-requires
-spread-requires c κs =
-    let e = c .before in
-    let s = e .before .before in
-    (size-square (s .args .n) (s .pre .1 .1 .size), (s .pre .1 .1, size-large (s .args .n) (s .pre .1 .1 .size) (omega (arith, e .if1 .left))))
-
-mul-scale-direct-2 : tie.Need-mul-scale-direct-2
-mul-scale-direct-2 c = search needs
-
-slice-aggregate-scale-direct : tie.Need-slice-aggregate-scale-direct
-slice-aggregate-scale-direct c = search needs
-
-scale-direct-requires-2 : tie.Need-scale-direct-requires-2
-scale-direct-requires-2 c κs =
-    let f = c .before .before .before in
-    let s = f .before .before .before .before in
-    let square = size-square (s .args .n) (s .pre .1 .1 .size) in
-    (s .pre .0, (s .pre .1 .0, (omega (arith, f .spread .ensures .same, square), square)))
+listed-long-requires : tie.Need-listed-long-requires
+listed-long-requires c κs = search needs
 
 same-length-2 : tie.Need-same-length-2
 same-length-2 c = search needs
 
 returns-2 : tie.Need-returns-2
-returns-2 c =
-    let d = c .before in
-    let f = d .before .before .before .before in
-    let s = f .before .before .before .before in
-    let a = s .args in
-    direct-counted (a .by) (a .list .now) (a .dc) (a .n) (a .levels .now) _
-    (f .spread .ensures .more (λ k h. absurd (let x : ⊥ = omega arith in x))) (d .scale-direct2 .ensures)
+returns-2 c = search needs
 
 pub scale-listed-spec : {M : Type 1} → statement M
 scale-listed-spec =
-    tie.close
-    (tie.spec
-    mul-scale-direct
-    scale-direct-requires
-    same-length
-    returns
-    slice-aggregate-spread
-    spread-requires
-    mul-scale-direct-2
-    slice-aggregate-scale-direct
-    scale-direct-requires-2
-    same-length-2
-    returns-2)
+    tie.close (tie.spec listed-compact-requires same-length returns listed-long-requires same-length-2 returns-2)

@@ -1,4 +1,4 @@
--- `scaling_blocks::narrow::scale_direct` meets its contract. The loop's invariant: the first i places hold their coefficients, the others are as lent, and
+-- `scaling_blocks::wide::scale_long` meets its contract. The loop's invariant: the first i places hold their coefficients, the others are as lent, and
 -- of the first i levels so many were limited.
 use mathlib.Core.Path.{_≡_, _∙_, ap₂}
 use mathlib.Core.Bool.{Bool, _||_, cond}
@@ -7,16 +7,17 @@ use native.Mathlib.Omega.{arith}
 use borrow.Author.Needs.{needs}
 use lib.IntN.{pos}
 use lib.ListN.{getD}
-use mir.Syntax.{w16, w32}
+use mir.Syntax.{w32}
 use mir.Val.{SFits}
 use Rattle.integers.proofs.MachineLaws.{round-trip}
 use Rattle.integers.proofs.ListsLaws.{Stored, stored-none, stored-more, stored-length, stored-all}
 use Rattle.scaling_values.specs.Level.{listedLimited}
 use Rattle.scaling_values.specs.Work.{directAt, directLimitedAt}
 use Rattle.scaling_values.proofs.CountLaws.{Tally, tally-none, tally-more, tally-small, tally-room, tally-all}
-use Rattle.scaling_blocks.proofs.WorkLaws.{directAt-fits, cast-fits, cast-as}
-use Rattle.scaling_blocks.proofs.narrow.scale_direct.Statement.{statement}
-use Rattle.scaling_blocks.proofs.narrow.scale_direct.Tie as tie
+use Rattle.scaling_values.proofs.LevelLaws.{manageable-ends}
+use Rattle.scaling_blocks.proofs.WorkLaws.{directAt-fits, stored-as}
+use Rattle.scaling_blocks.proofs.wide.scale_long.Statement.{statement}
+use Rattle.scaling_blocks.proofs.wide.scale_long.Tie as tie
 
 abbrev Inv-loop : tie.InvT-loop
 Inv-loop levels count by entries out₀ limited₀ i₀ out limited i =
@@ -49,20 +50,17 @@ value-is : (c : tie.After-scaled-listed Inv-loop μ-loop)
 unfolding directAt
 value-is c = rw (round-trip (level-fits (c .before .before))) at (c .scaled-listed .ensures .value)
 
-value-fits : (c : tie.After-scaled-listed Inv-loop μ-loop) → let l = c .before .before .before .before in let s = l .before .before in SFits w16 (directAt (s .args .by) (s .args .entries .now) (s .args .levels .now) (l .loop .i))
+value-fits : (c : tie.After-scaled-listed Inv-loop μ-loop) → let l = c .before .before .before .before in let s = l .before .before in SFits w32 (directAt (s .args .by) (s .args .entries .now) (s .args .levels .now) (l .loop .i))
 value-fits c =
     let l = c .before .before .before .before in
     let s = l .before .before in
-    directAt-fits (s .args .levels .now) (l .loop .i) (s .pre .1 .1 .1 .1) (s .args .entries .now)
+    directAt-fits (s .args .levels .now) (l .loop .i) (manageable-ends (s .pre .0)) (s .args .entries .now)
 
-cast-out : tie.Need-cast-out Inv-loop μ-loop
-cast-out c = cast-fits (value-is (c .before)) (value-fits (c .before)) w32 tt
+mul-value : tie.Need-mul-value Inv-loop μ-loop
+mul-value c = search needs
 
-mul-t11 : tie.Need-mul-t11 Inv-loop μ-loop
-mul-t11 c = search needs
-
-slice-set-from-out : tie.Need-slice-set-from-out Inv-loop μ-loop
-slice-set-from-out c =
+slice-set-from-value : tie.Need-slice-set-from-value Inv-loop μ-loop
+slice-set-from-value c =
     let l = c .before .before .before .before .before in
     omega (arith, stored-length (l .loop .inv .0), l .before .before .pre .1 .0)
 
@@ -80,7 +78,7 @@ limited-is c =
 add-limited : tie.Need-add-limited Inv-loop μ-loop
 add-limited c =
     let l = c .before .before .before .before .before .before in
-    let m : l .before .before .args .count ≤ 1024 = l .before .before .pre .1 .1 .1 .0 in
+    let m : l .before .before .args .count ≤ 1024 = l .before .before .pre .1 .1 .1 in
     omega (arith, m, tally-room (l .loop .inv .1 .0) (limited-is c))
 
 add-i : tie.Need-add-i Inv-loop μ-loop
@@ -93,14 +91,14 @@ loop-again : tie.Need-loop-again Inv-loop μ-loop
 loop-again c =
     let v = c .before .before in
     let l = v .before .before .before .before in (
-      stored-more (l .loop .inv .0) (omega (arith, l .before .before .pre .1 .0)) (cast-as (value-is v) (value-fits v) w32 tt),
+      stored-more (l .loop .inv .0) (omega (arith, l .before .before .pre .1 .0)) (stored-as (value-is v) (value-fits v)),
       (tally-more (l .loop .inv .1 .0) (limited-is c), omega arith),
     )
 
 cast-result : tie.Need-cast-result Inv-loop μ-loop
 cast-result c =
     let l = c .before in
-    let m : l .before .before .args .count ≤ 1024 = l .before .before .pre .1 .1 .1 .0 in
+    let m : l .before .before .args .count ≤ 1024 = l .before .before .pre .1 .1 .1 in
     omega (arith, m, tally-small (l .loop .inv .1 .0))
 
 same-length : tie.Need-same-length Inv-loop μ-loop
@@ -111,8 +109,8 @@ returns c =
     let l = c .before in
     record { out = stored-all (l .loop .inv .0) (omega arith); count = tally-all (l .loop .inv .1 .0) (omega arith) }
 
-pub scale-direct-spec : {M : Type 1} → statement M
-scale-direct-spec =
+pub scale-long-spec : {M : Type 1} → statement M
+scale-long-spec =
     tie.close
     (tie.spec
     Inv-loop
@@ -122,9 +120,8 @@ scale-direct-spec =
     shared-slice-copy-out-scaled-listed
     shared-slice-read-scaled-listed
     scaled-listed-requires
-    cast-out
-    mul-t11
-    slice-set-from-out
+    mul-value
+    slice-set-from-value
     limited-once-requires
     add-limited
     add-i

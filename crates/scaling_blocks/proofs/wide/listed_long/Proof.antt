@@ -1,0 +1,82 @@
+-- `scaling_blocks::wide::listed_long` meets its contract: at sizes 4 and 8 the list's entries are the m of their indices, at 16 and 32 the entries
+-- that were laid out are.
+use mathlib.Core.Path.{_≡_, sym}
+use Prim.Native.Nat.{_*_}
+use native.Mathlib.Nat.{mul-le-mul}
+use native.Mathlib.Omega.{arith}
+use borrow.Author.Needs.{needs}
+use Rattle.scaling_values.proofs.FactorLaws.{size-square, size-large, factor-small}
+use Rattle.scaling_blocks.proofs.WorkLaws.{direct-counted}
+use Rattle.scaling_blocks.proofs.wide.listed_long.Statement.{statement}
+use Rattle.scaling_blocks.proofs.wide.listed_long.Tie as tie
+
+mul-scale-long : tie.Need-mul-scale-long
+mul-scale-long c = search needs
+
+scale-long-requires : tie.Need-scale-long-requires
+scale-long-requires c κs =
+    let t = c .before in
+    let s = t .before .before in
+    (s .pre .0, (s .pre .1 .0, (omega (arith, s .pre .1 .1 .whole, mul-le-mul (t .if1 .taken) (t .if1 .taken)), size-square (s .args .n) (s .pre .1 .1 .size))))
+
+same-length : tie.Need-same-length
+same-length c = search needs
+
+returns : tie.Need-returns
+returns c =
+    let d = c .before in
+    let t = d .before .before in
+    let s = t .before .before in
+    let a = s .args in
+    direct-counted (a .by) (a .list .now) (a .dc) (a .n) (a .levels .now) (a .list .now)
+    (λ i h. sym (factor-small (a .list .now) (a .dc) (a .n) i (s .pre .1 .1 .size) (t .if1 .taken))) (d .scale-long .ensures)
+
+slice-aggregate-spread : tie.Need-slice-aggregate-spread
+slice-aggregate-spread c = search needs
+
+spread-requires : tie.Need-spread-requires
+spread-requires c κs =
+    let e = c .before in
+    let s = e .before .before in
+    (size-square (s .args .n) (s .pre .1 .1 .size), (s .pre .1 .1, size-large (s .args .n) (s .pre .1 .1 .size) (omega (arith, e .if1 .left))))
+
+mul-scale-long-2 : tie.Need-mul-scale-long-2
+mul-scale-long-2 c = search needs
+
+slice-aggregate-scale-long : tie.Need-slice-aggregate-scale-long
+slice-aggregate-scale-long c = search needs
+
+scale-long-requires-2 : tie.Need-scale-long-requires-2
+scale-long-requires-2 c κs =
+    let f = c .before .before .before in
+    let s = f .before .before .before .before in
+    let square = size-square (s .args .n) (s .pre .1 .1 .size) in
+    (s .pre .0, (s .pre .1 .0, (omega (arith, f .spread .ensures .same, square), square)))
+
+same-length-2 : tie.Need-same-length-2
+same-length-2 c = search needs
+
+returns-2 : tie.Need-returns-2
+returns-2 c =
+    let d = c .before in
+    let f = d .before .before .before .before in
+    let s = f .before .before .before .before in
+    let a = s .args in
+    direct-counted (a .by) (a .list .now) (a .dc) (a .n) (a .levels .now) _
+    (f .spread .ensures .more (λ k h. absurd (let x : ⊥ = omega arith in x))) (d .scale-long2 .ensures)
+
+pub listed-long-spec : {M : Type 1} → statement M
+listed-long-spec =
+    tie.close
+    (tie.spec
+    mul-scale-long
+    scale-long-requires
+    same-length
+    returns
+    slice-aggregate-spread
+    spread-requires
+    mul-scale-long-2
+    slice-aggregate-scale-long
+    scale-long-requires-2
+    same-length-2
+    returns-2)
