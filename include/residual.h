@@ -23,7 +23,7 @@
  *   coeff               coefficients; one outside the coefficient range is refused with 9 (above) or 19 (below), with its row and column
  *
  * State. A call reads and writes its arguments and nothing else: it keeps no state, takes no memory, opens nothing and prints nothing. So any number of
- * threads may call at once, each on buffers of its own, and a signal handler may. A call takes at most 32 KiB of stack, a search for edits 96 (tests/use measures it).
+ * threads may call at once, each on buffers of its own, and a signal handler may. A call takes at most 32 KiB of stack, a search for edits or a run of a feed 96 (tests/use measures it).
  */
 #ifndef RESIDUAL_H
 #define RESIDUAL_H
@@ -304,6 +304,12 @@ residual_answered residual_find_level_edits_scaled(bool dst, size_t n, int32_t q
  * s2 is R + 5 - bit_depth. Refuses 1, 2, 4. */
 residual_number_answered residual_rounding_bound(bool dst, size_t n, uint8_t bit_depth, bool extended_precision);
 
+/* ---- Which coefficient makes the sample at a row and a column of a block's residual. With T the matrix of the kind, writes T(k, row) * T(c, column) * coeff(k, c) for
+ * every row k and column c of the block, n * n 64-bit numbers. Their sum is the exact product, 2^(7 + s2) times the residual before any rounding: where no stage-one
+ * value was limited, 2^(7 + s2) times the residual there differs from it by at most residual_rounding_bound. coeff is n * n coefficients, which may be any.
+ * Refuses 1, 4, 6, 7, 8. */
+residual_answered residual_contributions(bool dst, size_t n, size_t row, size_t column, const int32_t *coeff, size_t coeff_len, int64_t *out, size_t out_len);
+
 /* ---- Edited blocks: opened once, on coefficients or on levels, then changed one value at a time. After any edits all that follows from the values is what a fresh
  * opening gives: of levels the coefficients, of these intermediate and residual. The record that a call hands back goes into the next edit as it is; an edit that
  * is refused hands back the record it was given. A coefficient is edited in a block that was opened on coefficients and a level in one that was opened on levels;
@@ -349,6 +355,20 @@ residual_list_answered residual_open_levels_scaled_and_edit(bool dst, size_t n, 
 /* The residual of an intermediate alone: reads n * n of inter, limited to the range, and writes n * n of residual. Refuses 1, 2, 4, and 7 where either is too short. */
 residual_answered residual_refresh_residual(bool dst, size_t n, uint8_t bit_depth, bool extended_precision, const int32_t *inter, size_t inter_len,
     int32_t *residual, size_t residual_len);
+
+/* ---- A feed: bytes of records in, its text out (docs/RULES.md, "The feed"). ---- */
+
+/* Where the text ends; or room is false and end 0, since the buffer was shorter than residual_feed_room says, and nothing was written. */
+typedef struct {
+    bool room;
+    size_t end;
+} residual_ran;
+
+/* How many bytes residual_feed_run wants for the text of this feed. */
+size_t residual_feed_room(const uint8_t *feed, size_t feed_len);
+/* Writes the text of a whole feed: the rows of each block with the line `limited`, those of each reading with the line `columns`, then the line of a refusal, or
+ * `blocks` and how many. It is ASCII without a zero byte at the end. A feed that is refused has a text too: the call itself has no refusal. */
+residual_ran residual_feed_run(const uint8_t *feed, size_t feed_len, uint8_t *text, size_t text_len);
 
 #ifdef __cplusplus
 }

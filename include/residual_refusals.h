@@ -15,11 +15,11 @@
     ROW(1, SIZE_INVALID, "the size is none of 4, 8, 16, 32") \
     ROW(2, DEPTH_INVALID, "the depth is below 8 or above 16") \
     ROW(3, WIDTH_TOO_NARROW, "16-bit output, and the depth is above 9 or precision is extended") \
-    ROW(4, DST_SIZE_INVALID, "edited block, search for edits, feed or rounding bound: DST with a size other than 4") \
+    ROW(4, DST_SIZE_INVALID, "edited block, search for edits, contributions, feed or rounding bound: DST with a size other than 4") \
     ROW(5, LIST_LENGTH_INVALID, "the list, or a default list, does not have 64 entries; lists to write are fewer than 20") \
     ROW(6, INPUT_TOO_SHORT, "fewer than n * n levels or coefficients, residuals or prediction samples, targets or bytes that say what is wanted") \
     ROW(7, OUTPUT_TOO_SHORT, "an output or work buffer has fewer than n * n elements; for scaling lists fewer than 1,280 entries or 20 DC numbers have room, or fewer bytes than the bits take; a table of lists is too short") \
-    ROW(8, PLACE_OUTSIDE, "an edit's row or column is not below n; m is looked up at an index not below n * n") \
+    ROW(8, PLACE_OUTSIDE, "an edit's or a sample's row or column is not below n; m is looked up at an index not below n * n") \
     ROW(9, COEFFICIENT_ABOVE, "a coefficient is above its range") \
     ROW(10, WAY_MISMATCHED, "a coefficient is edited in a block that was opened on levels, or a level in one that was opened on coefficients; it comes before 8") \
     ROW(11, LEVEL_MISSING, "search for levels: no level gives a coefficient") \
@@ -35,6 +35,7 @@
     ROW(21, BODY_TOO_SHORT, "feed: the body ends too early") \
     ROW(22, LEVELS_BEFORE_PARAMETERS, "feed: levels come before any parameters") \
     ROW(23, PARAMETER_INVALID, "feed: the extended flag is above 1, or the mode is above 2") \
+    ROW(24, BLOCK_MISSING, "feed: an edit or a reading where no block is held") \
     ROW(25, ROTATION_SIZE_INVALID, "rotation at a size other than 4; it comes after 3")
 
 /* RESIDUAL_DONE, RESIDUAL_SIZE_INVALID and so on: what `number` of an answer is. */

@@ -12,8 +12,6 @@ import subprocess
 import sys
 
 SHOWN = re.compile(r"^    \$ (\./foxentu \w+ (\S+))\n((?:    .*\n)+)", re.M)
-# a file that no program runs yet, and why
-AWAITED = {"examples/case.txt": "the feed program does not have edits and readings yet"}
 
 if pathlib.Path("target/bin/feed_main").is_file():
     os.environ.setdefault("FOXENTU_BIN", "target/bin")
@@ -21,9 +19,7 @@ found = SHOWN.findall(pathlib.Path("README.md").read_text(encoding="utf-8"))
 shown = {file for _, file, _ in found}
 wrong = []
 for path in map(str, sorted(pathlib.Path("examples").glob("*.txt"))):
-    if path in AWAITED and path not in shown:
-        print(f"examples: {path} is left out: {AWAITED[path]}")
-    elif path not in shown:
+    if path not in shown:
         wrong.append(path)
         print(f"examples: README.md does not show {path}")
 for command, file, text in found:

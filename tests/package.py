@@ -4,6 +4,9 @@ import random
 import sys
 import threading
 
+import feed_cases
+import feed_rules
+
 sys.path.insert(0, "bindings/python")
 import foxentu  # noqa: E402
 
@@ -93,6 +96,9 @@ def calls():
     refused(6, foxentu.scale, [0] * 15, 4, 4, 8)
     refused(6, foxentu.scale, [], 4, 4, 8)
     refused(4, foxentu.rounding_bound, True, 8, 8)
+    shares = foxentu.contributions([64, 0, -100] + [0] * 13, 4, 0, 3)
+    expect(shares[:3].tolist() == [64**3, 0, -100 * 64**2] and not any(shares[3:]), "what each coefficient adds to a sample")
+    refused(8, foxentu.contributions, [0] * 64, 8, 0, 8)
     expect(refused(14, foxentu.read_scaling_lists, b"\x55").place == 8, "the place of a bit")
     refused(5, foxentu.write_scaling_lists, [(bytes([16] * 64), 16)] * 19)
     refused(13, foxentu.checksum, [0] * 4, 2, 3, 8)
@@ -109,6 +115,13 @@ def calls():
     mistaken(TypeError, foxentu.call, "residual_qp_prime", 4)
 
 
+def feeds():
+    """The library's run of a feed against the plain writing of its rule, on the program's stored feed, and cut."""
+    whole = feed_cases.bug_case()
+    for feed in (b"", whole, whole[:-1], whole[:-9], whole[:200], b"\x09", b"\x0a", bytes((1, 8))):
+        expect(foxentu.feed_text(feed).decode("ascii") == feed_rules.residuals(feed), f"the text of a feed of {len(feed)} bytes")
+
+
 def threads():
     done = []
     each = [threading.Thread(target=lambda k=k: (edits(k), done.append(k))) for k in range(4)]
@@ -122,5 +135,6 @@ def threads():
 calls()
 edits(265)
 level_edits()
+feeds()
 threads()
 print(f"package: {count} checks passed")

@@ -278,6 +278,18 @@ static void tools(void) {
 }
 #endif
 
+#ifdef has_contributions
+static void contributions(void) {
+    int32_t coeff[16] = {0};
+    int64_t out[17] = {0};
+    coeff[6] = -100, out[16] = 5;
+    residual_answered a = residual_contributions(true, 4, 1, 3, coeff, 16, out, 17);
+    expect(a.number == 0 && out[6] == -74 * 55 * 100 && out[5] == 0 && out[16] == 5, "contributions");
+    a = residual_contributions(false, 4, 4, 0, coeff, 16, out, 16);
+    expect(a.number == 8 && out[6] == -74 * 55 * 100, "contributions, refused");
+}
+#endif
+
 #ifdef has_search
 static void search(void) {
     int32_t coeff[16] = {0}, target[16], least[16], most[16];
@@ -291,6 +303,19 @@ static void search(void) {
     expect(a.number == 0 && least[0] == 2 && most[0] == 5 && least[1] == 1 && most[1] == 0, "find_level_edits");
     a = residual_find_level_edits_scaled(false, 4, 4, 8, false, list, 63, 16, coeff, 16, target, 16, wanted, 16, least, 16, most, 16);
     expect(a.number == 5 && least[0] == 2 && most[0] == 5, "find_level_edits_scaled, refused");
+}
+#endif
+
+#ifdef has_feed
+static void feed(void) {
+    uint8_t bytes[71] = {1, 8, 0, 4, 0, 4, 2}, text[16384];
+    bytes[70] = 9;
+    size_t room = residual_feed_room(bytes, 71);
+    expect(room >= 93 && room <= sizeof text, "feed_room");
+    residual_ran ran = residual_feed_run(bytes, 71, text, room - 1);
+    expect(!ran.room && ran.end == 0, "feed_run, a byte short");
+    ran = residual_feed_run(bytes, 71, text, room);
+    expect(ran.room && ran.end == 93 && !memcmp(text, "1 1 1 1\n", 8) && !memcmp(text + 74, "columns 1\nblocks 1\n", 19), "feed_run");
 }
 #endif
 
@@ -323,6 +348,12 @@ int main(void) {
 #endif
 #ifdef has_search
     search();
+#endif
+#ifdef has_contributions
+    contributions();
+#endif
+#ifdef has_feed
+    feed();
 #endif
     printf("header: %d calls, %d failed\n", called, failed);
     return failed != 0;

@@ -259,6 +259,15 @@ pub mod rounding {
     }
 }
 
+#[cfg(has_contributions)]
+pub mod contributions {
+    use super::ffi::*;
+
+    pub fn contributions(dst: bool, n: usize, row: usize, column: usize, coeff: &[i32], out: &mut [i64]) -> Answered {
+        unsafe { residual_contributions(dst, n, row, column, coeff.as_ptr(), coeff.len(), out.as_mut_ptr(), out.len()) }
+    }
+}
+
 #[cfg(has_tables)]
 pub mod tables {
     pub use super::ffi::StoreAnswered;

@@ -1,7 +1,9 @@
-//! Compares the archive of the crate c_api with the Rust that was ported, on every exported function; the functions of pictures, of scaling lists, of tables of them, of the block tools, of the searches for levels and for edits and of the rounding bound, which were not ported, with a plain writing of their rules.
-#![cfg_attr(not(all(has_scaling, has_transform, has_edits, has_lists, has_picture, has_rounding, has_search, has_tables, has_tools)), allow(dead_code, unused_mut))]
+//! Compares the archive of the crate c_api with the Rust that was ported, on every exported function; the functions of pictures, of scaling lists, of tables of them, of the block tools, of the searches for levels and for edits, of the contributions and of the rounding bound, which were not ported, with a plain writing of their rules.
+#![cfg_attr(not(all(has_contributions, has_scaling, has_transform, has_edits, has_lists, has_picture, has_rounding, has_search, has_tables, has_tools)), allow(dead_code, unused_mut))]
 mod archive;
 mod blocks;
+#[cfg(has_contributions)]
+mod contributions;
 #[cfg(has_edits)]
 mod edits;
 #[cfg(has_lists)]
@@ -94,6 +96,10 @@ fn differential(arguments: &Arguments) -> bool {
     {
         planned += search::FUNCTIONS;
     }
+    #[cfg(has_contributions)]
+    {
+        planned += contributions::FUNCTIONS;
+    }
     let mut tally = tally::Tally::new(planned);
     parameters::compare(&mut tally, arguments.seed, arguments.cases);
     #[cfg(has_scaling)]
@@ -114,6 +120,8 @@ fn differential(arguments: &Arguments) -> bool {
     tools::compare(&mut tally, arguments.seed, arguments.cases);
     #[cfg(has_search)]
     search::compare(&mut tally, arguments.seed, arguments.cases);
+    #[cfg(has_contributions)]
+    contributions::compare(&mut tally, arguments.seed, arguments.cases);
     println!("seed {}, {} random cases a function", arguments.seed, arguments.cases);
     tally.finish()
 }

@@ -1,5 +1,5 @@
 /* Measures the stack that each group of functions takes, on a thread whose stack was filled before. Fails above the 32 KiB that include/residual.h names, of the
- * searches for edits above its 96. */
+ * searches for edits and of a feed above its 96. */
 #define _GNU_SOURCE
 #include "picture.h"
 #include "residual.h"
@@ -14,6 +14,7 @@ enum { STACK = 1 << 20, LIMIT = 32 << 10, WIDE = 96 << 10, N = 32, CELLS = N * N
 static unsigned char *stack;
 static int32_t coeff[CELLS], inter[CELLS], residual[CELLS], levels[CELLS];
 static int16_t coeff16[CELLS], out16[CELLS];
+static int64_t shares[CELLS];
 static uint8_t wanted[CELLS], list[64], lists[1280], dcs[20], bytes[2765], table[1584];
 static uint16_t plane[256 * 256], prediction[CELLS];
 
@@ -106,6 +107,7 @@ static void search(void)
     memset(coeff, 0, sizeof coeff);
     residual_find_levels(coeff, CELLS, N, 4, 12, true, levels, CELLS);
     residual_find_levels_scaled(coeff, CELLS, N, 4, 12, true, list, 64, 16, levels, CELLS);
+    residual_contributions(false, N, 5, 5, coeff, CELLS, shares, CELLS), residual_contributions(true, 4, 3, 3, coeff, CELLS, shares, CELLS);
 }
 
 static void found(void)
@@ -120,6 +122,13 @@ static void pictures(void)
 {
     picture_rebuild_block(N, 8, residual, CELLS, prediction, CELLS, 256, 256, 256, 5, 5, plane, 256 * 256);
     picture_checksum(256, 256, 256, 10, plane, 256 * 256);
+}
+
+static void feed(void)
+{
+    static uint8_t records[5 + 1 + 4 * CELLS + 8] = {1, 16, 1, 60, 0, 7, 40}, text[1 << 16];
+    memcpy(records + 5 + 1 + 4 * CELLS, (const uint8_t[8]){8, 31, 31, 70, 0, 0, 0, 9}, 8);
+    residual_feed_room(records, sizeof records), residual_feed_run(records, sizeof records, text, sizeof text);
 }
 
 static void *run(void *group)
@@ -145,7 +154,7 @@ int main(void)
     const struct { const char *name; void (*group)(void); size_t limit; } groups[] = {
         {"quantities", quantities, LIMIT}, {"scaling", scaling, LIMIT}, {"transforms", transforms, LIMIT}, {"edits", edits, LIMIT},
         {"lists", scaling_lists, LIMIT}, {"tables", tables, LIMIT}, {"tools", tools, LIMIT}, {"search", search, LIMIT}, {"pictures", pictures, LIMIT},
-        {"searches for edits", found, WIDE},
+        {"searches for edits", found, WIDE}, {"a feed", feed, WIDE},
     };
     size_t own;
     int failed = 0;

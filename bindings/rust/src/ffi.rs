@@ -173,6 +173,14 @@ pub struct ListAnswered {
     pub edits: usize,
 }
 
+/// `residual_ran`
+#[repr(C)]
+#[derive(Clone, Copy, Debug, Default, PartialEq, Eq)]
+pub struct Ran {
+    pub room: bool,
+    pub end: usize,
+}
+
 /// `picture_answered`
 #[repr(C)]
 #[derive(Clone, Copy, Debug, Default, PartialEq, Eq)]
@@ -533,6 +541,16 @@ unsafe extern "C" {
         most_len: usize,
     ) -> Answered;
     pub fn residual_rounding_bound(dst: bool, n: usize, bit_depth: u8, extended_precision: bool) -> NumberAnswered;
+    pub fn residual_contributions(
+        dst: bool,
+        n: usize,
+        row: usize,
+        column: usize,
+        coeff: *const i32,
+        coeff_len: usize,
+        out: *mut i64,
+        out_len: usize,
+    ) -> Answered;
     pub fn residual_open_block(
         dst: bool,
         n: usize,
@@ -709,6 +727,8 @@ unsafe extern "C" {
         residual: *mut i32,
         residual_len: usize,
     ) -> Answered;
+    pub fn residual_feed_room(feed: *const u8, feed_len: usize) -> usize;
+    pub fn residual_feed_run(feed: *const u8, feed_len: usize, text: *mut u8, text_len: usize) -> Ran;
     pub fn picture_rebuild_block(
         n: usize,
         bit_depth: u8,

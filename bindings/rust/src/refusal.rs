@@ -76,11 +76,11 @@ table! {
     1 SizeInvalid () "the size is none of 4, 8, 16, 32"
     2 DepthInvalid () "the depth is below 8 or above 16"
     3 WidthTooNarrow () "16-bit output, and the depth is above 9 or precision is extended"
-    4 DstSizeInvalid () "edited block, search for edits, feed or rounding bound: DST with a size other than 4"
+    4 DstSizeInvalid () "edited block, search for edits, contributions, feed or rounding bound: DST with a size other than 4"
     5 ListLengthInvalid () "the list, or a default list, does not have 64 entries; lists to write are fewer than 20"
     6 InputTooShort () "fewer than n * n levels or coefficients, residuals or prediction samples, targets or bytes that say what is wanted"
     7 OutputTooShort () "an output or work buffer has fewer than n * n elements; for scaling lists fewer than 1,280 entries or 20 DC numbers have room, or fewer bytes than the bits take; a table of lists is too short"
-    8 PlaceOutside () "an edit's row or column is not below n; m is looked up at an index not below n * n"
+    8 PlaceOutside () "an edit's or a sample's row or column is not below n; m is looked up at an index not below n * n"
     9 CoefficientAbove (cell) "a coefficient is above its range"
     10 WayMismatched () "a coefficient is edited in a block that was opened on levels, or a level in one that was opened on coefficients; it comes before 8"
     11 LevelMissing (cell) "search for levels: no level gives a coefficient"
@@ -96,6 +96,7 @@ table! {
     21 BodyTooShort () "feed: the body ends too early"
     22 LevelsBeforeParameters () "feed: levels come before any parameters"
     23 ParameterInvalid () "feed: the extended flag is above 1, or the mode is above 2"
+    24 BlockMissing () "feed: an edit or a reading where no block is held"
     25 RotationSizeInvalid () "rotation at a size other than 4; it comes after 3"
 }
 

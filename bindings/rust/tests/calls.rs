@@ -88,6 +88,21 @@ fn transforms() {
 }
 
 #[test]
+fn contributions_of_a_sample() {
+    let mut coefficients = [0; 17];
+    coefficients[6] = i32::MIN;
+    let mut out = [5; 17];
+    contributions(Kind::Dst, 4, 1, 3, &coefficients, &mut out).unwrap();
+    assert_eq!((out[6], out[5], out[16]), (74 * 55 * i64::from(i32::MIN), 0, 5));
+    let lent = out;
+    assert_eq!(contributions(Kind::Dst, 8, 8, 0, &[], &mut []), Err(Refusal::DstSizeInvalid));
+    assert_eq!(contributions(Kind::Dct, 4, 4, 0, &coefficients[..15], &mut out), Err(Refusal::InputTooShort));
+    assert_eq!(contributions(Kind::Dct, 4, 4, 0, &coefficients, &mut out[..15]), Err(Refusal::OutputTooShort));
+    assert_eq!(contributions(Kind::Dct, 4, 0, 4, &coefficients, &mut out), Err(Refusal::PlaceOutside));
+    assert_eq!(out, lent);
+}
+
+#[test]
 fn edits_are_fresh_transforms() {
     let mut seed = 265u64;
     let mut below = |n: u64| {

@@ -6,3 +6,4 @@ pub mod Lists
 pub mod Tables
 pub mod Tools
 pub mod Searches
+pub mod Feeds

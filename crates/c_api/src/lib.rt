@@ -1,6 +1,7 @@
 // The library for C and Rust: every entry point under the prefix residual_, those of pictures under picture_, with numbers and slices as arguments and one record of numbers as answer. include/residual.h and include/picture.h declare the same for C.
 mod answers;
 mod edits;
+mod feeds;
 mod levels;
 mod lists;
 mod pictures;
@@ -20,6 +21,8 @@ pub use edits::residual_open_levels_and_edit;
 pub use edits::residual_open_levels_scaled;
 pub use edits::residual_open_levels_scaled_and_edit;
 pub use edits::residual_refresh_residual;
+pub use feeds::residual_feed_room;
+pub use feeds::residual_feed_run;
 pub use levels::residual_dequantize_into_scalar_i16;
 pub use levels::residual_dequantize_into_scalar_i32;
 pub use levels::residual_dequantize_scaled_into_scalar_i16;
@@ -40,6 +43,7 @@ pub use quantities::residual_qp_bd_offset;
 pub use quantities::residual_qp_prime;
 pub use quantities::residual_rounding_bound;
 pub use quantities::residual_transform_skip_params;
+pub use searches::residual_contributions;
 pub use searches::residual_find_edits;
 pub use searches::residual_find_level_edits;
 pub use searches::residual_find_level_edits_scaled;
@@ -209,4 +213,11 @@ pub struct ListAnswered {
     pub place: usize,
     pub block: Block,
     pub edits: usize,
+}
+
+// Whether there was room, and where the text ends; 0 without room.
+#[repr(C)]
+pub struct FeedRan {
+    pub room: bool,
+    pub end: usize,
 }

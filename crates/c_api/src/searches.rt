@@ -1,7 +1,9 @@
-// Which edits give the wanted samples of a block: of coefficients, and of levels without a list and with one.
+// Which edits give the wanted samples of a block: of coefficients, and of levels without a list and with one. Which coefficient makes a sample.
 ghost use Rattle.h265.specs.ScalingFactor.ScalingList.{flat, listed};
 ghost use Rattle.edit_search.specs.Found.{editsFound};
 ghost use Rattle.level_edits.specs.Levels.{levelEditsFound};
+ghost use Rattle.contributions.specs.Sample.{contributed};
+ghost use Rattle.c_api.specs.Blocks.{Writes};
 ghost use Rattle.c_api.specs.Edits.{kindOf};
 ghost use Rattle.c_api.specs.Searches.{Finds};
 use crate::Answered;
@@ -101,5 +103,21 @@ pub extern "C" fn residual_find_level_edits_scaled(
         least,
         most,
     );
+    answers::answered(answer)
+}
+
+// What each coefficient adds to one sample.
+#[no_mangle]
+pub extern "C" fn residual_contributions(
+    dst: bool,
+    n: usize,
+    row: usize,
+    column: usize,
+    coeff: &[i32],
+    out: &mut [i64],
+) -> Answered
+    ensures { λ r. ⌜ Writes r (now (out .exit)) (contributed (kindOf dst) n row column (now (coeff .entry)) (now (out .entry))) ⌝ }
+{
+    let answer = contributions::contributions(edits::kind_of(dst), n, row, column, coeff, out);
     answers::answered(answer)
 }

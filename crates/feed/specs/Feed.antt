@@ -1,21 +1,37 @@
--- The text of a whole feed. Document 01, "The feed program".
---   refusedText number offset         `refused`, the number, and the byte offset of the refused record's kind
---   blocksText n                      `blocks`, and how many there were
---   opening                           the state in which a feed begins
---   textBy effect last fuel s bytes   the text of the bytes from the state's offset on: `effect` is what a record does, `last` what stands behind the last
---   feedText bytes                    the text of a whole feed
-use mathlib.Core.Bool.{cond}
+-- The text of a whole feed. Document 01, "The feed program"; change requests R-6 and R-14.
+-- It is a walk over the records that keeps of the open block what it was opened with, its levels, and the edits so far. So what an edit answers and what
+-- a reading writes is the history's of `edited_history`, fresh from these: nothing that was computed is passed on from record to record.
+--   refusedText number offset   `refused`, the number, and the byte offset of the refused record's kind
+--   blocksText n                `blocks`, and how many there were
+--   textBy                      the text of the bytes from a state on: `effect` is what a record does, `last` what stands behind the last record
+--   OpenBlock                   a block that was opened: with what, on which levels, and its edits so far
+--   heldCoefficients b          the scaling of its levels after the edits
+--   History, inHistory          the open block, if there is one; and how it is kept
+--   beginning h                 the state before the first record
+--   feedText bytes              the text of a whole feed
+use mathlib.Core.Bool.{Bool, true, cond}
 use mathlib.Core.List.{List, [], _∷_, _++_}
 use Prim.Native.Nat.{ℕ, zero, suc, _+_}
 use lib.Dec.{eqb}
+use lib.IntN.{ℤ}
 use lib.ListN.{length, take, drop}
+use Rattle.h265.specs.ScalingFactor.{ScalingList}
 use Rattle.h265.specs.ScalingFactor.ScalingList.{flat}
-use Rattle.refusal.specs.Outcome.{Outcome}
-use Rattle.text.specs.Text.{space, lineEnd, unsignedText}
+use Rattle.refusal.specs.declared.Refusal.the-variants.{BlockMissing}
+use Rattle.refusal.specs.Outcome.{Outcome, accepted, refused}
+use Rattle.transform_1d.specs.declared.Kind.{Kind}
+use Rattle.edited_block.specs.Columns.{columnCount}
+use Rattle.edited_block.specs.Opening.{Opening}
+use Rattle.level_block.specs.declared.Limits.{Limits}
+use Rattle.edited_history.specs.History.{Edit, answerTo, historyOf, coefficientsOf, historyResidual}
+use Rattle.text.specs.Text.{space, lineEnd, unsignedText, blockText}
+use Rattle.feed_block.specs.declared.Parameters.{Parameters}
 use Rattle.feed_block.specs.declared.Given.the-variants.{Nothing}
-use Rattle.feed_block.specs.Format.{recordLength}
-use Rattle.feed_records.specs.Record.{FeedState, Effect, recordEffect}
+use Rattle.feed_block.specs.Format.{recordLength, levelsOf, editRow, editColumn, editLevel}
+use Rattle.feed_block.specs.Block.{openingOf}
+use Rattle.feed_records.specs.Record.{columnsText, FeedState, Effect, Keeper, recordEffect}
 
+-- ---- the two last lines
 -- the word `refused` and a space
 abbrev pub refusedWord : List ℕ
 refusedWord = 114 ∷ 101 ∷ 102 ∷ 117 ∷ 115 ∷ 101 ∷ 100 ∷ 32 ∷ []
@@ -30,20 +46,71 @@ refusedText number offset = refusedWord ++ (unsignedText number ++ (space ∷ (u
 unfoldable pub blocksText : ℕ → List ℕ
 blocksText n = blocksWord ++ (unsignedText n ++ (lineEnd ∷ []))
 
-unfoldable pub opening : FeedState
-opening = record { given = Nothing; list = flat; blocks = 0; offset = 0 }
-
+-- ---- a walk over records
 -- a record's text, then the rest; or, where it is refused, the line that says so, and nothing after it
-abbrev pub andThen : Outcome Effect → ℕ → List ℕ → List ℕ
+abbrev pub andThen : {H : Type 0} → Outcome (Effect H) → ℕ → List ℕ → List ℕ
 andThen o at rest = o .value .text ++ cond (eqb (o .number) 0) rest (refusedText (o .number) at)
 
-unfoldable pub textBy : (FeedState → ℕ → List ℕ → Outcome Effect) → (FeedState → List ℕ) → ℕ → FeedState → List ℕ → List ℕ
+unfoldable pub textBy : {H : Type 0} → (FeedState H → ℕ → List ℕ → Outcome (Effect H)) → (FeedState H → List ℕ) → ℕ → FeedState H → List ℕ → List ℕ
 textBy effect last zero s bytes = []
 textBy effect last (suc fuel) s [] = last s
 textBy effect last (suc fuel) s (k ∷ bytes) =
     andThen (effect s k (take (recordLength k) bytes)) (s .offset)
     (textBy effect last fuel (effect s k (take (recordLength k) bytes) .value .state) (drop (recordLength k) bytes))
 
+-- ---- the open block, by its history
+pub record OpenBlock : Type 0 where
+  pub opening : Opening
+  pub levels : List ℤ
+  pub edits : List Edit
+
+abbrev pub heldCoefficients : OpenBlock → List ℤ
+heldCoefficients b = coefficientsOf (b .opening) (historyOf (b .opening) (b .edits) (b .levels))
+
+pub data History : Type 0 where
+  none : History
+  block : OpenBlock → History
+
+unfoldable pub openedAs : Kind → ScalingList → Parameters → ℕ → List ℕ → History
+openedAs kind list p n body = block (record { opening = openingOf kind list p n; levels = levelsOf n body; edits = [] })
+
+-- what the body of an edit says
+abbrev pub editIn : List ℕ → Edit
+editIn body = record { row = editRow body; column = editColumn body; value = editLevel body; level = Bool.true }
+
+abbrev pub andEdit : OpenBlock → Edit → OpenBlock
+andEdit b e = record { opening = b .opening; levels = b .levels; edits = b .edits ++ (e ∷ []) }
+
+abbrev pub toldBy : Outcome Limits → OpenBlock → Outcome History
+toldBy a b = record { number = a .number; place = a .place; row = a .row; column = a .column; value = block b }
+
+-- the history's answer
+unfoldable pub editedBy : History → List ℕ → Outcome History
+editedBy none body = refused none BlockMissing
+editedBy (block b) body = toldBy (answerTo (b .opening) (editIn body)) (andEdit b (editIn body))
+
+-- the history's residual and column count
+unfoldable pub readBy : History → Outcome (List ℕ)
+readBy none = refused [] BlockMissing
+readBy (block b) =
+    accepted (blockText (b .opening .size) (historyResidual (b .opening) (heldCoefficients b)) ++ columnsText (columnCount (b .opening .size) (heldCoefficients b)))
+
+abbrev pub inHistory : Keeper History
+inHistory =
+    record {
+      closed = λ (h : History). none;
+      opened = λ (kind : Kind) (list : ScalingList) (p : Parameters) (n : ℕ) (body : List ℕ) (h : History). openedAs kind list p n body;
+      edited = editedBy;
+      reading = readBy;
+    }
+
+-- ---- a whole feed
+unfoldable pub beginning : {H : Type 0} → H → FeedState H
+beginning h = record { given = Nothing; list = flat; block = h; blocks = 0; offset = 0 }
+
+abbrev pub lastLine : {H : Type 0} → FeedState H → List ℕ
+lastLine s = blocksText (s .blocks)
+
 -- a record takes at least a byte, so there are no more records than bytes
 unfoldable pub feedText : List ℕ → List ℕ
-feedText bytes = textBy recordEffect (λ (s : FeedState). blocksText (s .blocks)) (length bytes + 1) opening bytes
+feedText bytes = textBy (recordEffect inHistory) lastLine (length bytes + 1) (beginning none) bytes

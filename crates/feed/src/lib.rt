@@ -1,7 +1,7 @@
-// The feed: records of parameters, lists and levels in, rows of residuals as text out. On slices; `feed_main` is the program.
+// The feed: records of parameters, lists, levels, edits and readings in, rows of residuals as text out. On slices; `feed_main` is the program.
 use refusal::Refusal;
 
-mod lines;
+mod line_text;
 mod stream;
 
 pub use feed_block::Given;
@@ -10,8 +10,10 @@ pub use feed_block::Parameters;
 pub use feed_block::State;
 pub use feed_block::block::list_ignored;
 pub use feed_block::format::record_length;
-pub use lines::blocks_line;
-pub use lines::refusal_line;
+pub use feed_block::format::record_room;
+pub use line_text::blocks_line;
+pub use line_text::refusal_line;
+pub use stream::feed_room;
 pub use stream::run;
 pub use stream::start;
 pub use stream::step;
@@ -29,7 +31,7 @@ pub struct Stepped {
     pub end: usize,
 }
 
-// Where the text of a whole feed ends; or the buffer was too short for any feed of that length, and nothing was written.
+// Where the text of a whole feed ends; or the buffer was too short for it, and nothing was written.
 pub enum Ran {
     Text(usize),
     NoRoom,

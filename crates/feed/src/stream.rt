@@ -1,16 +1,20 @@
 // A feed's stream of records: where it begins, one record, and a whole input.
 ghost use mathlib.Core.Path.{_≡_};
-ghost use Prim.Native.Nat.{min, _≤_};
+ghost use mathlib.Core.Bool.{_||_};
+ghost use Prim.Native.Nat.{_+_, min, _≤_};
+ghost use lib.Dec.{ltb};
 ghost use lib.ListN.{length};
 ghost use Rattle.refusal.specs.Outcome.{answer as answer·spec};
 ghost use Rattle.text.specs.Text.{Wrote, Counts};
-ghost use Rattle.feed.specs.Feed.{opening, feedText};
+ghost use Rattle.feed_records.specs.Buffers.{Lent, lent};
 ghost use Rattle.feed_records.specs.Taken.{stateOf};
+ghost use Rattle.feed.specs.Feed.{beginning, feedText};
 ghost use Rattle.feed.specs.Answers.{feedRoom, stepping, Steps, Runs};
+ghost use Rattle.feed.specs.Steps.{closed};
 use crate::Ran;
 use crate::StepAnswer;
 use crate::Stepped;
-use crate::lines;
+use crate::line_text;
 use feed_block::Given;
 use feed_block::State;
 use feed_block::format;
@@ -18,32 +22,77 @@ use refusal::Answer;
 
 // The state before the first record.
 pub fn start() -> State
-    ensures { λ r. ⌜ stateOf r ≡ opening ⌝ }
+    ensures { λ r. ⌜ ((w : Lent) → stateOf r w ≡ beginning (closed w)) ⌝ }
 {
     State {
         given: Given::Nothing,
         listed: false,
         entries: [0u8; 64],
         dc: 0,
+        editing: false,
+        block: edited_block::zero_block(),
         blocks: 0,
         offset: 0,
     }
 }
 
-// One record: its kind, and as much of its body as there is. Its text goes to the start of `out`, which must have four bytes for
-// each byte of the body; else `NoRoom` is answered before anything else, and state and buffer are as given. A refused record too
-// leaves both as given, so the state's offset is then that of its kind.
-pub fn step(state: State, kind: u8, body: &[u8], out: &mut [u8]) -> Stepped
-    ensures { λ r. ⌜ Steps r (now (out .entry)) (now (out .exit)) (stepping (stateOf state) kind (now (body .entry)) (length (now (out .entry)))) ⌝ }
+// Whether a buffer of the open block has no room for the largest block.
+fn too_short(levels: usize, coeff: usize, inter: usize, residual: usize) -> bool
+    ensures { λ r. ⌜ r ≡ (ltb levels 1024 || ltb coeff 1024) || (ltb inter 1024 || ltb residual 1024) ⌝ }
 {
-    if out.len() / 4 < body.len() {
+    if levels < 1024 {
+        return true;
+    }
+    if coeff < 1024 {
+        return true;
+    }
+    if inter < 1024 {
+        return true;
+    }
+    residual < 1024
+}
+
+// One record: its kind, and as much of its body as there is. Its text goes to the start of `out`, which must have the bytes that
+// `record_room` says; the buffers of the open block have 1,024 elements or more, and are those that the call before left. Else
+// `NoRoom` is answered before anything else, and state and buffers are as given. A refused record too leaves all as given, so the
+// state's offset is then that of its kind.
+pub fn step(
+    state: State,
+    kind: u8,
+    body: &[u8],
+    levels: &mut [i32],
+    coeff: &mut [i32],
+    inter: &mut [i32],
+    residual: &mut [i32],
+    out: &mut [u8],
+) -> Stepped
+    ensures { λ r. ⌜ Steps state r (lent (now (levels .exit)) (now (coeff .exit)) (now (inter .exit)) (now (residual .exit))) (now (out .entry)) (now (out .exit)) (stepping (stateOf state (lent (now (levels .entry)) (now (coeff .entry)) (now (inter .entry)) (now (residual .entry)))) kind (now (body .entry)) (length (now (out .entry)))) ⌝ }
+{
+    if out.len() < format::record_room(kind) {
         return Stepped {
             answer: StepAnswer::NoRoom,
             state,
             end: 0,
         };
     }
-    let taken = feed_records::take_record(state, kind, body, out, 0);
+    if too_short(levels.len(), coeff.len(), inter.len(), residual.len()) {
+        return Stepped {
+            answer: StepAnswer::NoRoom,
+            state,
+            end: 0,
+        };
+    }
+    let taken = feed_records::take_record(
+        state,
+        kind,
+        body,
+        levels,
+        coeff,
+        inter,
+        residual,
+        out,
+        0,
+    );
     let answer = taken.answer;
     let next = taken.state;
     let end = taken.end;
@@ -76,11 +125,43 @@ fn number_of(answer: Answer) -> u8
     }
 }
 
+// A sum that stops before it would wrap.
+fn capped_sum(a: usize, b: usize) -> usize
+    ensures { λ r. ⌜ r ≡ min (a + b) 18446744073709551615 ⌝ }
+{
+    if b < usize::MAX - a {
+        a + b
+    } else {
+        usize::MAX
+    }
+}
+
+// How many bytes the text of a whole feed may take, by its kinds; more than any buffer has where that passes 64 bits.
+pub fn feed_room(input: &[u8]) -> usize
+    ensures { λ r. ⌜ r ≡ min (feedRoom (now (input .entry))) 18446744073709551615 ⌝ }
+{
+    let mut room = 0;
+    let mut at = 0;
+    while at < input.len() {
+        let kind = input[at];
+        if feed_records::is_unknown(format::kind_of(kind)) {
+            return capped_sum(room, 40);
+        }
+        room = capped_sum(room, format::record_room(kind));
+        at = least(at + 1 + format::record_length(kind), input.len());
+    }
+    capped_sum(room, 40)
+}
+
 // The text of a whole feed, where there is room for it.
 fn run_within(input: &[u8], out: &mut [u8]) -> usize
-    requires { ⌜ feedRoom (length (now input)) ≤ length (now out) ⌝ }
+    requires { ⌜ feedRoom (now input) ≤ length (now out) ⌝ }
     ensures { λ r. ⌜ Wrote (now (out .entry)) 0 (feedText (now (input .entry))) (now (out .exit)) r × Counts r (now (out .exit)) ⌝ }
 {
+    let mut levels = [0i32; 1024];
+    let mut coeff = [0i32; 1024];
+    let mut inter = [0i32; 1024];
+    let mut residual = [0i32; 1024];
     let mut state = start();
     let mut end = 0;
     while (state.offset as usize) < input.len() {
@@ -88,30 +169,37 @@ fn run_within(input: &[u8], out: &mut [u8]) -> usize
         let kind = input[at];
         let from = at + 1;
         let stop = least(from + format::record_length(kind), input.len());
-        let taken = feed_records::take_record(state, kind, &input[from..stop], out, end);
+        let taken = feed_records::take_record(
+            state,
+            kind,
+            &input[from..stop],
+            &mut levels,
+            &mut coeff,
+            &mut inter,
+            &mut residual,
+            out,
+            end,
+        );
         let answer = taken.answer;
         let number = number_of(answer);
         let reached = taken.end;
         if number != 0 {
-            return lines::put_refused(number, state.offset, out, reached);
+            return line_text::put_refused(number, state.offset, out, reached);
         }
         let next = taken.state;
         state = next;
         end = reached;
     }
     let blocks = state.blocks;
-    lines::put_blocks(blocks, out, end)
+    line_text::put_blocks(blocks, out, end)
 }
 
-// The text of a whole feed at the start of `out`: the rows of its blocks, each with the count of its limited coefficients, then the line of a
-// refusal or the number of blocks. With fewer than four bytes for each byte of the input and 40 more, `NoRoom` is answered and the buffer is as lent.
+// The text of a whole feed at the start of `out`: the rows of its blocks, each with the count of its limited coefficients, its readings, then the line of
+// a refusal or the number of blocks. With fewer bytes than `feed_room` says, `NoRoom` is answered and the buffer is as lent.
 pub fn run(input: &[u8], out: &mut [u8]) -> Ran
     ensures { λ r. ⌜ Runs r (now (out .entry)) (now (out .exit)) (now (input .entry)) ⌝ }
 {
-    if out.len() < 40 {
-        return Ran::NoRoom;
-    }
-    if (out.len() - 40) / 4 < input.len() {
+    if out.len() < feed_room(input) {
         return Ran::NoRoom;
     }
     Ran::Text(run_within(input, out))

@@ -1,20 +1,15 @@
 -- Laws of buffers of which the first elements are used.
---   overwrite-take       the elements that were replaced, as a list
 --   overwrite-whole      a buffer that was replaced whole
 --   tabulate-take        the first elements of a list
 use mathlib.Core.Path.{_≡_, sym, ap, _∙_}
 use mathlib.Core.List.{List, _++_, append-nil}
 use Prim.Native.Nat.{ℕ, _≤_, _<_}
 use lib.ListN.{length, take, drop, getD, drop-of-length-le}
-use lib.Seq.{take-at, ext-getD, getD-take, length-take-le}
+use lib.Seq.{ext-getD, getD-take, length-take-le}
 use Rattle.integers.specs.Lists.{tabulate, overwrite}
 use Rattle.integers.proofs.ListsLaws.{tabulate-length, tabulate-getD}
 
 module _ {A : Type 0} where
-  pub overwrite-take : (k : ℕ) (f : ℕ → A) (xs : List A) → take k (overwrite k f xs) ≡ tabulate k f
-  unfolding overwrite
-  overwrite-take k f xs = take-at (tabulate k f) (drop k xs) k (tabulate-length k f)
-
   pub overwrite-whole : (k : ℕ) (f : ℕ → A) (xs : List A) → length xs ≤ k → overwrite k f xs ≡ tabulate k f
   unfolding overwrite
   overwrite-whole k f xs h = ap (λ (l : List A). tabulate k f ++ l) (drop-of-length-le xs h) ∙ append-nil (tabulate k f)

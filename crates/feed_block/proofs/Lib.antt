@@ -2,4 +2,4 @@
 pub mod BufferLaws
 pub mod FormatLaws
 pub mod ScaleLaws
-pub mod InvertLaws
+pub mod OpenLaws

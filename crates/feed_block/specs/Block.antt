@@ -9,12 +9,15 @@
 --   residualBy mode list p n   the residual at an index, of levels by the mode: 0 DCT, 1 DST, 2 transform skip
 --   residualAt list p n        the same where `list` is in force
 --   blockResidual list p n     the whole block
---   blockLimited list p n      how many of its coefficients were limited. Document 02, R-6
+--   blockLimited list p n      how many of its coefficients were limited. Change request R-6
+--   modeOfKind kind            the mode of a transform: DCT or DST
+--   openingOf kind list p n    what a block of levels is opened with, so that it can be edited: the parameters, and the list in force. Change request R-14
 use mathlib.Core.Bool.{Bool, true, false, not, cond}
 use mathlib.Core.List.{List}
 use Prim.Native.Nat.{ℕ, _*_}
 use lib.Dec.{eqb, ltb}
 use lib.IntN.{ℤ, pos}
+use lib.ListN.{replicate}
 use Rattle.integers.specs.Lists.{tabulate}
 use Rattle.h265.specs.Range.{transformRange}
 use Rattle.h265.specs.ScalingFactor.{ScalingList}
@@ -24,6 +27,9 @@ use Rattle.h265.specs.TransformSkip.{skippedAt}
 use Rattle.h265.specs.Limited.{limitedCount}
 use Rattle.h265.specs.Matrix.{transMatrix, dstMatrix}
 use Rattle.h265.specs.Transform.{residual, rowOrder}
+use Rattle.transform_1d.specs.declared.Kind.{Kind}
+use Rattle.transform_1d.specs.declared.Kind.the-variants.{Dct as DctKind, Dst as DstKind}
+use Rattle.edited_block.specs.Opening.{Opening}
 use Rattle.feed_block.specs.declared.Mode.{Mode}
 use Rattle.feed_block.specs.declared.Mode.the-variants.{Dct, Dst, Skip}
 use Rattle.feed_block.specs.declared.Parameters.{Parameters}
@@ -71,3 +77,30 @@ blockResidual list p n levels = tabulate (n * n) (residualAt list p n levels)
 unfoldable pub blockLimited : ScalingList → Parameters → ℕ → List ℤ → ℕ
 blockLimited list p n levels =
     limitedCount (listFor (p .mode) n list) n (p .«bit_depth») (p .«extended_precision») (pos (p .«qp_prime»)) levels
+
+abbrev pub modeOfKind : Kind → Mode
+modeOfKind DctKind = Dct
+modeOfKind DstKind = Dst
+
+-- what a record keeps of a list; without one all is 0
+abbrev pub isListed : ScalingList → Bool
+isListed flat = false
+isListed (listed entries d) = true
+
+abbrev pub dcIn : ScalingList → ℕ
+dcIn flat = 0
+dcIn (listed entries d) = d
+
+abbrev pub entriesIn : ScalingList → List ℕ
+entriesIn flat = replicate 64 0
+entriesIn (listed entries d) = entries
+
+abbrev pub openingOf : Kind → ScalingList → Parameters → ℕ → Opening
+openingOf kind list p n =
+    record {
+      kind = kind;
+      size = n;
+      depth = p .«bit_depth»;
+      extended = p .«extended_precision»;
+      source = record { levels = Bool.true; «qp_prime» = record { 0 = pos (p .«qp_prime») }; listed = isListed list; dc = dcIn list; entries = entriesIn list };
+    }

@@ -1,20 +1,23 @@
 -- The format of a feed's records: one byte of kind, then a body whose length the kind fixes. Document 01, "The feed program".
 --   kindOf k          what a byte of kind stands for
 --   bodyLength kind   how many bytes of body follow it
---   recordLength k    the same by the byte: 4, 65, 0 for 1, 2, 3, and 4 n² for 4 .. 7; a kind that is not known has none
+--   recordLength k    the same by the byte: 4, 65, 0 for 1, 2, 3, 4 n² for 4 .. 7, and 6, 0 for 8, 9; a kind that is not known has none
+--   textRoom kind     the bytes that the text of a record may take: 12 for each number of its rows, and 29 for the line behind them
+--   recordRoom k      the same by the byte
 --   modeOf m          DCT, DST, transform skip for 0, 1, 2
 --   signed32 u        the signed number that 32 bits stand for
 --   levelAt body i    level i of a body: four bytes, low byte first, signed
 --   levelsOf n body   the n² levels of a body
+--   editRow, editColumn, editLevel   what the body of an edit holds: one byte, one byte, and a level
 use mathlib.Core.Bool.{cond}
 use mathlib.Core.List.{List}
 use Prim.Native.Nat.{ℕ, _+_, _*_}
 use lib.Dec.{eqb, ltb}
 use lib.IntN.{ℤ, pos, _-ℤ_}
-use lib.ListN.{getD}
+use lib.ListN.{getD, drop}
 use Rattle.integers.specs.Lists.{tabulate}
 use Rattle.feed_block.specs.declared.Kind.{Kind}
-use Rattle.feed_block.specs.declared.Kind.the-variants.{Parameters, List as ListKind, NoList, Levels, Unknown}
+use Rattle.feed_block.specs.declared.Kind.the-variants.{Parameters, List as ListKind, NoList, Levels, Edit, Reading, Unknown}
 use Rattle.feed_block.specs.declared.Mode.{Mode}
 use Rattle.feed_block.specs.declared.Mode.the-variants.{Dct, Dst, Skip}
 
@@ -26,17 +29,34 @@ kindOf k =
     (cond (eqb k 4) (Levels 4)
     (cond (eqb k 5) (Levels 8)
     (cond (eqb k 6) (Levels 16)
-    (cond (eqb k 7) (Levels 32) Unknown))))))
+    (cond (eqb k 7) (Levels 32)
+    (cond (eqb k 8) Edit
+    (cond (eqb k 9) Reading Unknown))))))))
 
 abbrev pub bodyLength : Kind → ℕ
 bodyLength Parameters = 4
 bodyLength ListKind = 65
 bodyLength NoList = 0
 bodyLength (Levels n) = 4 * (n * n)
+bodyLength Edit = 6
+bodyLength Reading = 0
 bodyLength Unknown = 0
 
 unfoldable pub recordLength : ℕ → ℕ
 recordLength k = bodyLength (kindOf k)
+
+-- a reading may be of the largest size
+abbrev pub textRoom : Kind → ℕ
+textRoom Parameters = 0
+textRoom ListKind = 0
+textRoom NoList = 0
+textRoom (Levels n) = 12 * (n * n) + 29
+textRoom Edit = 0
+textRoom Reading = 12317
+textRoom Unknown = 0
+
+unfoldable pub recordRoom : ℕ → ℕ
+recordRoom k = textRoom (kindOf k)
 
 unfoldable pub modeOf : ℕ → Mode
 modeOf m = cond (eqb m 0) Dct (cond (eqb m 1) Dst Skip)
@@ -51,3 +71,12 @@ levelAt body i =
 
 unfoldable pub levelsOf : ℕ → List ℕ → List ℤ
 levelsOf n body = tabulate (n * n) (levelAt body)
+
+abbrev pub editRow : List ℕ → ℕ
+editRow body = getD body 0 0
+
+abbrev pub editColumn : List ℕ → ℕ
+editColumn body = getD body 1 0
+
+unfoldable pub editLevel : List ℕ → ℤ
+editLevel body = levelAt (drop 2 body) 0

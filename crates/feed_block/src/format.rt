@@ -1,7 +1,7 @@
 // Kinds of records and what a body holds.
 ghost use mathlib.Core.Path.{_≡_};
 ghost use Prim.Native.Nat.{_≤_};
-ghost use Rattle.feed_block.specs.Format.{kindOf, bodyLength, recordLength, modeOf};
+ghost use Rattle.feed_block.specs.Format.{kindOf, recordLength, recordRoom, modeOf};
 use crate::Kind;
 use crate::Mode;
 
@@ -16,6 +16,8 @@ pub fn kind_of(kind: u8) -> Kind
         5 => Kind::Levels(8),
         6 => Kind::Levels(16),
         7 => Kind::Levels(32),
+        8 => Kind::Edit,
+        9 => Kind::Reading,
         _ => Kind::Unknown,
     }
 }
@@ -32,6 +34,22 @@ pub fn record_length(kind: u8) -> usize
         5 => 256,
         6 => 1024,
         7 => 4096,
+        8 => 6,
+        _ => 0,
+    }
+}
+
+// How many bytes the text of a record may take.
+pub fn record_room(kind: u8) -> usize
+    ensures { λ r. ⌜ r ≡ recordRoom kind ⌝ }
+    ensures { λ r. ⌜ r ≤ 12317 ⌝ }
+{
+    match kind {
+        4 => 221,
+        5 => 797,
+        6 => 3101,
+        7 => 12317,
+        9 => 12317,
         _ => 0,
     }
 }

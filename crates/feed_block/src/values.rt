@@ -3,7 +3,7 @@ ghost use mathlib.Core.Path.{_≡_};
 ghost use Prim.Native.Nat.{_+_, _*_, _≤_, _<_};
 ghost use lib.ListN.{length, take};
 ghost use Rattle.integers.specs.Lists.{overwrite};
-ghost use Rattle.feed_block.specs.Format.{signed32, levelAt};
+ghost use Rattle.feed_block.specs.Format.{signed32, levelAt, editLevel};
 
 fn wide(byte: u8) -> u32
     ensures { λ r. ⌜ r ≡ byte ⌝ }
@@ -42,6 +42,14 @@ pub fn read_levels(body: &[u8], count: usize, levels: &mut [i32])
         at += 4;
         i += 1;
     }
+}
+
+// The level of an edit, behind its row and its column.
+pub fn edit_level(body: &[u8]) -> i32
+    requires { ⌜ 6 ≤ length (now body) ⌝ }
+    ensures { λ r. ⌜ r ≡ editLevel (now (body .entry)) ⌝ }
+{
+    level(body[2], body[3], body[4], body[5])
 }
 
 // The entries of a list.

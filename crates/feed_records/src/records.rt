@@ -1,16 +1,21 @@
 // What one record does: a function for each kind, below the question of room.
 ghost use mathlib.Core.Path.{_≡_};
+ghost use mathlib.Core.List.{_++_};
 ghost use Prim.Native.Nat.{_+_, _*_, min, _≤_};
 ghost use lib.Dec.{T};
-ghost use lib.ListN.{length};
+ghost use lib.ListN.{length, take};
 ghost use Rattle.h265.specs.Range.{isSize};
 ghost use Rattle.refusal.specs.Outcome.{refused};
 ghost use Rattle.feed_block.specs.Block.{dstRefused};
-ghost use Rattle.feed_records.specs.Record.{counted, unchanged, isUnknown, parametersEffect, listEffect, noListEffect, levelsBy, levelsEffect, bodyEffect, recordEffect};
-ghost use Rattle.feed_records.specs.Taken.{stateOf, capped, recordRoom, Takes, Silent};
-ghost use Rattle.feed_block.specs.Work.{Whole};
+ghost use Rattle.feed_block.specs.Format.{textRoom, recordRoom};
+ghost use Rattle.feed_records.specs.Record.{FeedState, limitedText, counted, unchanged, isUnknown, parametersEffect, listEffect, noListEffect, levelsBy, levelsEffect, bodyEffect, recordEffect};
+ghost use Rattle.feed_records.specs.Buffers.{Lent, lent, Buffered, closedIn, inBuffers};
+ghost use Rattle.feed_records.specs.Taken.{stateOf, capped, Ample, Takes, Silent, Skips};
+ghost use Rattle.feed_block.specs.Work.{Whole, Accepted};
+ghost use Rattle.text.specs.Text.{blockText, WroteUpTo};
 use crate::Taken;
-use crate::lines;
+use crate::line_text;
+use crate::open_block;
 use feed_block::Given;
 use feed_block::Kind;
 use feed_block::Mode;
@@ -22,8 +27,8 @@ use feed_block::values;
 use refusal::Answer;
 use refusal::Refusal;
 
-fn kept(s: State, why: Refusal, at: usize) -> Taken
-    ensures { λ r. ⌜ Silent r at (refused (unchanged (stateOf s)) why) ⌝ }
+pub(crate) fn kept(s: State, why: Refusal, at: usize) -> Taken
+    ensures { λ r. ⌜ Silent s r at (λ (f : FeedState Buffered). refused (unchanged f) why) ⌝ }
 {
     Taken {
         answer: Answer::Refused(why),
@@ -32,7 +37,7 @@ fn kept(s: State, why: Refusal, at: usize) -> Taken
     }
 }
 
-fn moved(next: State, at: usize) -> Taken
+pub(crate) fn moved(next: State, at: usize) -> Taken
     ensures { λ r. ⌜ r ≡ record { answer = Answer.Done; state = next; end = at } ⌝ }
 {
     Taken {
@@ -53,7 +58,7 @@ fn dst_refused(mode: Mode, n: usize) -> bool
     }
 }
 
-fn is_unknown(kind: Kind) -> bool
+pub fn is_unknown(kind: Kind) -> bool
     ensures { λ r. ⌜ r ≡ isUnknown kind ⌝ }
 {
     match kind {
@@ -61,12 +66,14 @@ fn is_unknown(kind: Kind) -> bool
         Kind::List => false,
         Kind::NoList => false,
         Kind::Levels(_) => false,
+        Kind::Edit => false,
+        Kind::Reading => false,
         Kind::Unknown => true,
     }
 }
 
 // One block more; the counter stops before it would wrap.
-fn one_more(blocks: u64) -> u64
+pub(crate) fn one_more(blocks: u64) -> u64
     ensures { λ r. ⌜ r ≡ min (blocks + 1) 18446744073709551615 ⌝ }
 {
     if blocks < u64::MAX {
@@ -77,7 +84,7 @@ fn one_more(blocks: u64) -> u64
 }
 
 // The offset behind a record with a body of this length; it stops before it would wrap.
-fn behind(offset: u64, length: usize) -> u64
+pub(crate) fn behind(offset: u64, length: usize) -> u64
     ensures { λ r. ⌜ r ≡ min (offset + 1 + length) 18446744073709551615 ⌝ }
 {
     if (length as u64) < u64::MAX - offset {
@@ -89,7 +96,7 @@ fn behind(offset: u64, length: usize) -> u64
 
 fn take_parameters(s: State, body: &[u8], at: usize) -> Taken
     requires { ⌜ 4 ≤ length (now body) ⌝ }
-    ensures { λ r. ⌜ Silent r at (parametersEffect (stateOf s) (now (body .entry))) ⌝ }
+    ensures { λ r. ⌜ Silent s r at (λ (f : FeedState Buffered). parametersEffect inBuffers f (now (body .entry))) ⌝ }
 {
     let bit_depth = body[0];
     let flag = body[1];
@@ -110,11 +117,14 @@ fn take_parameters(s: State, body: &[u8], at: usize) -> Taken
         mode: format::mode_of(mode),
     };
     let entries = s.entries;
+    let block = s.block;
     let next = State {
         given: Given::These(p),
         listed: s.listed,
         entries,
         dc: s.dc,
+        editing: false,
+        block,
         blocks: s.blocks,
         offset: behind(s.offset, 4),
     };
@@ -123,15 +133,18 @@ fn take_parameters(s: State, body: &[u8], at: usize) -> Taken
 
 fn take_list(s: State, body: &[u8], at: usize) -> Taken
     requires { ⌜ 65 ≤ length (now body) ⌝ }
-    ensures { λ r. ⌜ Silent r at (listEffect (stateOf s) (now (body .entry))) ⌝ }
+    ensures { λ r. ⌜ Silent s r at (λ (f : FeedState Buffered). listEffect inBuffers f (now (body .entry))) ⌝ }
 {
     let given = s.given;
     let entries = values::entries_of(body);
+    let block = s.block;
     let next = State {
         given,
         listed: true,
         entries,
         dc: body[64],
+        editing: false,
+        block,
         blocks: s.blocks,
         offset: behind(s.offset, 65),
     };
@@ -139,44 +152,85 @@ fn take_list(s: State, body: &[u8], at: usize) -> Taken
 }
 
 fn take_no_list(s: State, at: usize) -> Taken
-    ensures { λ r. ⌜ Silent r at (noListEffect (stateOf s)) ⌝ }
+    ensures { λ r. ⌜ Silent s r at (noListEffect inBuffers) ⌝ }
 {
     let given = s.given;
     let entries = s.entries;
+    let block = s.block;
     let next = State {
         given,
         listed: false,
         entries,
         dc: s.dc,
+        editing: false,
+        block,
         blocks: s.blocks,
         offset: behind(s.offset, 0),
     };
     moved(next, at)
 }
 
-// The state behind a block.
-fn with_block(s: State, n: usize) -> State
+// The state behind a block that cannot be edited.
+fn with_closed(s: State, n: usize) -> State
     requires { ⌜ T (isSize n) ⌝ }
-    ensures { λ r. ⌜ stateOf r ≡ capped (counted (stateOf s) n) ⌝ }
+    ensures { λ r. ⌜ ((w : Lent) → stateOf r w ≡ capped (counted (stateOf s w) (closedIn (stateOf s w .block)) n)) ⌝ }
 {
     let given = s.given;
     let entries = s.entries;
+    let block = s.block;
     State {
         given,
         listed: s.listed,
         entries,
         dc: s.dc,
+        editing: false,
+        block,
         blocks: one_more(s.blocks),
         offset: behind(s.offset, 4 * (n * n)),
     }
 }
 
+// The rows of a block and the line behind them.
+pub(crate) fn put_rows(residual: &[i32], n: usize, limited: u16, out: &mut [u8], at: usize) -> usize
+    requires { ⌜ T (isSize n) × (n * n ≤ length (now residual)) × (at + textRoom (Kind.Levels n) ≤ length (now out)) ⌝ }
+    ensures { λ r. ⌜ WroteUpTo (now (out .entry)) at (blockText n (take (n * n) (now (residual .entry))) ++ limitedText limited) (now (out .exit)) r (at + textRoom (Kind.Levels n)) ⌝ }
+{
+    let count = n * n;
+    let rows = text::put_block(&residual[..count], n, out, at);
+    line_text::put_limited(limited, out, rows)
+}
+
+// A block by transform skip.
+fn take_skipped(s: State, p: Parameters, n: usize, body: &[u8], out: &mut [u8], at: usize) -> Taken
+    requires { ⌜ Accepted p n × (p .mode ≡ Mode.Skip) ⌝ }
+    requires { ⌜ 4 * (n * n) ≤ length (now body) ⌝ }
+    requires { ⌜ at + textRoom (Kind.Levels n) ≤ length (now out) ⌝ }
+    ensures { λ r. ⌜ Skips s p r n (now (body .entry)) (now (out .entry)) at (now (out .exit)) ⌝ }
+{
+    let mut residual = [0i32; 1024];
+    let limited = block::skip_body(s, p, n, body, &mut residual);
+    let end = put_rows(&residual, n, limited, out, at);
+    moved(with_closed(s, n), end)
+}
+
 // A block of levels, by the parameters.
-fn take_block(s: State, p: Parameters, n: usize, body: &[u8], out: &mut [u8], at: usize) -> Taken
+fn take_block(
+    s: State,
+    p: Parameters,
+    n: usize,
+    body: &[u8],
+    levels: &mut [i32],
+    coeff: &mut [i32],
+    inter: &mut [i32],
+    residual: &mut [i32],
+    out: &mut [u8],
+    at: usize,
+) -> Taken
     requires { ⌜ T (isSize n) ⌝ }
     requires { ⌜ 4 * (n * n) ≤ length (now body) ⌝ }
-    requires { ⌜ at + recordRoom (length (now body)) ≤ length (now out) ⌝ }
-    ensures { λ r. ⌜ Takes r (now (out .entry)) at (now (out .exit)) (levelsBy (Given.These p) (stateOf s) n (now (body .entry))) (recordRoom (length (now (body .entry)))) ⌝ }
+    requires { ⌜ Ample (lent (now levels) (now coeff) (now inter) (now residual)) ⌝ }
+    requires { ⌜ at + textRoom (Kind.Levels n) ≤ length (now out) ⌝ }
+    ensures { λ r. ⌜ Takes s r (lent (now (levels .exit)) (now (coeff .exit)) (now (inter .exit)) (now (residual .exit))) (now (out .entry)) at (now (out .exit)) (levelsBy inBuffers (Given.These p) (stateOf s (lent (now (levels .entry)) (now (coeff .entry)) (now (inter .entry)) (now (residual .entry)))) n (now (body .entry))) (textRoom (Kind.Levels n)) ⌝ }
 {
     if refusal::depth_refused(p.bit_depth) {
         return kept(s, Refusal::DepthInvalid, at);
@@ -185,46 +239,104 @@ fn take_block(s: State, p: Parameters, n: usize, body: &[u8], out: &mut [u8], at
     if dst_refused(mode, n) {
         return kept(s, Refusal::DstSizeInvalid, at);
     }
-    let mut residual = [0i32; 1024];
-    let limited = block::residual_of(s, p, n, body, &mut residual);
-    let count = n * n;
-    let rows = text::put_block(&residual[..count], n, out, at);
-    let end = lines::put_limited(limited, out, rows);
-    moved(with_block(s, n), end)
+    match mode {
+        Mode::Dct => open_block::take_opened(
+            s,
+            p,
+            transform_1d::Kind::Dct,
+            n,
+            body,
+            levels,
+            coeff,
+            inter,
+            residual,
+            out,
+            at,
+        ),
+        Mode::Dst => open_block::take_opened(
+            s,
+            p,
+            transform_1d::Kind::Dst,
+            n,
+            body,
+            levels,
+            coeff,
+            inter,
+            residual,
+            out,
+            at,
+        ),
+        Mode::Skip => take_skipped(s, p, n, body, out, at),
+    }
 }
 
-fn take_levels(s: State, n: usize, body: &[u8], out: &mut [u8], at: usize) -> Taken
+fn take_levels(
+    s: State,
+    n: usize,
+    body: &[u8],
+    levels: &mut [i32],
+    coeff: &mut [i32],
+    inter: &mut [i32],
+    residual: &mut [i32],
+    out: &mut [u8],
+    at: usize,
+) -> Taken
     requires { ⌜ T (isSize n) ⌝ }
     requires { ⌜ 4 * (n * n) ≤ length (now body) ⌝ }
-    requires { ⌜ at + recordRoom (length (now body)) ≤ length (now out) ⌝ }
-    ensures { λ r. ⌜ Takes r (now (out .entry)) at (now (out .exit)) (levelsEffect (stateOf s) n (now (body .entry))) (recordRoom (length (now (body .entry)))) ⌝ }
+    requires { ⌜ Ample (lent (now levels) (now coeff) (now inter) (now residual)) ⌝ }
+    requires { ⌜ at + textRoom (Kind.Levels n) ≤ length (now out) ⌝ }
+    ensures { λ r. ⌜ Takes s r (lent (now (levels .exit)) (now (coeff .exit)) (now (inter .exit)) (now (residual .exit))) (now (out .entry)) at (now (out .exit)) (levelsEffect inBuffers (stateOf s (lent (now (levels .entry)) (now (coeff .entry)) (now (inter .entry)) (now (residual .entry)))) n (now (body .entry))) (textRoom (Kind.Levels n)) ⌝ }
 {
     let given = s.given;
     match given {
         Given::Nothing => kept(s, Refusal::LevelsBeforeParameters, at),
-        Given::These(p) => take_block(s, p, n, body, out, at),
+        Given::These(p) => take_block(s, p, n, body, levels, coeff, inter, residual, out, at),
     }
 }
 
 // A whole body.
-fn take_body(s: State, kind: Kind, body: &[u8], out: &mut [u8], at: usize) -> Taken
+fn take_body(
+    s: State,
+    kind: Kind,
+    body: &[u8],
+    levels: &mut [i32],
+    coeff: &mut [i32],
+    inter: &mut [i32],
+    residual: &mut [i32],
+    out: &mut [u8],
+    at: usize,
+) -> Taken
     requires { ⌜ Whole kind (length (now body)) ⌝ }
-    requires { ⌜ at + recordRoom (length (now body)) ≤ length (now out) ⌝ }
-    ensures { λ r. ⌜ Takes r (now (out .entry)) at (now (out .exit)) (bodyEffect kind (stateOf s) (now (body .entry))) (recordRoom (length (now (body .entry)))) ⌝ }
+    requires { ⌜ Ample (lent (now levels) (now coeff) (now inter) (now residual)) ⌝ }
+    requires { ⌜ at + textRoom kind ≤ length (now out) ⌝ }
+    ensures { λ r. ⌜ Takes s r (lent (now (levels .exit)) (now (coeff .exit)) (now (inter .exit)) (now (residual .exit))) (now (out .entry)) at (now (out .exit)) (bodyEffect inBuffers kind (stateOf s (lent (now (levels .entry)) (now (coeff .entry)) (now (inter .entry)) (now (residual .entry)))) (now (body .entry))) (textRoom kind) ⌝ }
 {
     match kind {
         Kind::Parameters => take_parameters(s, body, at),
         Kind::List => take_list(s, body, at),
         Kind::NoList => take_no_list(s, at),
-        Kind::Levels(n) => take_levels(s, n, body, out, at),
+        Kind::Levels(n) => take_levels(s, n, body, levels, coeff, inter, residual, out, at),
+        Kind::Edit => open_block::take_edit(s, body, levels, coeff, inter, residual, at),
+        Kind::Reading => open_block::take_reading(s, residual, out, at),
         Kind::Unknown => kept(s, Refusal::KindUnknown, at),
     }
 }
 
 // A record, whole or not: its text at a place of the buffer, and the state after it.
-pub fn take_record(s: State, kind: u8, body: &[u8], out: &mut [u8], at: usize) -> Taken
-    requires { ⌜ at + recordRoom (length (now body)) ≤ length (now out) ⌝ }
-    ensures { λ r. ⌜ Takes r (now (out .entry)) at (now (out .exit)) (recordEffect (stateOf s) kind (now (body .entry))) (recordRoom (length (now (body .entry)))) ⌝ }
+pub fn take_record(
+    s: State,
+    kind: u8,
+    body: &[u8],
+    levels: &mut [i32],
+    coeff: &mut [i32],
+    inter: &mut [i32],
+    residual: &mut [i32],
+    out: &mut [u8],
+    at: usize,
+) -> Taken
+    requires { ⌜ Ample (lent (now levels) (now coeff) (now inter) (now residual)) ⌝ }
+    requires { ⌜ at + recordRoom kind ≤ length (now out) ⌝ }
+    ensures { λ r. ⌜ Takes s r (lent (now (levels .exit)) (now (coeff .exit)) (now (inter .exit)) (now (residual .exit))) (now (out .entry)) at (now (out .exit)) (recordEffect inBuffers (stateOf s (lent (now (levels .entry)) (now (coeff .entry)) (now (inter .entry)) (now (residual .entry)))) kind (now (body .entry))) (recordRoom kind) ⌝ }
 {
     let what = format::kind_of(kind);
     if is_unknown(what) {
@@ -233,5 +345,5 @@ pub fn take_record(s: State, kind: u8, body: &[u8], out: &mut [u8], at: usize) -
     if body.len() < format::record_length(kind) {
         return kept(s, Refusal::BodyTooShort, at);
     }
-    take_body(s, what, body, out, at)
+    take_body(s, what, body, levels, coeff, inter, residual, out, at)
 }

@@ -1,34 +1,45 @@
 -- The listing as a walk over a feed's records.
 --   line-is, line-fits                a line's text
---   listingWalk                       what a record adds to the listing, nothing behind the last one, and five bytes of text for a byte
+--   listingWalk                       what a record adds to the listing, nothing behind the last one, and the bytes that its lines may take
 --   Answered                          the answer to a record is that of its effect
+--   traces-full                       what was made of a record over buffers of 1,024 elements is its effect
 --   listing-refused, listing-passed   after a record, by its answer
-use mathlib.Core.Path.{_≡_, sym, ap, _∙_, subst}
-use mathlib.Core.Bool.{true, false}
+--   listing-follows                   the listing with the open block in buffers is that with its history
+use mathlib.Core.Path.{_≡_, refl, sym, ap, _∙_, subst}
+use mathlib.Core.Bool.{true, false, cond, true≢false}
 use mathlib.Core.List.{List, []}
 use Prim.Native.Nat.{ℕ, _+_, _≤_}
 use native.Mathlib.Omega.{arith}
 use borrow.Author.Tests.{eqb-true}
-use lib.Dec.{T}
+use lib.Dec.{T, eqb}
 use lib.ListN.{length, take, drop}
 use lib.Seq.{take-append-seam, sets-eq}
 use Rattle.integers.specs.Lists.{tabulate, tabulateFrom}
+use Rattle.h265.specs.ScalingFactor.{ScalingList}
 use Rattle.refusal.specs.Outcome.{Outcome}
 use Rattle.text.specs.Text.{Wrote}
 use Rattle.text.proofs.WroteLaws.{Left, wrote-length}
-use Rattle.feed.specs.declared.Line.{Line}
+use Rattle.feed_block.specs.declared.Kind.{Kind}
+use Rattle.feed_block.specs.declared.Kind.the-variants.{Parameters, List as ListKind, NoList, Levels, Edit, Reading, Unknown}
+use Rattle.feed_block.specs.declared.Given.{Given}
 use Rattle.feed_block.specs.declared.State.{State}
+use Rattle.feed_block.specs.Format.{kindOf}
+use Rattle.feed_records.specs.Record.{FeedState, Effect, isUnknown, recordEffect}
+use Rattle.feed_records.specs.Buffers.{Lent, Buffered, inBuffers}
+use Rattle.feed_records.specs.Taken.{answerOf, Ample}
+use Rattle.feed_records.proofs.EffectLaws.{Moved, effect-moved}
+use Rattle.feed.specs.declared.Line.{Line}
+use Rattle.feed.specs.declared.Stepped.{Stepped}
 use Rattle.feed.specs.declared.StepAnswer.{StepAnswer}
 use Rattle.feed.specs.declared.StepAnswer.the-variants.{Done, Refused, NoRoom}
-use Rattle.feed_records.specs.Record.{FeedState, Effect}
-use Rattle.feed.specs.Feed.{refusedText}
-use Rattle.feed_records.specs.Taken.{answerOf}
-use Rattle.feed.specs.Answers.{stepAnswer, Lines}
+use Rattle.feed.specs.Feed.{refusedText, History, inHistory}
+use Rattle.feed.specs.Answers.{stepAnswer, isDone, Stepping, Lines}
 use Rattle.feed.specs.Answers.Room.{enough}
-use Rattle.feed_records.proofs.EffectLaws.{Moved, effect-moved}
+use Rattle.feed.proofs.FollowLaws.{Follows, Same, record-follows, walks-agree, follows-start}
+use Rattle.feed.proofs.StepLaws.{enough-room}
 use Rattle.feed.proofs.WalkLaws.{Walk, walkText, Going, Turn, Passed, passed, going-refused}
-use Rattle.scale_trace.specs.Trace.{traceEffect}
-use Rattle.scale_trace.specs.Work.{isDone, refusalOf}
+use Rattle.scale_trace.specs.Trace.{levelsLines, recordLines, traceEffect, linesRoom, listRoom, tracing, traceText}
+use Rattle.scale_trace.specs.Work.{refusalOf, TracesAt}
 use Rattle.scale_trace.proofs.StepLaws.{numberIn, done-is}
 
 refusal-is : (a : StepAnswer) (o : Outcome (Unit {0})) (at : ℕ) → stepAnswer a ≡ enough o → isDone a ≡ false → refusalOf a at ≡ refusedText (o .number) at
@@ -50,20 +61,65 @@ pub line-is : {t : List ℕ} (r : Line) → Lines r t → take (r .end) (r .byte
 line-is {t} r h = first-is _ t (r .bytes) (r .end) (h .wrote) (h .counts .0)
 
 -- ---- the walk
-pub listing-moved : (s : FeedState) (k : ℕ) (body : List ℕ) → Moved s k body (traceEffect s k body)
+lines-none : (kind : Kind) → isUnknown kind ≡ true → linesRoom kind ≡ 0
+lines-none Parameters e = refl
+lines-none ListKind e = refl
+lines-none NoList e = refl
+lines-none (Levels n) e = absurd (true≢false (sym e))
+lines-none Edit e = refl
+lines-none Reading e = refl
+lines-none Unknown e = refl
+
+pub listing-none : (k : ℕ) → isUnknown (kindOf k) ≡ true → listRoom k ≡ 0
+unfolding listRoom
+listing-none k e = lines-none (kindOf k) e
+
+pub listing-moved : (s : FeedState Buffered) (k : ℕ) (body : List ℕ) → Moved s k body (traceEffect inBuffers s k body)
 unfolding traceEffect
-listing-moved s k body = let m = effect-moved s k body in record { blocks = m .blocks; offset = m .offset; whole = m .whole }
+listing-moved s k body = let m = effect-moved inBuffers s k body in record { blocks = m .blocks; offset = m .offset; whole = m .whole; known = m .known }
 
 abbrev pub listingWalk : Walk
-listingWalk = record { effect = traceEffect; last = λ (s : FeedState). []; rate = 5; moves = listing-moved }
+listingWalk = record { effect = traceEffect inBuffers; last = λ (s : FeedState Buffered). []; asks = listRoom; asks-none = listing-none; moves = listing-moved }
 
-pub record Answered (a : StepAnswer) (o : Outcome Effect) : Type 0 where
+pub record Answered (a : StepAnswer) (o : Outcome (Effect Buffered)) : Type 0 where
   pub is : stepAnswer a ≡ enough (answerOf o)
 
-module _ {input l out out′ : List ℕ} {s s′ : State} {stop end end′ : ℕ} {a : StepAnswer}
-    (g : Going listingWalk input l out s end) (t : Turn listingWalk (Answered a) input s stop s′ out end out′ end′) where
-  pub listing-refused : isDone a ≡ false → Left l 0 (walkText listingWalk input) out′ end′ (refusalOf a (s .offset))
+pub traces-full : {s : State} {r : Stepped} {w : Lent} {l m : List ℕ} {at : ℕ} (f : FeedState Buffered) (k : ℕ) (body : List ℕ) → Ample (f .block .lent-are)
+    → TracesAt s r w l at m (tracing f k body (listRoom k)) (listRoom k)
+    → TracesAt s r w l at m (record { answer = enough (answerOf (traceEffect inBuffers f k body)); state = traceEffect inBuffers f k body .value .state; text = traceEffect inBuffers f k body .value .text }) (listRoom k)
+traces-full {s} {r} {w} {l} {m} {at} f k body a t =
+    subst (λ (q : Stepping). TracesAt s r w l at m q (listRoom k)) (enough-room (traceEffect inBuffers) listRoom f k body (listRoom k) (omega arith) a) t
+
+module _ {v b b′ : Lent} {input l out out′ : List ℕ} {s s′ : State} {end end′ : ℕ} {a : StepAnswer}
+    (g : Going listingWalk v input l out s b end) (t : Turn listingWalk (Answered a) input s b s′ b′ out end out′ end′) where
+  pub listing-refused : isDone a ≡ false → Left l 0 (walkText listingWalk v input) out′ end′ (refusalOf a (s .offset))
   listing-refused d = rw (refusal-is a _ (s .offset) (t .answered .is) d) (going-refused g t (sym (done-is a _ (t .answered .is)) ∙ d))
 
   pub listing-passed : isDone a ≡ true → Passed g t
   listing-passed d = passed g t (eqb-true _ 0 (sym (done-is a _ (t .answered .is)) ∙ d))
+
+-- ---- the history
+lines-same : {s : FeedState Buffered} {t : FeedState History} → Follows s t → (kind : Kind) → recordLines kind s ≡ recordLines kind t
+lines-same f Parameters = refl
+lines-same f ListKind = refl
+lines-same f NoList = refl
+lines-same {s} {t} f (Levels n) = ap (λ (g : Given). levelsLines g (s .list) n) (f .given) ∙ ap (λ (list : ScalingList). levelsLines (t .given) list n) (f .list)
+lines-same f Edit = refl
+lines-same f Reading = refl
+lines-same f Unknown = refl
+
+effect-same : {s : FeedState Buffered} {t : FeedState History} → Follows s t → (k : ℕ) (body : List ℕ) → Same (traceEffect inBuffers s k body) (traceEffect inHistory t k body)
+unfolding traceEffect
+effect-same {s} {t} f k body =
+    let e = record-follows f k body in
+    record {
+      number = e .number;
+      text =
+          ap (λ (n : ℕ). cond (eqb n 0) (recordLines (kindOf k) s) []) (e .number)
+          ∙ ap (λ (lines : List ℕ). cond (eqb (recordEffect inHistory t k body .number) 0) lines []) (lines-same f (kindOf k));
+      state = e .state;
+    }
+
+pub listing-follows : (v : Lent) (input : List ℕ) → Ample v → walkText listingWalk v input ≡ traceText input
+unfolding traceText
+listing-follows v input a = walks-agree (record { same = effect-same; last-same = λ f. refl }) (length input + 1) (follows-start v a) input

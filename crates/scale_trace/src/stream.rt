@@ -6,14 +6,18 @@ ghost use lib.ListN.{length};
 ghost use Rattle.h265.specs.Range.{isSize};
 ghost use Rattle.text.specs.Text.{Wrote, WroteUpTo, Counts};
 ghost use Rattle.feed_block.specs.Format.{kindOf};
+ghost use Rattle.feed_block.specs.Block.{listIn};
+ghost use Rattle.feed_records.specs.Buffers.{lent};
 ghost use Rattle.feed_records.specs.Taken.{stateOf};
-ghost use Rattle.scale_trace.specs.Trace.{levelsLines, traceEffect, traceRoom, tracing, Traces, traceText, listingRoom, Lists};
-ghost use Rattle.scale_trace.specs.Work.{isDone, sizeOf, refusalOf, TracesAt};
+ghost use Rattle.feed.specs.Answers.{isDone, Steps};
+ghost use Rattle.scale_trace.specs.Trace.{levelsLines, listRoom, tracing, traceText, listingRoom, Lists};
+ghost use Rattle.scale_trace.specs.Work.{sizeOf, refusalOf, TracesAt};
 use feed::Given;
 use feed::Ran;
 use feed::State;
 use feed::StepAnswer;
 use feed::Stepped;
+use feed_block::format;
 
 fn least(a: usize, b: usize) -> usize
     ensures { λ r. ⌜ r ≡ min a b ⌝ }
@@ -44,11 +48,24 @@ fn size_of(kind: u8) -> usize
     }
 }
 
+// How many bytes the lines of a record may take.
+fn list_room(kind: u8) -> usize
+    ensures { λ r. ⌜ r ≡ listRoom kind ⌝ }
+{
+    match kind {
+        4 => 320,
+        5 => 1280,
+        6 => 5120,
+        7 => 20480,
+        _ => 0,
+    }
+}
+
 // The lines of a block, by the parameters; a block of size 0 has none.
 fn put_levels(state: State, n: usize, out: &mut [u8], at: usize) -> usize
     requires { ⌜ (0 < n → T (isSize n)) ⌝ }
     requires { ⌜ at + 20 * (n * n) ≤ length (now out) ⌝ }
-    ensures { λ r. ⌜ WroteUpTo (now (out .entry)) at (levelsLines (stateOf state .given) (stateOf state .list) n) (now (out .exit)) r (at + 20 * (n * n)) ⌝ }
+    ensures { λ r. ⌜ WroteUpTo (now (out .entry)) at (levelsLines (state .given) (listIn (state .listed) (state .entries) (state .dc)) n) (now (out .exit)) r (at + 20 * (n * n)) ⌝ }
 {
     let entries = state.entries;
     let given = state.given;
@@ -61,15 +78,23 @@ fn put_levels(state: State, n: usize, out: &mut [u8], at: usize) -> usize
     }
 }
 
-// A record, whole or not: its lines at a place of the buffer. The rows that the feed writes are put aside; a body that is longer than
-// its kind's is cut, so that they fit.
-fn take_record(state: State, kind: u8, body: &[u8], out: &mut [u8], at: usize) -> Stepped
-    requires { ⌜ at + traceRoom (length (now body)) ≤ length (now out) ⌝ }
-    ensures { λ r. ⌜ TracesAt r (now (out .entry)) at (now (out .exit)) (traceEffect (stateOf state) kind (now (body .entry))) (traceRoom (length (now (body .entry)))) ⌝ }
+// A record, whole or not: its lines at a place of the buffer. The text that the feed writes is put aside.
+fn take_record(
+    state: State,
+    kind: u8,
+    body: &[u8],
+    levels: &mut [i32],
+    coeff: &mut [i32],
+    inter: &mut [i32],
+    residual: &mut [i32],
+    out: &mut [u8],
+    at: usize,
+) -> Stepped
+    requires { ⌜ at + listRoom kind ≤ length (now out) ⌝ }
+    ensures { λ r. ⌜ TracesAt state r (lent (now (levels .exit)) (now (coeff .exit)) (now (inter .exit)) (now (residual .exit))) (now (out .entry)) at (now (out .exit)) (tracing (stateOf state (lent (now (levels .entry)) (now (coeff .entry)) (now (inter .entry)) (now (residual .entry)))) kind (now (body .entry)) (listRoom kind)) (listRoom kind) ⌝ }
 {
-    let mut rows = [0u8; 16384];
-    let whole = least(feed::record_length(kind), body.len());
-    let stepped = feed::step(state, kind, &body[..whole], &mut rows);
+    let mut text = [0u8; 12320];
+    let stepped = feed::step(state, kind, body, levels, coeff, inter, residual, &mut text);
     let answer = stepped.answer;
     let next = stepped.state;
     if !is_done(answer) {
@@ -87,20 +112,30 @@ fn take_record(state: State, kind: u8, body: &[u8], out: &mut [u8], at: usize) -
     }
 }
 
-// One record: its kind, and as much of its body as there is; answer and state are those of the feed's step. Its lines go to the
-// start of `out`, which must have five bytes for each byte of the body; else `NoRoom` is answered before anything else, and state
-// and buffer are as given. A refused record too leaves both as given.
-pub fn step(state: State, kind: u8, body: &[u8], out: &mut [u8]) -> Stepped
-    ensures { λ r. ⌜ Traces r (now (out .entry)) (now (out .exit)) (tracing (stateOf state) kind (now (body .entry)) (length (now (out .entry)))) ⌝ }
+// One record: its kind, and as much of its body as there is; answer, state and the buffers of the open block are those of the feed's
+// step. Its lines go to the start of `out`, which must have 20 bytes for each index of its block; else, or where a buffer of the open
+// block has fewer than 1,024 elements, `NoRoom` is answered before anything else, and state and buffers are as given. A refused record
+// too leaves all as given.
+pub fn step(
+    state: State,
+    kind: u8,
+    body: &[u8],
+    levels: &mut [i32],
+    coeff: &mut [i32],
+    inter: &mut [i32],
+    residual: &mut [i32],
+    out: &mut [u8],
+) -> Stepped
+    ensures { λ r. ⌜ Steps state r (lent (now (levels .exit)) (now (coeff .exit)) (now (inter .exit)) (now (residual .exit))) (now (out .entry)) (now (out .exit)) (tracing (stateOf state (lent (now (levels .entry)) (now (coeff .entry)) (now (inter .entry)) (now (residual .entry)))) kind (now (body .entry)) (length (now (out .entry)))) ⌝ }
 {
-    if out.len() / 5 < body.len() {
+    if out.len() < list_room(kind) {
         return Stepped {
             answer: StepAnswer::NoRoom,
             state,
             end: 0,
         };
     }
-    take_record(state, kind, body, out, 0)
+    take_record(state, kind, body, levels, coeff, inter, residual, out, 0)
 }
 
 // The line of a refusal.
@@ -120,11 +155,43 @@ fn put_refusal(answer: StepAnswer, offset: u64, out: &mut [u8], at: usize) -> us
     }
 }
 
+// A sum that stops before it would wrap.
+fn capped_sum(a: usize, b: usize) -> usize
+    ensures { λ r. ⌜ r ≡ min (a + b) 18446744073709551615 ⌝ }
+{
+    if b < usize::MAX - a {
+        a + b
+    } else {
+        usize::MAX
+    }
+}
+
+// How many bytes the listing of a whole feed may take, by its kinds; more than any buffer has where that passes 64 bits.
+pub fn listing_room(input: &[u8]) -> usize
+    ensures { λ r. ⌜ r ≡ min (listingRoom (now (input .entry))) 18446744073709551615 ⌝ }
+{
+    let mut room = 0;
+    let mut at = 0;
+    while at < input.len() {
+        let kind = input[at];
+        if feed_records::is_unknown(format::kind_of(kind)) {
+            return capped_sum(room, 40);
+        }
+        room = capped_sum(room, list_room(kind));
+        at = least(at + 1 + feed::record_length(kind), input.len());
+    }
+    capped_sum(room, 40)
+}
+
 // The listing of a whole feed, where there is room for it.
 fn run_within(input: &[u8], out: &mut [u8]) -> usize
-    requires { ⌜ listingRoom (length (now input)) ≤ length (now out) ⌝ }
+    requires { ⌜ listingRoom (now input) ≤ length (now out) ⌝ }
     ensures { λ r. ⌜ Wrote (now (out .entry)) 0 (traceText (now (input .entry))) (now (out .exit)) r × Counts r (now (out .exit)) ⌝ }
 {
+    let mut levels = [0i32; 1024];
+    let mut coeff = [0i32; 1024];
+    let mut inter = [0i32; 1024];
+    let mut residual = [0i32; 1024];
     let mut state = feed::start();
     let mut end = 0;
     while (state.offset as usize) < input.len() {
@@ -132,7 +199,17 @@ fn run_within(input: &[u8], out: &mut [u8]) -> usize
         let kind = input[at];
         let from = at + 1;
         let stop = least(from + feed::record_length(kind), input.len());
-        let taken = take_record(state, kind, &input[from..stop], out, end);
+        let taken = take_record(
+            state,
+            kind,
+            &input[from..stop],
+            &mut levels,
+            &mut coeff,
+            &mut inter,
+            &mut residual,
+            out,
+            end,
+        );
         let answer = taken.answer;
         let reached = taken.end;
         if !is_done(answer) {
@@ -145,15 +222,12 @@ fn run_within(input: &[u8], out: &mut [u8]) -> usize
     end
 }
 
-// The listing of a whole feed at the start of `out`: the lines of its blocks, then the line of a refusal. With fewer than five bytes
-// for each byte of the input and 40 more, `NoRoom` is answered and the buffer is as lent.
+// The listing of a whole feed at the start of `out`: the lines of its blocks, then the line of a refusal. With fewer bytes than
+// `listing_room` says, `NoRoom` is answered and the buffer is as lent.
 pub fn run(input: &[u8], out: &mut [u8]) -> Ran
     ensures { λ r. ⌜ Lists r (now (out .entry)) (now (out .exit)) (now (input .entry)) ⌝ }
 {
-    if out.len() < 40 {
-        return Ran::NoRoom;
-    }
-    if (out.len() - 40) / 5 < input.len() {
+    if out.len() < listing_room(input) {
         return Ran::NoRoom;
     }
     Ran::Text(run_within(input, out))

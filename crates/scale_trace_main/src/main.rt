@@ -58,9 +58,15 @@ fn write_line(line: Line) -> bool
     io::write_all(STDOUT_FILENO, &bytes[..end])
 }
 
-// One record: reads it and writes its lines. A body is cut short where the input has ended; where one more read does not say so, a
-// read failed.
-fn turn(state: State) -> Progress {
+// One record: reads it and writes its lines; the four buffers are those of the feed's open block. A body is cut short where the input
+// has ended; where one more read does not say so, a read failed.
+fn turn(
+    state: State,
+    levels: &mut [i32],
+    coeff: &mut [i32],
+    inter: &mut [i32],
+    residual: &mut [i32],
+) -> Progress {
     let mut byte = [0u8; 1];
     let mut body = [0u8; 4096];
     let mut out = [0u8; 20480];
@@ -79,7 +85,16 @@ fn turn(state: State) -> Progress {
             return read_failed(state);
         }
     }
-    let stepped = scale_trace::step(state, kind, &body[..there], &mut out);
+    let stepped = scale_trace::step(
+        state,
+        kind,
+        &body[..there],
+        levels,
+        coeff,
+        inter,
+        residual,
+        &mut out,
+    );
     let next = stepped.state;
     let end = stepped.end;
     let answer = stepped.answer;
@@ -97,11 +112,15 @@ fn turn(state: State) -> Progress {
 }
 
 fn main() {
+    let mut levels = [0i32; 1024];
+    let mut coeff = [0i32; 1024];
+    let mut inter = [0i32; 1024];
+    let mut residual = [0i32; 1024];
     let mut state = feed::start();
     let mut going = true;
     let mut turns = u64::MAX;
     while turns > 0 && going {
-        let taken = turn(state);
+        let taken = turn(state, &mut levels, &mut coeff, &mut inter, &mut residual);
         let next = taken.state;
         state = next;
         going = taken.going;

@@ -5,14 +5,13 @@ use Prim.Native.Nat.{_*_}
 use native.Mathlib.Omega.{arith}
 use borrow.Author.Needs.{needs}
 use lib.ListN.{length}
-use mir.Syntax.{w16}
 use Rattle.h265.specs.ScalingFactor.ScalingList.{listed}
 use Rattle.h265.specs.Scaling.{scaledAt}
 use Rattle.refusal.specs.Outcome.{refused}
 use Rattle.parameters.specs.Answers.{noTransformSkip, transformSkipOutcome}
 use Rattle.scaling_blocks.specs.Blocks.{bits16, dequantized, blockParams}
-use Rattle.scaling_values.specs.Level.{Ends}
-use Rattle.scaling_blocks.proofs.BlockLaws.{Ready, block-ready, block-refused, narrow-ends, listed-writes}
+use Rattle.scaling_values.specs.Listed.{Listable}
+use Rattle.scaling_blocks.proofs.BlockLaws.{Ready, block-ready, block-refused, narrow-listable, listed-writes}
 use Rattle.scaling_narrow.proofs.dequantize_scaled_into_scalar_i16.Statement.{statement}
 use Rattle.scaling_narrow.proofs.dequantize_scaled_into_scalar_i16.Tie as tie
 
@@ -28,10 +27,10 @@ is-refused : (c : tie.After-found2)
     → let a = c .before .before .before .before .args in refused noTransformSkip (c .found2 .given .0 .0) ≡ blockParams bits16 (a .n) (a .qp-prime .0) (a .bit-depth) (a .extended-precision) (length (a .list .now)) (length (a .levels .now)) (length (a .out .now))
 is-refused c = sym (ap transformSkipOutcome (c .found2 .given .1)) ∙ c .before .before .block-params .ensures
 
-ends : (c : tie.After-found) → Ends w16 (c .found .given .0 .0 .dequant)
-ends c =
+listable : (c : tie.After-found) → Listable (c .found .given .0 .0 .dequant)
+listable c =
     let a = c .before .before .before .before .args in
-    narrow-ends (a .n) (a .qp-prime .0) (a .bit-depth) (a .extended-precision) (length (a .list .now)) (length (a .levels .now)) (length (a .out .now)) (c .found .given .0 .0) (ready c)
+    narrow-listable (a .n) (a .qp-prime .0) (a .bit-depth) (a .extended-precision) (length (a .list .now)) (length (a .levels .now)) (length (a .out .now)) (c .found .given .0 .0) (ready c)
 
 block-params-requires : tie.Need-block-params-requires
 block-params-requires c κs = search needs
@@ -43,7 +42,7 @@ scale-listed-requires : tie.Need-scale-listed-requires
 scale-listed-requires c κs =
     let f = c .before .before .before in
     let r = ready f in
-    (r .skippable .scaling, (r .room, (r .whole, ends f)))
+    (r .skippable .scaling, (r .room, (r .whole, listable f)))
 
 enum-known-found-2 : tie.Need-enum-known-found-2
 enum-known-found-2 c = search needs

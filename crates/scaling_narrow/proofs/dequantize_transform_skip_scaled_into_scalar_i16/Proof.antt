@@ -7,16 +7,15 @@ use borrow.Author.Needs.{needs}
 use lib.IntN.{pos}
 use lib.ListN.{length}
 use lib.Signed.{_≤ℤ_}
-use mir.Syntax.{w16}
 use Rattle.integers.proofs.ListsLaws.{overwrite-length}
 use Rattle.h265.specs.ScalingFactor.ScalingList.{listed}
 use Rattle.h265.specs.TransformSkip.{skippedAt}
 use Rattle.refusal.specs.Outcome.{refused}
 use Rattle.parameters.specs.Answers.{noTransformSkip, transformSkipOutcome}
 use Rattle.scaling_blocks.specs.Blocks.{bits16, transformSkipped, blockParams}
-use Rattle.scaling_values.specs.Level.{Ends}
+use Rattle.scaling_values.specs.Listed.{Listable}
 use Rattle.scaling_values.specs.Work.{listedAt, listedLimitedAt, listedResidualAt, Counted}
-use Rattle.scaling_blocks.proofs.BlockLaws.{Ready, block-ready, block-refused, narrow-ends, narrow-shift, listed-skips}
+use Rattle.scaling_blocks.proofs.BlockLaws.{Ready, block-ready, block-refused, narrow-listable, narrow-shift, listed-skips}
 use Rattle.scaling_blocks.proofs.WorkLaws.{skip-counted}
 use Rattle.scaling_narrow.proofs.dequantize_transform_skip_scaled_into_scalar_i16.Statement.{statement}
 use Rattle.scaling_narrow.proofs.dequantize_transform_skip_scaled_into_scalar_i16.Tie as tie
@@ -33,10 +32,10 @@ is-refused : (c : tie.After-found2)
     → let a = c .before .before .before .before .args in refused noTransformSkip (c .found2 .given .0 .0) ≡ blockParams bits16 (a .n) (a .qp-prime .0) (a .bit-depth) (a .extended-precision) (length (a .list .now)) (length (a .levels .now)) (length (a .out .now))
 is-refused c = sym (ap transformSkipOutcome (c .found2 .given .1)) ∙ c .before .before .block-params .ensures
 
-ends : (c : tie.After-found) → Ends w16 (c .found .given .0 .0 .dequant)
-ends c =
+listable : (c : tie.After-found) → Listable (c .found .given .0 .0 .dequant)
+listable c =
     let a = c .before .before .before .before .args in
-    narrow-ends (a .n) (a .qp-prime .0) (a .bit-depth) (a .extended-precision) (length (a .list .now)) (length (a .levels .now)) (length (a .out .now)) (c .found .given .0 .0) (ready c)
+    narrow-listable (a .n) (a .qp-prime .0) (a .bit-depth) (a .extended-precision) (length (a .list .now)) (length (a .levels .now)) (length (a .out .now)) (c .found .given .0 .0) (ready c)
 
 shifts : (c : tie.After-found) → pos 1 ≤ℤ c .found .given .0 .0 .«tr_shift»
 shifts c =
@@ -56,7 +55,7 @@ scale-listed-requires : tie.Need-scale-listed-requires
 scale-listed-requires c κs =
     let f = c .before .before .before in
     let r = ready f in
-    (r .skippable .scaling, (r .room, (r .whole, ends f)))
+    (r .skippable .scaling, (r .room, (r .whole, listable f)))
 
 skip-block-requires : tie.Need-skip-block-requires
 skip-block-requires c κs =

@@ -10,7 +10,7 @@ use Rattle.h265.specs.Scaling.{scaledAt}
 use Rattle.refusal.specs.Outcome.{refused}
 use Rattle.parameters.specs.Answers.{noTransformSkip, transformSkipOutcome}
 use Rattle.scaling_blocks.specs.Blocks.{bits32, dequantized, blockParams}
-use Rattle.scaling_blocks.proofs.BlockLaws.{Ready, block-ready, block-refused, listed-writes}
+use Rattle.scaling_blocks.proofs.BlockLaws.{Ready, block-ready, ready-listed, block-refused, listed-writes}
 use Rattle.scaling_wide.proofs.dequantize_scaled_into_scalar_i32.Statement.{statement}
 use Rattle.scaling_wide.proofs.dequantize_scaled_into_scalar_i32.Tie as tie
 
@@ -36,7 +36,7 @@ scale-listed-requires : tie.Need-scale-listed-requires
 scale-listed-requires c κs =
     let f = c .before .before .before in
     let r = ready f in
-    (r .skippable .scaling, (r .room, r .whole))
+    (r .skippable .scaling, (r .room, (r .whole, ready-listed r)))
 
 enum-known-found-2 : tie.Need-enum-known-found-2
 enum-known-found-2 c = search needs

@@ -12,7 +12,7 @@ use Rattle.refusal.specs.Outcome.{refused}
 use Rattle.parameters.specs.Answers.{noTransformSkip, transformSkipOutcome}
 use Rattle.scaling_blocks.specs.Blocks.{bits32, transformSkipped, blockParams}
 use Rattle.scaling_values.specs.Work.{listedAt, listedLimitedAt, listedResidualAt, Counted}
-use Rattle.scaling_blocks.proofs.BlockLaws.{Ready, block-ready, block-refused, listed-skips}
+use Rattle.scaling_blocks.proofs.BlockLaws.{Ready, block-ready, ready-listed, block-refused, listed-skips}
 use Rattle.scaling_blocks.proofs.WorkLaws.{skip-counted, coefficients-of, listedAt-within}
 use Rattle.scaling_wide.proofs.dequantize_transform_skip_scaled_into_scalar_i32.Statement.{statement}
 use Rattle.scaling_wide.proofs.dequantize_transform_skip_scaled_into_scalar_i32.Tie as tie
@@ -42,7 +42,7 @@ scale-listed-requires : tie.Need-scale-listed-requires
 scale-listed-requires c κs =
     let f = c .before .before .before in
     let r = ready f in
-    (r .skippable .scaling, (r .room, r .whole))
+    (r .skippable .scaling, (r .room, (r .whole, ready-listed r)))
 
 skip-block-requires : tie.Need-skip-block-requires
 skip-block-requires c κs =

@@ -1,12 +1,16 @@
 -- `feed::stream::start` meets its contract: nothing is given.
 use mathlib.Core.Path.{refl}
-use Rattle.feed.specs.Feed.{opening}
+use borrow.Author.Needs.{needs}
+use Rattle.feed.specs.Feed.{beginning}
 use Rattle.feed.proofs.stream.start.Statement.{statement}
 use Rattle.feed.proofs.stream.start.Tie as tie
 
+zero-block-requires : tie.Need-zero-block-requires
+zero-block-requires c κs = search needs
+
 returns : tie.Need-returns
-unfolding opening
-returns c = refl
+unfolding beginning
+returns c = λ w. refl
 
 pub start-spec : {M : Type 1} → statement M
-start-spec = tie.close (tie.spec returns)
+start-spec = tie.close (tie.spec zero-block-requires returns)

@@ -33,11 +33,19 @@ unfolding kindOf
 returns-7 c = rw (c .match .keys7)
 
 returns-8 : tie.Need-returns-8
-returns-8 c =
+unfolding kindOf
+returns-8 c = rw (c .match .keys8)
+
+returns-9 : tie.Need-returns-9
+unfolding kindOf
+returns-9 c = rw (c .match .keys9)
+
+returns-10 : tie.Need-returns-10
+returns-10 c =
     let r = c .match .rest in
-    kind-unknown _ (r .0 .0 .0 .0 .0 .0 .1) (r .0 .0 .0 .0 .0 .1) (r .0 .0 .0 .0 .1) (r .0 .0 .0 .1) (r .0 .0 .1) (r .0 .1) (r .1)
+    kind-unknown _ (r .0 .0 .0 .0 .0 .0 .0 .0 .1) (r .0 .0 .0 .0 .0 .0 .0 .1) (r .0 .0 .0 .0 .0 .0 .1) (r .0 .0 .0 .0 .0 .1) (r .0 .0 .0 .0 .1) (r .0 .0 .0 .1) (r .0 .0 .1) (r .0 .1) (r .1)
 
 pub kind-of-spec : {M : Type 1} → statement M
 kind-of-spec =
     tie.close
-    (tie.spec returns returns-2 returns-3 returns-4 returns-5 returns-6 returns-7 returns-8)
+    (tie.spec returns returns-2 returns-3 returns-4 returns-5 returns-6 returns-7 returns-8 returns-9 returns-10)

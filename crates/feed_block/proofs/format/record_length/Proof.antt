@@ -31,10 +31,14 @@ unfolding recordLength kindOf
 returns-6 c = (rw (c .match .keys6) refl, omega arith)
 
 returns-7 : tie.Need-returns-7
-returns-7 c =
+unfolding recordLength kindOf
+returns-7 c = (rw (c .match .keys7) refl, omega arith)
+
+returns-8 : tie.Need-returns-8
+returns-8 c =
     let r = c .match .rest in
-    (length-none _ (r .0 .0 .0 .0 .0 .1) (r .0 .0 .0 .0 .1) (r .0 .0 .0 .1) (r .0 .0 .1) (r .0 .1) (r .1), omega arith)
+    (length-none _ (r .0 .0 .0 .0 .0 .0 .1) (r .0 .0 .0 .0 .0 .1) (r .0 .0 .0 .0 .1) (r .0 .0 .0 .1) (r .0 .0 .1) (r .0 .1) (r .1), omega arith)
 
 pub record-length-spec : {M : Type 1} → statement M
 record-length-spec =
-    tie.close (tie.spec returns returns-2 returns-3 returns-4 returns-5 returns-6 returns-7)
+    tie.close (tie.spec returns returns-2 returns-3 returns-4 returns-5 returns-6 returns-7 returns-8)

@@ -1,6 +1,7 @@
 -- `feed_records::records::take_levels` meets its contract: refused before there are parameters.
 use borrow.Author.Needs.{needs}
-use Rattle.feed_records.proofs.StateLaws.{silent-takes, levels-given}
+use Rattle.feed_records.proofs.StateLaws.{quiet-takes, levels-given}
+use Rattle.feed_records.specs.Buffers.{lent, inBuffers}
 use Rattle.feed_records.specs.Taken.{stateOf}
 use Rattle.feed_records.specs.Record.{levelsBy}
 use Rattle.feed_records.proofs.records.take_levels.Statement.{statement}
@@ -22,15 +23,27 @@ returns : tie.Need-returns
 unfolding levelsBy
 returns c =
     let a = c .before .before .before .before .before .args in
-    rw (levels-given (stateOf (a .s)) (a .n) (a .body .now) (c .before .enum-told .given .1)) (silent-takes _ _ (c .kept .ensures))
+    rw (levels-given inBuffers (stateOf (a .s) (lent (a .levels .now) (a .coeff .now) (a .inter .now) (a .residual .now))) (a .n) (a .body .now) (c .before .enum-told .given .1)) (quiet-takes _ _ (c .kept .ensures .leaves _))
 
 same-length : tie.Need-same-length
 same-length c = search needs
 
+same-length-2 : tie.Need-same-length-2
+same-length-2 c = search needs
+
+same-length-3 : tie.Need-same-length-3
+same-length-3 c = search needs
+
+same-length-4 : tie.Need-same-length-4
+same-length-4 c = search needs
+
+same-length-5 : tie.Need-same-length-5
+same-length-5 c = search needs
+
 returns-2 : tie.Need-returns-2
 returns-2 c =
-    let a = c .before .before .before .before .before .before .before .before .before .args in
-    rw (levels-given (stateOf (a .s)) (a .n) (a .body .now) (c .before .before .before .before .before .given .given .1)) (c .before .before .take-block .ensures)
+    let a = c .before .before .before .before .before .before .before .before .before .before .before .before .before .before .before .before .before .args in
+    rw (levels-given inBuffers (stateOf (a .s) (lent (a .levels .now) (a .coeff .now) (a .inter .now) (a .residual .now))) (a .n) (a .body .now) (c .before .before .before .before .before .before .before .before .before .before .before .before .before .given .given .1)) (c .before .before .before .before .before .before .take-block .ensures)
 
 pub take-levels-spec : {M : Type 1} → statement M
 take-levels-spec =
@@ -42,4 +55,8 @@ take-levels-spec =
     take-block-requires
     returns
     same-length
+    same-length-2
+    same-length-3
+    same-length-4
+    same-length-5
     returns-2)

@@ -6,7 +6,7 @@ use Prim.Native.Nat.{_≤_}
 use native.Mathlib.Omega.{arith}
 use borrow.Author.Tests.{lt-ltb, le-ltb}
 use Rattle.feed_records.specs.Record.{parametersEffect, parameterRefused}
-use Rattle.feed_records.proofs.StateLaws.{silent-moved}
+use Rattle.feed_records.proofs.StateLaws.{quiet-moved}
 use Rattle.feed_records.proofs.records.take_parameters.Statement.{statement}
 use Rattle.feed_records.proofs.records.take_parameters.Tie as tie
 
@@ -30,24 +30,24 @@ fits c = omega arith
 
 returns : tie.Need-returns
 unfolding parametersEffect
-returns c = rw (sym (c .before .before .depth-refused .ensures) ∙ c .before .if1 .taken) (c .kept .ensures)
+returns c = record { leaves = λ w. rw (sym (c .before .before .depth-refused .ensures) ∙ c .before .if1 .taken) (c .kept .ensures .leaves w) }
 
 kept-requires-2 : tie.Need-kept-requires-2
 kept-requires-2 c κs = search needs
 
 returns-2 : tie.Need-returns-2
 unfolding parametersEffect parameterRefused
-returns-2 c = rw (sym (c .before .before .before .depth-refused .ensures) ∙ c .before .before .if1 .left, lt-ltb _ _ (c .before .if2 .taken)) (c .kept2 .ensures)
+returns-2 c = record { leaves = λ w. rw (sym (c .before .before .before .depth-refused .ensures) ∙ c .before .before .if1 .left, lt-ltb _ _ (c .before .if2 .taken)) (c .kept2 .ensures .leaves w) }
 
 kept-requires-3 : tie.Need-kept-requires-3
 kept-requires-3 c κs = search needs
 
 returns-3 : tie.Need-returns-3
 unfolding parametersEffect parameterRefused
-returns-3 c = rw (sym (c .before .before .before .before .depth-refused .ensures) ∙ c .before .before .before .if1 .left, le-ltb _ _ (c .before .before .if2 .left), lt-ltb _ _ (c .before .if3 .taken)) (c .kept3 .ensures)
+returns-3 c = record { leaves = λ w. rw (sym (c .before .before .before .before .depth-refused .ensures) ∙ c .before .before .before .if1 .left, le-ltb _ _ (c .before .before .if2 .left), lt-ltb _ _ (c .before .if3 .taken)) (c .kept3 .ensures .leaves w) }
 
-shared-slice-read-t11 : tie.Need-shared-slice-read-t11
-shared-slice-read-t11 c = search needs
+shared-slice-read-t12 : tie.Need-shared-slice-read-t12
+shared-slice-read-t12 c = search needs
 
 mode-of-requires : tie.Need-mode-of-requires
 mode-of-requires c κs = search needs
@@ -61,9 +61,13 @@ moved-requires c κs = search needs
 returns-4 : tie.Need-returns-4
 unfolding parametersEffect parameterRefused
 returns-4 c =
-    let e = c .before .before .before .before .before in
-    rw (sym (e .before .before .before .depth-refused .ensures) ∙ e .before .before .if1 .left, le-ltb _ _ (e .before .if2 .left), le-ltb _ _ (e .if3 .left), c .moved .ensures)
-    (silent-moved _ _ _ (fits (e .before .before .before .before .before .before .before .before)) (c .before .behind .ensures) (rw (c .before .before .before .mode-of .ensures) refl))
+    let z = c .before .before .before .before .before .before in
+    let s = c .before .before .before .before .before .before .before .before .before .before .before .before .before .before in
+    record {
+      leaves = λ w.
+          rw (sym (c .before .before .before .before .before .before .before .before .before .depth-refused .ensures) ∙ c .before .before .before .before .before .before .before .before .if1 .left, le-ltb _ _ (c .before .before .before .before .before .before .before .if2 .left), le-ltb _ _ (z .if3 .left), c .moved .ensures)
+          (quiet-moved (s .args .s) _ w _ (s .args .at) (fits s) (c .before .behind .ensures) (rw (c .before .before .before .before .mode-of .ensures) refl));
+    }
 
 pub take-parameters-spec : {M : Type 1} → statement M
 take-parameters-spec =
@@ -79,7 +83,7 @@ take-parameters-spec =
     returns-2
     kept-requires-3
     returns-3
-    shared-slice-read-t11
+    shared-slice-read-t12
     mode-of-requires
     behind-requires
     moved-requires

@@ -1,28 +1,53 @@
--- `scale_trace::stream::run_within` meets its contract: what is left to write in the state reached is what is left of the whole listing.
-use mathlib.Core.Path.{sym, _∙_}
-use Prim.Native.Nat.{_-_}
-use lib.ListN.{length, length-take, length-drop}
-use Rattle.text.proofs.WroteLaws.{left-last, left-done, counts}
-use borrow.Author.Tests.{not-true, not-false}
-use Rattle.feed.proofs.WalkLaws.{Going, going-start, Turn, turn, going-more, going-done}
-use Rattle.scale_trace.specs.Trace.{traceText}
-use Rattle.scale_trace.proofs.RunLaws.{listingWalk, Answered, listing-refused, listing-passed}
-use borrow.Author.Needs.{needs}
+-- `scale_trace::stream::run_within` meets its contract: what is left to write in the state reached is what is left of the whole listing, and that is the
+-- history's.
+use mathlib.Core.Path.{_≡_, refl, sym, subst, _∙_}
+use mathlib.Core.List.{List}
+use Prim.Native.Nat.{ℕ, _+_, _-_, _≤_}
 use native.Mathlib.Omega.{arith}
+use borrow.Author.Needs.{needs}
+use borrow.Author.Tests.{not-true, not-false}
+use lib.ListN.{length}
+use Rattle.text.specs.Text.{Wrote}
+use Rattle.text.proofs.WroteLaws.{left-last, left-done, counts}
+use Rattle.feed_records.specs.Buffers.{Lent, lent}
+use Rattle.feed_records.specs.Taken.{Ample}
+use Rattle.feed.proofs.WalkLaws.{walkText, Going, going-start, going-room, Turn, turn, going-more, going-done}
+use Rattle.scale_trace.specs.Trace.{traceText, listingRoom}
+use Rattle.scale_trace.proofs.RunLaws.{listingWalk, Answered, traces-full, listing-refused, listing-passed, listing-follows}
 use Rattle.scale_trace.proofs.stream.run_within.Statement.{statement}
 use Rattle.scale_trace.proofs.stream.run_within.Tie as tie
 
+-- the local buffers
+record Full (w : Lent) : Type 0 where
+  levels : length (w .levels) ≡ 1024
+  coeff : length (w .buffers .coeff) ≡ 1024
+  inter : length (w .buffers .inter) ≡ 1024
+  res : length (w .buffers .res) ≡ 1024
+
+full : (w : Lent) → length (w .levels) ≡ 1024 → length (w .buffers .coeff) ≡ 1024 → length (w .buffers .inter) ≡ 1024 → length (w .buffers .res) ≡ 1024 → Full w
+full w a b c d = record { levels = a; coeff = b; inter = c; res = d }
+
+full-ample : (w : Lent) → Full w → Ample w
+full-ample w f = record { levels = omega (arith, f .levels); coeff = omega (arith, f .coeff); inter = omega (arith, f .inter); res = omega (arith, f .res) }
+
+-- the listing in buffers is the history's
+told : (v : Lent) (input l m : List ℕ) (end : ℕ) → Full v → Wrote l 0 (walkText listingWalk v input) m end → Wrote l 0 (traceText input) m end
+told v input l m end f w = subst (λ (t : List ℕ). Wrote l 0 t m end) (listing-follows v input (full-ample v f)) w
+
 abbrev Inv-loop : tie.InvT-loop
-Inv-loop input out₀ state₀ end₀ out state end = Going listingWalk input out₀ out state end
+Inv-loop input out₀ levels₀ coeff₀ inter₀ residual₀ state₀ end₀ out levels coeff inter residual state end =
+    Going listingWalk (lent levels₀ coeff₀ inter₀ residual₀) input out₀ out state (lent levels coeff inter residual) end × Full (lent levels coeff inter residual) × Full (lent levels₀ coeff₀ inter₀ residual₀)
 
 abbrev μ-loop : tie.MeasureT-loop
-μ-loop input out₀ state₀ end₀ out state end = length input - state .offset
+μ-loop input out₀ levels₀ coeff₀ inter₀ residual₀ state₀ end₀ out levels coeff inter residual state end = length input - state .offset
 
 start-requires : tie.Need-start-requires Inv-loop μ-loop
 start-requires c κs = search needs
 
 loop-holds : tie.Need-loop-holds Inv-loop μ-loop
-loop-holds c = going-start _ _ _ _ (c .start .ensures)
+unfolding listingRoom
+loop-holds c =
+    (going-start listingWalk _ _ _ _ (c .start .ensures _) (c .before .before .before .pre) (full-ample _ (full _ refl refl refl refl)), full _ refl refl refl refl, full _ refl refl refl refl)
 
 shared-slice-read-kind : tie.Need-shared-slice-read-kind Inv-loop μ-loop
 shared-slice-read-kind c = omega arith
@@ -48,75 +73,88 @@ part-take-record-start c = omega arith
 part-take-record-end : tie.Need-part-take-record-end Inv-loop μ-loop
 part-take-record-end c = omega arith
 
+slice-aggregate-take-record : tie.Need-slice-aggregate-take-record Inv-loop μ-loop
+slice-aggregate-take-record c = sym (c .before .before .before .before .before .before .loop .inv .1 .levels)
+
+slice-aggregate-take-record-2 : tie.Need-slice-aggregate-take-record-2 Inv-loop μ-loop
+slice-aggregate-take-record-2 c = sym (c .before .before .before .before .before .before .before .loop .inv .1 .coeff)
+
+slice-aggregate-take-record-3 : tie.Need-slice-aggregate-take-record-3 Inv-loop μ-loop
+slice-aggregate-take-record-3 c = sym (c .before .before .before .before .before .before .before .before .loop .inv .1 .inter)
+
+slice-aggregate-take-record-4 : tie.Need-slice-aggregate-take-record-4 Inv-loop μ-loop
+slice-aggregate-take-record-4 c = sym (c .before .before .before .before .before .before .before .before .before .loop .inv .1 .res)
+
 take-record-requires : tie.Need-take-record-requires Inv-loop μ-loop
 take-record-requires c κs =
-    let i = c .before .before .before .before .before in
-    let g = i .before .loop .inv in
-    rw (length-take, length-drop) (omega (arith, g .room, g .left .long, i .before .before .before .before .before .pre))
+    let l = c .before .before .before .before .before .before .before .before .before .before .loop in
+    let g = l .inv .0 in
+    omega (arith, going-room g (c .before .before .before .before .before .before .before .before .before .loop-test .taken), g .left .long)
+
+abbrev lent-after : tie.After-take-record Inv-loop μ-loop → Lent
+lent-after c = lent (c .take-record .last .1 .1 .1 .0) (c .take-record .last .1 .1 .1 .1 .0) (c .take-record .last .1 .1 .1 .1 .1 .0) (c .take-record .last .1 .1 .1 .1 .1 .1 .0)
+
+full-after : (c : tie.After-take-record Inv-loop μ-loop) → Full (lent-after c)
+full-after c =
+    let f = c .before .before .before .before .before .before .before .before .before .before .before .loop .inv .1 in
+    let k = c .take-record .kept in
+    record { levels = k .1 .1 .1 .0 ∙ f .levels; coeff = k .1 .1 .1 .1 .0 ∙ f .coeff; inter = k .1 .1 .1 .1 .1 .0 ∙ f .inter; res = k .1 .1 .1 .1 .1 .1 .0 ∙ f .res }
+
+input-fits : (c : tie.Start Inv-loop μ-loop) → length (c .args .input .now) ≤ 18446744073709551615
+input-fits c = omega arith
 
 -- what the record at the loop's offset did
 turned : (c : tie.After-take-record Inv-loop μ-loop)
-    → let q = c .before .before .before in let l = q .before .before .before .before .loop in let r = c .take-record .result in
-    Turn listingWalk (Answered (r .answer)) (q .before .before .before .before .before .before .before .before .args .input .now) (l .state) (q .least .result) (r .state) (l .out) (l .end) (c .take-record .last .1 .1 .1 .0) (r .end)
+    → let l = c .before .before .before .before .before .before .before .before .before .before .before .loop in let r = c .take-record .result in
+    Turn listingWalk (Answered (r .answer)) (c .before .before .before .before .before .before .before .before .before .before .before .before .before .before .before .args .input .now) (l .state) (lent (l .levels) (l .coeff) (l .inter) (l .residual)) (r .state) (lent-after c) (l .out) (l .end) (c .take-record .last .1 .1 .1 .1 .1 .1 .1 .0) (r .end)
 turned c =
-    let q = c .before .before .before in
-    let n = q .before in
-    let i = n .before .before in
-    let k = c .take-record .ensures in
-    turn listingWalk _ _ (i .before .loop .state) (n .record-length .result) (q .least .result) (omega arith) (i .loop-test .taken) (n .record-length .ensures .0) (q .least .ensures) (record { is = k .answered }) (k .state) (k .text)
+    let l = c .before .before .before .before .before .before .before .before .before .before .before .loop in
+    let k = traces-full _ _ _ (full-ample _ (l .inv .1)) (c .take-record .ensures) in
+    turn listingWalk _ _ (l .state) _ (c .before .before .before .before .before .before .before .before .record-length .result) (c .before .before .before .before .before .before .before .least .result) (input-fits (c .before .before .before .before .before .before .before .before .before .before .before .before .before .before .before)) (c .before .before .before .before .before .before .before .before .before .before .loop-test .taken) (c .before .before .before .before .before .before .before .before .record-length .ensures .0) (c .before .before .before .before .before .before .before .least .ensures) (record { is = k .answered }) (k .state) (k .text) (full-ample _ (full-after c))
+
+-- the buffer behind a record has room for a line
+room-behind : (c : tie.After-take-record Inv-loop μ-loop) → c .take-record .result .end + 40 ≤ length (c .take-record .last .1 .1 .1 .1 .1 .1 .1 .0)
+room-behind c =
+    let g = c .before .before .before .before .before .before .before .before .before .before .before .loop .inv .0 in
+    omega (arith, turned c .text .bound, going-room g (c .before .before .before .before .before .before .before .before .before .before .loop-test .taken), g .left .long, c .take-record .kept .1 .1 .1 .1 .1 .1 .1 .0)
 
 is-done-requires : tie.Need-is-done-requires Inv-loop μ-loop
 is-done-requires c κs = search needs
 
 put-refusal-requires : tie.Need-put-refusal-requires Inv-loop μ-loop
-put-refusal-requires c κs =
-    let p = c .before .before .before .before .before in
-    let l = p .before .before .before .before .before .before .before .loop in
-    let s = p .before .before .before .before .before .before .before .before .before .before .before in
-    let t = turned p in
-    omega (arith, t .inside, t .stops, t .text .bound, l .inv .room, l .inv .left .long, p .take-record .kept .1 .1 .1 .0, s .pre)
+put-refusal-requires c κs = room-behind (c .before .before .before .before .before .before .before .before .before)
 
 same-length : tie.Need-same-length Inv-loop μ-loop
-same-length c =
-    let p = c .before .before .before .before .before .before .before .before in
-    c .before .before .put-refusal .kept .1 .1 .0 ∙ p .take-record .kept .1 .1 .1 .0 ∙ p .before .before .before .before .before .before .before .loop .inv .left .long
+same-length c = c .before .before .put-refusal .kept .1 .1 .0 ∙ c .before .before .before .before .before .before .before .before .before .before .before .before .take-record .kept .1 .1 .1 .1 .1 .1 .1 .0 ∙ c .before .before .before .before .before .before .before .before .before .before .before .before .before .before .before .before .before .before .before .before .before .before .before .loop .inv .0 .left .long
 
 returns : tie.Need-returns Inv-loop μ-loop
-unfolding traceText
 returns c =
-    let p = c .before .before .before .before .before .before .before .before in
-    let l = p .before .before .before .before .before .before .before .loop in
-    let s = p .before .before .before .before .before .before .before .before .before .before .before in
-    let t = turned p in
-    let i = c .before .before .before .before in
+    let t = c .before .before .before .before .before .before .before .before .before .before .before .before in
+    let l = c .before .before .before .before .before .before .before .before .before .before .before .before .before .before .before .before .before .before .before .before .before .before .before .loop in
     let f = c .before .before .put-refusal in (
-      left-last (listing-refused (l .inv) t (sym (i .before .is-done .ensures) ∙ not-true _ (i .if1 .taken))) (f .ensures .wrote),
-      counts _ _ (omega (arith, f .ensures .bound, t .inside, t .stops, t .text .bound, l .inv .room, l .inv .left .long, p .take-record .kept .1 .1 .1 .0, f .kept .1 .1 .0, s .pre)),
+      told _ _ _ _ _ (l .inv .2) (left-last (listing-refused (l .inv .0) (turned t) (sym (c .before .before .before .before .before .is-done .ensures) ∙ not-true _ (c .before .before .before .before .if1 .taken))) (f .ensures .wrote)),
+      counts _ _ (omega (arith, f .ensures .bound, f .kept .1 .1 .0, room-behind t)),
     )
 
 loop-less : tie.Need-loop-less Inv-loop μ-loop
 loop-less c =
-    let i = c .before in
-    let p = i .before .before .before .before in
-    let t = turned p in
-    omega (arith, t .inside, listing-passed (p .before .before .before .before .before .before .before .loop .inv) t (sym (i .before .is-done .ensures) ∙ not-false _ (i .if1 .left)) .next)
+    let t = c .before .before .before .before .before .before .before .before .before in
+    omega (arith, turned t .inside, listing-passed (c .before .before .before .before .before .before .before .before .before .before .before .before .before .before .before .before .before .before .before .before .loop .inv .0) (turned t) (sym (c .before .before .is-done .ensures) ∙ not-false _ (c .before .if1 .left)) .next)
 
 loop-again : tie.Need-loop-again Inv-loop μ-loop
 loop-again c =
-    let i = c .before in
-    let p = i .before .before .before .before in
-    let l = p .before .before .before .before .before .before .before .loop in
-    let t = turned p in
-    going-more (l .inv) t (listing-passed (l .inv) t (sym (i .before .is-done .ensures) ∙ not-false _ (i .if1 .left)))
+    let t = c .before .before .before .before .before .before .before .before .before in
+    let l = c .before .before .before .before .before .before .before .before .before .before .before .before .before .before .before .before .before .before .before .before .loop in
+    (going-more (l .inv .0) (turned t) (listing-passed (l .inv .0) (turned t) (sym (c .before .before .is-done .ensures) ∙ not-false _ (c .before .if1 .left))), full-after t, l .inv .2)
 
 same-length-2 : tie.Need-same-length-2 Inv-loop μ-loop
-same-length-2 c = c .before .loop .inv .left .long
+same-length-2 c = c .before .loop .inv .0 .left .long
 
 returns-2 : tie.Need-returns-2 Inv-loop μ-loop
-unfolding traceText
 returns-2 c =
-    let g = c .before .loop .inv in
-    (left-done (going-done g (c .loop-test .left)), counts _ _ (omega (arith, g .left .long, g .room, g .within, c .before .before .before .before .before .pre)))
+    let l = c .before .loop in
+    let g = l .inv .0 in
+    (told _ _ _ _ _ (l .inv .2) (left-done (going-done g (c .loop-test .left))), counts _ _ (omega (arith, g .left .long, g .room)))
 
 pub run-within-spec : {M : Type 1} → statement M
 run-within-spec =
@@ -134,6 +172,10 @@ run-within-spec =
     sub-take-record
     part-take-record-start
     part-take-record-end
+    slice-aggregate-take-record
+    slice-aggregate-take-record-2
+    slice-aggregate-take-record-3
+    slice-aggregate-take-record-4
     take-record-requires
     is-done-requires
     put-refusal-requires
