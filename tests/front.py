@@ -59,20 +59,14 @@ def write(name, data):
     return path
 
 
-ROWS = "1 1 1 1\n" * 4
+ROWS = "1 1 1 1\n" * 4 + "limited 0\n"
 BLOCK = "parameters depth=8 extended=0 qp_prime=4 mode=dct\nlevels 4 2 ..\n"
 BYTES = bytes([1, 8, 0, 4, 0, 4, 2]) + bytes(63)
 
 
-
-
 def decoding():
-    global ROWS
-    whole = foxentu("decode", write("block.txt", BLOCK))
-    if b"limited" in whole.stdout:
-        ROWS += "limited 0\n"
     text = ROWS + "blocks 1\n"
-    expect("decode, text", whole, 0, text, lines=0)
+    expect("decode, text", foxentu("decode", write("block.txt", BLOCK)), 0, text, lines=0)
     feed = write("block.feed", BYTES)
     expect("decode, bytes", foxentu("decode", feed), 0, text, lines=0)
     expect("decode, text from standard input", foxentu("decode", "-", stdin=BLOCK.encode()), 0, text, lines=0)
@@ -89,6 +83,7 @@ def refusing():
     expect("a refused text", foxentu("decode", "examples/damaged.txt"), 1, ROWS + "refused 20 70\n", "examples/damaged.txt:6:1: refused 20: feed: the kind byte is not known (byte 70)", 1)
     expect("refused bytes", foxentu("decode", write("cut.feed", BYTES[:40])), 1, "refused 21 5\n", "cut.feed: byte 5: refused 21: feed: the body ends too early", 1)
     expect("levels before parameters", foxentu("decode", write("early.txt", "\n\n  levels 4 ..")), 1, "refused 22 0\n", "early.txt:3:3: refused 22", 1)
+    expect("refused bytes over lines", foxentu("decode", write("lines.txt", "bytes 1 8 0 4 0\n  3\n# a kind that is none\n  77 3")), 1, "refused 20 6\n", "lines.txt:4:3: refused 20", 1)
     expect("a refused text from standard input", foxentu("decode", "-", stdin=b"levels 8 .."), 1, "refused 22 0\n", "standard input:1:1: refused 22", 1)
     expect("trace, refused", foxentu("trace", "examples/damaged.txt"), 1, None, "examples/damaged.txt:6:1: refused 20", 1)
     expect("show, refused", foxentu("show", "examples/damaged.txt"), 1, None, "examples/damaged.txt:6:1: refused 20", 1)
@@ -189,7 +184,7 @@ def commands():
     expect("checksum, three planes", foxentu("checksum", write("planes", bytes(96)), "8x8"), 0, None, lines=0)
     expect("bound", foxentu("bound", "--kind", "dct", "--size", "4", "--depth", "8"), 0, "kind size depth extended bound one-step steps\ndct 4 8 0 277952 524288 0.531\n", lines=0)
     expect("refusals", foxentu("refusals", "20"), 0, "20 feed: the kind byte is not known\n", lines=0)
-    for words in ((), ("decode",), ("trace",), ("show",), ("pack",), ("unpack",), ("lists",), ("lists", "read"), ("lists", "write"), ("checksum",), ("levels",), ("bound",), ("refusals",), ("build",)):
+    for words in ((), ("decode",), ("trace",), ("show",), ("bench",), ("pack",), ("unpack",), ("lists",), ("lists", "read"), ("lists", "write"), ("checksum",), ("levels",), ("bound",), ("refusals",), ("build",)):
         told = expect(f"{' '.join(words)} --help", foxentu(*words, "--help"), 0, None, lines=0)
         if "usage: foxentu" not in told:
             expect(f"{' '.join(words)} --help, its text", foxentu(*words, "--help"), 0, "a usage")
@@ -197,17 +192,41 @@ def commands():
 
 
 def edits():
-    """A bug case, by the program or, as long as it has no edits, not at all; which of the two is said."""
-    ran = foxentu("show", "examples/case.txt")
-    if b"refused 20" in ran.stderr:
-        print("front: LEFT OUT: a bug case with edits, since the feed program does not know kinds 8 and 9")
-        return
-    shown = expect("show, a bug case", ran, 0, None, lines=0)
+    """Bug cases: edits and readings, and the lines of a text that a refusal of one names."""
+    shown = expect("show, a bug case", foxentu("show", "examples/case.txt"), 0, None, lines=0)
     for part in ("edit 1 of block 1: row 1, column 1: level 3 becomes 0", "block 1 after 3 edits: columns 3", "difference", "blocks 1"):
         if part not in shown:
-            expect("show, a bug case", ran, 0, part)
-    expect("an edit without a block", foxentu("decode", write("lone.txt", "parameters depth=8 extended=0 qp=4 mode=dct\nedit 0 0 1")), 1, "refused 24 5\n", "lone.txt:2:1: refused 24", 1)
-    expect("an edit outside its block", foxentu("decode", write("outside.txt", BLOCK + "edit 4 0 1")), 1, ROWS + "refused 8 70\n", "outside.txt:3:1: refused 8", 1)
+            expect("show, a bug case", foxentu("show", "examples/case.txt"), 0, part)
+    zeros = "0 0 0 0\n" * 4
+    case = write("case.txt", BLOCK + "show edit 0 0 0\n show\nedit 0 0 +2 # again\nshow")
+    read = ROWS + ROWS.replace("limited 0", "columns 1") + zeros + "columns 0\n" + ROWS.replace("limited 0", "columns 1")
+    expect("decode, edits and readings", foxentu("decode", case), 0, read + "blocks 1\n", lines=0)
+    expect("pack, edits and readings", foxentu("pack", case, "-o", room / "case.feed"), 0, "", lines=0)
+    expect("decode, edits and readings as bytes", foxentu("decode", room / "case.feed"), 0, read + "blocks 1\n", lines=0)
+    expect("unpack, edits and readings", foxentu("unpack", room / "case.feed"), 0, BLOCK.replace("levels 4 2 ..", "levels 4\n    2 0 0 0\n    ..") + "show\nedit 0 0 0\nshow\nedit 0 0 2\nshow\n", lines=0)
+    expect("trace, edits and readings", foxentu("trace", case), 0, "".join(f"{i} 16 none -\n" for i in range(16)), lines=0)
+    shown = expect("show, edits and readings", foxentu("show", case), 0, None, lines=0)
+    for part in ("case.txt:3:1: block 1 after 0 edits: columns 1, 0 of 16 samples differ from the block as it came\n", "case.txt:4:2: block 1 after 1 edit: columns 0, 16 of 16", "    0 of 16 samples differ from the block as it came\nblocks 1\n"):
+        if part not in shown:
+            expect("show, edits and readings", foxentu("show", case), 0, part)
+    lone = write("lone.txt", "parameters depth=8 extended=0 qp=4 mode=dct\nedit 0 0 1")
+    for command in ("decode", "trace", "show"):
+        expect(f"{command}, an edit without a block", foxentu(command, lone), 1, "" if command == "show" else "refused 24 5\n", "lone.txt:2:1: refused 24: feed: an edit or a reading where no block is held", 1)
+    for name, text, at, line in (("a list", "nolist show", 71, "3:8"), ("parameters", BLOCK.split("\n")[0] + "\n show", 75, "4:2"), ("a skip block", BLOCK.replace("dct", "skip") + "show", 140, "5:1")):
+        ran = foxentu("decode", write("closed.txt", BLOCK + text))
+        rows = "" if name != "a skip block" else "2 0 0 0\n" + "0 0 0 0\n" * 3 + "limited 0\n"
+        expect(f"a reading behind {name}", ran, 1, ROWS + rows + f"refused 24 {at}\n", f"closed.txt:{line}: refused 24", 1)
+    expect("an edit outside its block", foxentu("decode", write("outside.txt", BLOCK + "show\nedit 4 0 1\nshow")), 1, ROWS + ROWS.replace("limited 0", "columns 1") + "refused 8 71\n", "outside.txt:4:1: refused 8", 1)
+    expect("show, an edit outside its block", foxentu("show", room / "outside.txt"), 1, None, "outside.txt:4:1: refused 8", 1)
+    expect("an edit that is cut", foxentu("decode", write("cut.feed", BYTES + bytes((8, 0, 0, 1)))), 1, ROWS + "refused 21 70\n", "cut.feed: byte 70: refused 21", 1)
+    for text, column, told in (("edit 0 0", 1, "this one has 2 numbers"), ("edit 256 0 1", 6, "an edit's row is 0 to 255"), ("edit 0 0 2147483648", 10, "an edit's level is"), ("show 1", 6, "which takes no number")):
+        expect(f"a mistake: {text}", foxentu("decode", write("wrong.txt", BLOCK + text)), 2, "", f"wrong.txt:3:{column}: ", 1)
+        expect(f"a mistake: {text}, its words", foxentu("decode", room / "wrong.txt"), 2, "", told, 1)
+    folder = room / "without_columns"
+    folder.mkdir()
+    (folder / "feed_main").write_text("#!/bin/sh\ncat > /dev/null\nfor k in 1 2 3 4; do echo 1 1 1 1; done\necho blocks 1\n")
+    (folder / "feed_main").chmod(0o755)
+    expect("show, a text without its counts", foxentu("show", room / "block.txt", env={"FOXENTU_BIN": str(folder)}), 2, None, "no line 'limited'", 1)
 
 
 RT = """#!/bin/sh

@@ -111,16 +111,6 @@ def decode(options):
     return say_refusal(given, refusal) if refusal else DONE
 
 
-REASONS = {
-    "none": "no list is in force",
-    "four": "entry {} of the list",
-    "eight": "entry {} of the list",
-    "dc": "the list's DC number",
-    "repeat": "entry {} of the list, which stands for several indices",
-    "skip": "a transform-skip block above size 4 ignores the list",
-}
-
-
 def trace(options):
     given, out = open_feed(options), Output()
     if not options.words:
@@ -143,7 +133,7 @@ def explain(given, lines, refusal, out):
         out.line(f"{given.where(at)}: block {blocks}, {size} x {size}")
         for line in lines[index:index + size * size]:
             place, m, reason, position = line.split(" ")
-            out.line(f"    row {int(place) // size}, column {int(place) % size}: m is {m}: {REASONS[reason].format(position)}")
+            out.line(f"    row {int(place) // size}, column {int(place) % size}: m is {m}: {showing.REASONS[reason].format(position)}")
         index += size * size
 
 
@@ -360,6 +350,20 @@ def refusals(options):
     return DONE
 
 
+def on_bench(options):
+    from . import bench
+
+    for name in (options.file, options.save, *options.target):
+        if name == "-":
+            raise Mistake("the bench reads and writes files that have a name")
+    try:
+        out = Output()
+        bench.run(options.file, options.save, options.target, options.port, options.discard, out)
+    except (bench.Foreign, bench.Unwilling) as error:
+        raise Mistake(str(error))
+    return DONE
+
+
 def build_all(options):
     names, out = options.what or ["feed_main", "scale_trace_main", "library"], Output()
     for name in names:
@@ -387,9 +391,15 @@ def parser():
         form.add_argument("--bytes", action="store_true", help="the feed is bytes")
         return made
 
-    feed(command("decode", decode, "the residual rows of a feed's blocks", "Writes the residual rows of every block of a feed, then 'blocks N'. A text without that last line, or a 'refused' line in its place, is not whole."))
+    feed(command("decode", decode, "the residual rows of a feed's blocks and readings", "Writes the residual rows of every block and every reading of a feed, with 'limited N' or 'columns N' behind them, then 'blocks N'. A text without that last line, or a 'refused' line in its place, is not whole."))
     feed(command("trace", trace, "which m scaling uses at each index of a feed's blocks, and why", "Writes a line for each index of each block: index, m, reason (none, four, eight, dc, repeat, skip), position in the list.")).add_argument("--words", action="store_true", help="in words, block by block")
     feed(command("show", show, "a bug case for reading: blocks, edits and readings with differences", "Runs a feed and shows its blocks, the edits made and what each reading gave: before, after and their difference."))
+    made = command("bench", on_bench, "a local page on which a case's blocks are looked at and edited", "Serves a page at the address that it prints, on 127.0.0.1 alone, until Ctrl-C. The page shows the blocks of a case, makes edits of levels by the library and saves them as a bug case. Edits that are not saved are kept in CASE.edits. docs/BENCH.md says more.")
+    made.add_argument("file", metavar="CASE", help="a feed, as text or as bytes")
+    made.add_argument("--save", metavar="FILE", help="where the page saves; CASE itself unless given. A file that is there is overwritten only after a question")
+    made.add_argument("--target", metavar="FILE", action="append", default=[], help="another case whose blocks can be taken as targets; may be given several times")
+    made.add_argument("--port", type=int, default=0, choices=range(65536), metavar="N", help="the port; a free one unless given")
+    made.add_argument("--discard", action="store_true", help="begin without the edits that are kept in CASE.edits, which is removed")
     for name, run, text in (("pack", pack, "a feed's text to its bytes"), ("unpack", unpack, "a feed's bytes to text")):
         made = command(name, run, text)
         made.add_argument("file", metavar="FILE", help="- is standard input")

@@ -40,7 +40,7 @@ class TextError(Exception):
 
 
 class Record:
-    """One record: its word, where it begins in the text, and where in the feed; and what it says, for those who show it."""
+    """One record: its word, where it begins in the text, and where in the feed; and what it says, of `bytes` where each stands in the text."""
 
     __slots__ = ("word", "start", "at", "values")
 
@@ -56,9 +56,13 @@ class Feed:
         self._offsets = [record.at for record in records]
 
     def place(self, offset):
-        """Line and column of the record that made the byte at an offset of the feed."""
+        """Line and column of the record that made the byte at an offset of the feed; behind the first of `bytes`, of the byte itself."""
         index = bisect.bisect_right(self._offsets, offset) - 1
-        return self.source.place(self.records[index].start if index >= 0 else 0)
+        if index < 0:
+            return self.source.place(0)
+        record = self.records[index]
+        inside = offset - record.at
+        return self.source.place(record.values[inside] if record.word == "bytes" and 0 < inside < len(record.values) else record.start)
 
     def where(self, offset):
         line, column = self.place(offset)
@@ -303,7 +307,7 @@ class Reader:
             self.no_stray()
             self.fail(at, "bytes without a byte")
         values = bytes(self.number(start, token, 0, 255, "a byte", BYTE) for start, token in tokens)
-        return values, values
+        return values, [start for start, _ in tokens]
 
 
 def read(data, name, words=RECORDS):

@@ -132,6 +132,15 @@ def call(name, *arguments):
 
     Gives the record that the function answers. Buffers that the function writes are arrays of the right type, which it writes in place.
     """
+    answer = answered(name, *arguments)
+    told = answer if hasattr(answer, "number") else answer.block
+    if told.number != 0:
+        raise Refused(told.number, told.row, told.column, told.place)
+    return answer
+
+
+def answered(name, *arguments):
+    """The same of a function that has no refusals: what it answers, as it is."""
     library, function = load(), header().functions[name]
     given, left, words = [], list(arguments), function.parameters
     index = 0
@@ -152,11 +161,7 @@ def call(name, *arguments):
             index += 1
     if left:
         raise TypeError(f"{name}: {len(left)} arguments too many")
-    answer = getattr(library, name)(*given)
-    told = answer if hasattr(answer, "number") else answer.block
-    if told.number != 0:
-        raise Refused(told.number, told.row, told.column, told.place)
-    return answer
+    return getattr(library, name)(*given)
 
 
 def _fitting(value, parameter):

@@ -5,7 +5,7 @@ Blocks are stored row by row and have n * n elements. A list is 64 entries; `sca
 import array
 import ctypes
 
-from .library import call, elements
+from .library import answered, call, elements
 
 LEVEL = ctypes.c_int32
 
@@ -103,6 +103,17 @@ def find_level_edits(levels, target, wanted, n, qp_prime, depth, extended=False,
     return least, most
 
 
+# ---- which coefficient makes a sample
+def contributions(coefficients, n, row, column, dst=False):
+    """T(k, row) * T(c, column) * coefficient (k, c) for every row k and column c: what each coefficient adds to the sample before any rounding.
+
+    Their sum is the exact product, from which 2^(7 + s2) times the residual there differs by at most `rounding_bound`, where no stage-one value was limited.
+    """
+    out = _block(n, "q")
+    call("residual_contributions", dst, n, row, column, coefficients, out)
+    return out
+
+
 # ---- transforms
 def inverse_transform(coefficients, n, depth, extended=False, dst=False, columns=None):
     """The residual of a block of coefficients; columns from `columns` on are read as zero."""
@@ -155,6 +166,14 @@ def checksum(plane, width, height, depth, stride=None):
 def rebuild_block(plane, width, height, stride, x, y, n, depth, residual, prediction):
     """Prediction plus residual put into a plane (an array of type 'H'), which is changed in place."""
     call("picture_rebuild_block", n, depth, residual, prediction, width, height, stride, x, y, plane)
+
+
+# ---- feeds
+def feed_text(data):
+    """The text of a feed's bytes: the rows of its blocks and readings, then `blocks N` or the line of a refusal."""
+    text = _zeros("B", answered("residual_feed_room", data))
+    ran = answered("residual_feed_run", data, text)
+    return bytes(text[:ran.end])
 
 
 # ---- edited blocks
@@ -238,6 +257,16 @@ class EditedBlock:
     def edits(self):
         """The edits made and not taken back, as row, column and value."""
         return [(row, column, value) for row, column, _, value in self._done]
+
+    @property
+    def done(self):
+        """The edits made and not taken back, as row, column, value before and value."""
+        return list(self._done)
+
+    @property
+    def undone(self):
+        """The edits taken back that can be made again, the next one last, as row, column, value before and value."""
+        return list(self._undone)
 
     def _put(self, row, column, value, of_level):
         buffers = self.coefficients, self.intermediate, self.residual

@@ -5,6 +5,15 @@ from . import feedtext
 from .running import Unfinished
 
 KIND_NAMES = ("DCT", "DST", "transform skip")
+# the reasons of the listing, in words
+REASONS = {
+    "none": "no list is in force",
+    "four": "entry {} of the list",
+    "eight": "entry {} of the list",
+    "dc": "the list's DC number",
+    "repeat": "entry {} of the list, which stands for several indices",
+    "skip": "a transform-skip block above size 4 ignores the list",
+}
 
 
 class Lines:
@@ -26,10 +35,11 @@ class Lines:
         return rows
 
     def counted(self, word):
-        """The number of a line `word N`, where the next line is one."""
-        if self.index < len(self.lines) and self.lines[self.index].startswith(word + " "):
-            return int(self.next().split(" ")[1])
-        return None
+        """The number of a line `word N`."""
+        head, _, number = self.next().partition(" ")
+        if head != word:
+            raise Unfinished(f"the feed's text has no line '{word}' behind the rows of a block")
+        return int(number)
 
 
 def grid(rows):
@@ -92,7 +102,7 @@ class Case:
         self.last = "the block as it came"
         limited = self.lines.counted("limited")
         told = f"{KIND_NAMES[mode]} {size} x {size}, depth {depth}{', extended precision' if extended else ''}, QP' {prime}, {'a list' if self.listed else 'no list'}"
-        self.put(f"{where}: block {self.blocks}: {told}" + (f", {limited} limited" if limited is not None else ""))
+        self.put(f"{where}: block {self.blocks}: {told}, {limited} limited")
         for line in beside([("levels", self.levels), ("residual", self.rows)], self.width):
             self.put(line)
 
