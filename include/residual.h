@@ -1,9 +1,9 @@
 /* The H.265 residual path for C: what the archive of the crate c_api defines, on x86-64. docs/RULES.md has the rules in full.
  *
- * Answers. Every call answers a record that begins with a number and a place: zeros, or the number of a refusal (residual_refusals.h) with the place that it
- * names. The place of a coefficient is its row and column; any other is one number. A refused call changes no element of any buffer, and the values of its
- * record are zeros. Where several refusals apply, the lowest number is answered, but 13 before 12, 18 before 17, 19 where 9 stands, and 25 after 3;
- * scaling lists are written with 16 before 7, and read with 14 to 16 as reading meets them.
+ * Answers. Every call but residual_version and those of a feed answers a record that begins with a number and a place: zeros, or the number of a refusal (residual_refusals.h)
+ * with the place that it names. The place of a coefficient is its row and column; any other is one number. A refused call changes no element of any buffer, and
+ * the values of its record are zeros. Where several refusals apply, the lowest number is answered, but 13 before 12, 18 before 17, 19 where 9 stands, and 25
+ * after 3; scaling lists are written with 16 before 7, and read with 14 to 16 as reading meets them.
  * No argument is out of bounds for a call: each is either refused or has a result. The only duty of a caller is about memory:
  *
  * Buffers. A buffer is a pointer and its number of elements. The pointer is valid for that many and is not null, also where the number is 0; a buffer that
@@ -22,8 +22,9 @@
  *   list, dc            64 entries in row order, of which size 4 uses the first 16, and the DC number, which only sizes 16 and 32 use; 0 is allowed
  *   coeff               coefficients; one outside the coefficient range is refused with 9 (above) or 19 (below), with its row and column
  *
- * State. A call reads and writes its arguments and nothing else: it keeps no state, takes no memory, opens nothing and prints nothing. So any number of
- * threads may call at once, each on buffers of its own, and a signal handler may. A call takes at most 32 KiB of stack, a search for edits or a run of a feed 96 (tests/use measures it).
+ * State. A call reads and writes its arguments and nothing else: it keeps no state, takes no memory, opens nothing and prints nothing. So any number of threads
+ * may call at once, each on buffers of its own, and a signal handler may. A call takes at most 32 KiB of stack, a search for edits, or the text or the listing
+ * of a feed, 96 (tests/use measures it).
  */
 #ifndef RESIDUAL_H
 #define RESIDUAL_H
@@ -356,9 +357,10 @@ residual_list_answered residual_open_levels_scaled_and_edit(bool dst, size_t n, 
 residual_answered residual_refresh_residual(bool dst, size_t n, uint8_t bit_depth, bool extended_precision, const int32_t *inter, size_t inter_len,
     int32_t *residual, size_t residual_len);
 
-/* ---- A feed: bytes of records in, its text out (docs/RULES.md, "The feed"). ---- */
+/* ---- A feed: bytes of records in, its text out (docs/RULES.md, "The feed"), or the listing of its scaling factors ("The listing of scaling factors"). ---- */
 
-/* Where the text ends; or room is false and end 0, since the buffer was shorter than residual_feed_room says, and nothing was written. */
+/* Where the text ends; or room is false and end 0, since the buffer was shorter than residual_feed_room says, of a listing residual_listing_room, and nothing was
+ * written. */
 typedef struct {
     bool room;
     size_t end;
@@ -369,6 +371,12 @@ size_t residual_feed_room(const uint8_t *feed, size_t feed_len);
 /* Writes the text of a whole feed: the rows of each block with the line `limited`, those of each reading with the line `columns`, then the line of a refusal, or
  * `blocks` and how many. It is ASCII without a zero byte at the end. A feed that is refused has a text too: the call itself has no refusal. */
 residual_ran residual_feed_run(const uint8_t *feed, size_t feed_len, uint8_t *text, size_t text_len);
+/* How many bytes residual_listing_run wants for the listing of this feed: 20 for each index of its blocks, and 40. */
+size_t residual_listing_room(const uint8_t *feed, size_t feed_len);
+/* Writes which m scaling uses, and why, at each index of each block: a line for each, in row order, with the index, m, the reason (none, four, eight, dc, repeat or
+ * skip) and the position in the list, or a hyphen where the reason has none; then the line of a refusal, where the feed has one. Edits and readings add no line. It
+ * is ASCII without a zero byte at the end, and may be empty. A feed that is refused has a listing too: the call itself has no refusal. */
+residual_ran residual_listing_run(const uint8_t *feed, size_t feed_len, uint8_t *text, size_t text_len);
 
 #ifdef __cplusplus
 }

@@ -9,7 +9,7 @@ import layers
 import same_laws
 
 # public only so that the crates above can call them; docs/ARCHITECTURE.md says so
-INTERNAL = {"integers", "coefficients", "scaling_values", "scaling_blocks", "list_places", "bits", "bits_written", "diagonal", "scaling_lists_put", "transform_1d", "lines", "lines_quarter", "tiles", "tiles_32", "tiles_quarter", "tiles_wide", "lines_wide", "stages", "stages_wide", "transform_blocks", "edit_values", "edit_blocks", "text", "feed_block", "feed_records", "scale_trace_block"}
+INTERNAL = {"integers", "coefficients", "scaling_values", "scaling_blocks", "block_tool_work", "list_places", "bits", "bits_written", "diagonal", "scaling_lists_put", "transform_1d", "lines", "lines_16", "lines_32", "lines_quarter", "tiles", "tiles_32", "tiles_quarter", "wide_parts", "tiles_wide", "lines_wide", "stages", "stages_wide", "transform_blocks", "block_work", "level_work", "edited_steps", "edit_values", "edit_tables", "edit_blocks", "text", "feed_format", "feed_lines", "feed_state", "feed_block", "feed_records", "scale_trace_block", "scaling_lists_codes", "scaling_lists_taken", "planes"}
 
 # each function calls one entry point and cites its definition, so that entry point's edits stand for it too
 WRAPPERS = {"c_api"}
@@ -18,7 +18,7 @@ WRAPPERS = {"c_api"}
 SUPPORT = {"cases"}
 
 # how many statements stand under two names, as tests/same_laws.py counts them: it only goes down
-SAME_LAWS = 12
+SAME_LAWS = 0
 
 # in halves, so that the rule does not find itself
 MARKS = re.compile(r"\b(" + "|".join(("TO" "DO", "FIX" "ME", "X" "XX")) + r")\b")
@@ -66,6 +66,9 @@ def crate_rules():
         if not (folder / "src" / "lib.rt").exists() or folder.name in SUPPORT:
             continue
         for source in sorted((folder / "src").rglob("*.rt")):
+            # tests/archive would take the module for the crate
+            if source.stem in listed:
+                say("a module named like a crate", source)
             for name, words in heads(source.read_text()):
                 if "ensures" not in words:
                     say("a public function that states no result", f"{source}: {name}")

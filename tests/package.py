@@ -1,6 +1,7 @@
 #!/usr/bin/env python3
 """The Python package: edits against fresh transforms, refusals with their places, and what is no call at all."""
 import random
+import subprocess
 import sys
 import threading
 
@@ -9,6 +10,7 @@ import feed_rules
 
 sys.path.insert(0, "bindings/python")
 import foxentu  # noqa: E402
+from foxentu import build  # noqa: E402
 
 count = 0
 
@@ -116,10 +118,14 @@ def calls():
 
 
 def feeds():
-    """The library's run of a feed against the plain writing of its rule, on the program's stored feed, and cut."""
-    whole = feed_cases.bug_case()
-    for feed in (b"", whole, whole[:-1], whole[:-9], whole[:200], b"\x09", b"\x0a", bytes((1, 8))):
-        expect(foxentu.feed_text(feed).decode("ascii") == feed_rules.residuals(feed), f"the text of a feed of {len(feed)} bytes")
+    """The library's text and listing of a feed against the plain writing of their rules and against the programs, on the programs' stored feeds, and cut."""
+    whole, reasons = feed_cases.bug_case(), feed_cases.reasons()
+    ways = [(foxentu.feed_text, feed_rules.residuals, build.program("feed_main")), (foxentu.listing_text, feed_rules.listing, build.program("scale_trace_main"))]
+    for feed in (b"", whole, whole[:-1], whole[:-9], whole[:200], reasons, reasons[:-1], b"\x09", b"\x0a", bytes((1, 8))):
+        for call, rule, program in ways:
+            text = call(feed)
+            expect(text.decode("ascii") == rule(feed), f"{call.__name__} of a feed of {len(feed)} bytes")
+            expect(text == subprocess.run([program], input=feed, capture_output=True).stdout, f"{call.__name__} is not what {program} prints")
 
 
 def threads():

@@ -24,16 +24,19 @@ static size_t body_of(unsigned kind) {
     return n ? (size_t)4 * n * n : kind == 1 ? 4 : kind == 2 ? 65 : kind == 8 ? 6 : 0;
 }
 
-// what the records before have left: the mode, or 3 where no parameters came; the size of the block that edits change, or 0
+// what the records before have left: the mode, or 3 where no parameters came; the size of the block that edits change, or 0; the
+// entries of the list in force with its DC number behind them, or none
 struct held {
     unsigned mode, size;
     uint64_t blocks;
+    const unsigned char *list;
 };
 
 static void take(struct held *held, const unsigned char *record) {
     unsigned kind = record[0];
     if (kind >= 8) return;
     if (kind == 1) held->mode = record[4];
+    if (kind == 2 || kind == 3) held->list = kind == 2 ? record + 1 : NULL;
     held->size = held->mode == 2 ? 0 : size_of(kind);
     held->blocks += size_of(kind) != 0;
 }
@@ -56,7 +59,7 @@ static void put_record(unsigned kind, unsigned held) {
 // one good feed in eight has blocks above size 8; while a block is held, most records are edits and readings, and else one in 16 is, to be refused
 static void make_good(void) {
     unsigned records = 1 + below(12), kinds = below(8) ? 2 : 4;
-    struct held held = { 3, 0, 0 };
+    struct held held = { 3, 0, 0, NULL };
     length = 0;
     for (unsigned i = 0; i < records; i++) {
         unsigned kind = i == 0 ? 1 : (held.size ? below(4) : !below(16)) ? 8 + below(2) : 1 + below(3 + kinds);
@@ -124,7 +127,7 @@ static int has_count(const char **at, const char *word, unsigned high) {
 
 // whether a text has the lines of the feed: rows and `limited` for levels, rows and `columns` for a reading, then the last line
 static int has_lines(const char *p) {
-    struct held held = { 3, 0, 0 };
+    struct held held = { 3, 0, 0, NULL };
     char last[64];
     size_t at = 0;
     unsigned why = 0;

@@ -319,6 +319,21 @@ static void feed(void) {
 }
 #endif
 
+#ifdef has_listing
+static void listing(void) {
+    uint8_t bytes[71 + 66] = {1, 8, 0, 4, 0, 2}, text[512];
+    memset(bytes + 6, 20, 64);
+    bytes[70] = 30, bytes[71] = 4, bytes[136] = 10;
+    size_t room = residual_listing_room(bytes, 137);
+    expect(room == 16 * 20 + 40, "listing_room");
+    residual_ran ran = residual_listing_run(bytes, 137, text, room - 1);
+    expect(!ran.room && ran.end == 0, "listing_run, a byte short");
+    text[room] = 5;
+    ran = residual_listing_run(bytes, 137, text, room + 1);
+    expect(ran.room && ran.end == 10 * 12 + 6 * 14 + 15 && !memcmp(text, "0 20 four 0\n", 12) && !memcmp(text + 190, "15 20 four 15\nrefused 20 136\n", 29) && text[room] == 5, "listing_run");
+}
+#endif
+
 int main(void) {
     quantities();
 #ifdef has_scaling
@@ -354,6 +369,9 @@ int main(void) {
 #endif
 #ifdef has_feed
     feed();
+#endif
+#ifdef has_listing
+    listing();
 #endif
     printf("header: %d calls, %d failed\n", called, failed);
     return failed != 0;

@@ -1,4 +1,4 @@
-//! Comparison of the crate `picture`, which was not ported: with the rules written plainly, sums in 128 bits and one sample after the other.
+//! Comparison of the crates `picture` and `checksum`, which were not ported: with the rules written plainly, sums in 128 bits and one sample after the other.
 use crate::archive::{self, Answered, NumberAnswered};
 use crate::random::Random;
 use crate::reference;

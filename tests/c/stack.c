@@ -129,6 +129,7 @@ static void feed(void)
     static uint8_t records[5 + 1 + 4 * CELLS + 8] = {1, 16, 1, 60, 0, 7, 40}, text[1 << 16];
     memcpy(records + 5 + 1 + 4 * CELLS, (const uint8_t[8]){8, 31, 31, 70, 0, 0, 0, 9}, 8);
     residual_feed_room(records, sizeof records), residual_feed_run(records, sizeof records, text, sizeof text);
+    residual_listing_room(records, sizeof records), residual_listing_run(records, sizeof records, text, sizeof text);
 }
 
 static void *run(void *group)

@@ -99,7 +99,7 @@ def load():
         try:
             library = ctypes.CDLL(str(_shared(archive)))
         except OSError as error:
-            raise build.BuildError(f"{archive}: {error}")
+            raise build.BuildError(f"{archive}: {error.strerror or error}")
         missing = [name for name in header().functions if not hasattr(library, name)]
         if missing:
             raise build.BuildError(f"{archive} has no {missing[0]}, which the headers of version {version()} declare: archive and headers are of different versions")

@@ -176,6 +176,13 @@ def feed_text(data):
     return bytes(text[:ran.end])
 
 
+def listing_text(data):
+    """Which m scaling uses at each index of a feed's blocks, and why: index, m, reason and position of each, then the line of a refusal, where the feed has one."""
+    text = _zeros("B", answered("residual_listing_room", data))
+    ran = answered("residual_listing_run", data, text)
+    return bytes(text[:ran.end])
+
+
 # ---- edited blocks
 class EditedBlock:
     """A block that is opened once and then changed one value at a time; it owns its buffers and can undo.

@@ -729,6 +729,8 @@ unsafe extern "C" {
     ) -> Answered;
     pub fn residual_feed_room(feed: *const u8, feed_len: usize) -> usize;
     pub fn residual_feed_run(feed: *const u8, feed_len: usize, text: *mut u8, text_len: usize) -> Ran;
+    pub fn residual_listing_room(feed: *const u8, feed_len: usize) -> usize;
+    pub fn residual_listing_run(feed: *const u8, feed_len: usize, text: *mut u8, text_len: usize) -> Ran;
     pub fn picture_rebuild_block(
         n: usize,
         bit_depth: u8,

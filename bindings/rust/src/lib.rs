@@ -2,7 +2,7 @@
 //! proved to meet its contract.
 //!
 //! Slices go in and `Result` comes out; what is refused, and with which row of the table, is [`Refusal`]. No call panics, allocates or keeps state, but where a type
-//! here owns buffers, and [`feed_text`] its text. A block of size `n` has `n * n` elements, row by row, and a slice may be longer: what lies past the block is never changed.
+//! here owns buffers, and [`feed_text`] and [`listing_text`] their text. A block of size `n` has `n * n` elements, row by row, and a slice may be longer: what lies past the block is never changed.
 //!
 //! ```
 //! use foxentu::{EditedBlock, Kind, Scaling};
@@ -43,7 +43,7 @@ mod search;
 mod transform;
 
 pub use edited::{EditedBlock, LevelLimited};
-pub use feed::feed_text;
+pub use feed::{feed_text, listing_text};
 pub use lists::{read_scaling_lists, write_scaling_lists, Defaults, ListTable, ScalingLists, DEFAULTS};
 pub use picture::{Block, Picture};
 pub use quantities::{coefficient_range, dequant_params, qp_bd_offset, qp_prime, rounding_bound, transform_skip_params, DequantParams, TransformSkipParams};

@@ -196,6 +196,22 @@ fn pictures() {
 }
 
 #[test]
+fn feeds_as_the_programs() {
+    // what the two programs read, and what they print of it
+    let (feed, text) = (include_bytes!("../../../crates/feed_main/stdin"), include_str!("../../../crates/feed_main/stdout"));
+    let (listed, listing) = (include_bytes!("../../../crates/scale_trace_main/stdin"), include_str!("../../../crates/scale_trace_main/stdout"));
+    assert_eq!(feed_text(feed), text);
+    assert_eq!(listing_text(listed), listing);
+    assert_eq!((feed_text(&[]).as_str(), listing_text(&[]).as_str()), ("blocks 0\n", ""));
+    // a feed that is cut within a record has the lines before it, and that of a refusal, in the text as in the listing
+    let cut = &listed[..listed.len() - 2];
+    let told = listing_text(cut);
+    let (lines, refusal) = told[..told.len() - 1].rsplit_once('\n').unwrap();
+    assert!(listing.starts_with(lines) && refusal.starts_with("refused 21 "));
+    assert_eq!(feed_text(cut).lines().last(), Some(refusal));
+}
+
+#[test]
 fn threads() {
     let sums: Vec<i32> = std::thread::scope(|scope| {
         let threads: Vec<_> = (0..8)

@@ -1,26 +1,9 @@
 // The bypass: levels are the residual.
-ghost use mathlib.Core.Path.{_≡_};
-ghost use Prim.Native.Nat.{_≤_};
-ghost use lib.ListN.{length};
-ghost use Rattle.integers.specs.Lists.{overwrite};
-ghost use Rattle.block_tools.specs.Residual.{bypassResidual, Writes};
-ghost use Rattle.block_tools.specs.Work.{at};
-use crate::Accumulate;
-use crate::modify;
-use crate::refuse;
+ghost use Rattle.block_tool_rules.specs.Residual.{bypassResidual, Writes};
+use block_tool_rules::Accumulate;
+use block_tool_work::modify;
+use block_tool_work::refuse;
 use refusal::Answer;
-
-// The first levels, as they are.
-fn copy_levels(levels: &[i32], count: usize, out: &mut [i32])
-    requires { ⌜ (count ≤ length (now levels)) × (count ≤ length (now out)) ⌝ }
-    ensures { λ r. ⌜ now (out .exit) ≡ overwrite count (at (now (levels .entry))) (now (out .entry)) ⌝ }
-{
-    let mut i: usize = 0;
-    while i < count {
-        out[i] = levels[i];
-        i += 1;
-    }
-}
 
 // The residuals of a block whose levels are its residuals.
 pub fn bypass_residual(
@@ -44,7 +27,7 @@ pub fn bypass_residual(
     );
     match checked {
         Answer::Done => {
-            copy_levels(levels, n * n, out);
+            block_tool_work::copy_levels(levels, n * n, out);
             modify::modify_block(n, rotate, accumulate, out);
             Answer::Done
         }

@@ -1,10 +1,10 @@
 // Transform skip with rotation and accumulation: residuals as without them, and then the block tools where they stand.
 ghost use Rattle.h265.specs.ScalingFactor.ScalingList.{flat, listed};
 ghost use Rattle.scaling_blocks.specs.Blocks.{CountWrites};
-ghost use Rattle.block_tools.specs.Residual.{skipResidual};
-use crate::Accumulate;
-use crate::modify;
-use crate::refuse;
+ghost use Rattle.block_tool_rules.specs.Residual.{skipResidual};
+use block_tool_rules::Accumulate;
+use block_tool_work::modify;
+use block_tool_work::refuse;
 use parameters::QpPrime;
 use refusal::Refusal;
 use scaling_blocks::CountAnswer;

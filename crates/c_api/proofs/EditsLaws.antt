@@ -9,17 +9,18 @@ use Rattle.refusal.specs.Outcome.{answer}
 use Rattle.transform_1d.specs.declared.Kind.{Kind}
 use Rattle.transform_1d.specs.declared.Kind.the-variants.{Dct, Dst}
 use Rattle.transform_1d.specs.Kinds.{isDst}
-use Rattle.edited_block.specs.declared.EditedBlock.{EditedBlock}
-use Rattle.edited_block.specs.Edit as Called
-use Rattle.edited_block.specs.Opening.{Opening}
+use Rattle.block_rules.specs.declared.EditedBlock.{EditedBlock}
+use Rattle.block_rules.specs.Edit as Called
+use Rattle.block_rules.specs.Opening.{Opening}
 use Rattle.scaling_blocks.specs.declared.CountAnswer.{CountAnswer}
 use Rattle.scaling_blocks.specs.Blocks.{countOutcome}
-use Rattle.level_block.specs.declared.LimitsAnswer.{LimitsAnswer}
-use Rattle.level_block.specs.Level as Levels
+use Rattle.block_rules.specs.declared.LimitsAnswer.{LimitsAnswer}
+use Rattle.block_rules.specs.Level as Levels
 use Rattle.edited_history.specs.Run.{valued}
 use Rattle.edited_history.specs.History.{Edit}
-use Rattle.edited_list.specs.declared.Listed.{Listed}
+use Rattle.edited_steps.specs.declared.Listed.{Listed}
 use Rattle.edited_list.specs.Listed as Run
+use Rattle.edited_steps.specs.Steps as Steps
 use Rattle.c_api.specs.declared.BlockAnswered.{BlockAnswered}
 use Rattle.c_api.specs.declared.LevelEditAnswered.{LevelEditAnswered}
 use Rattle.c_api.specs.declared.ListAnswered.{ListAnswered}
@@ -72,7 +73,7 @@ edits-level-by told o =
       res = o .res;
     }
 
-pub lists-by : {o : Opening} {levels : List ℤ} {lent : Called.Buffers} {es : List Edit} {s : Run.Slices} {r : ListAnswered} {l : Listed} {ls : List ℤ} {after : Called.Buffers} {told : Run.Slices}
+pub lists-by : {o : Opening} {levels : List ℤ} {lent : Called.Buffers} {es : List Edit} {s : Steps.Slices} {r : ListAnswered} {l : Listed} {ls : List ℤ} {after : Called.Buffers} {told : Steps.Slices}
     → BlockIs (blockOfList r) (countOutcome (l .answer)) (l .block) → r .edits ≡ l .edits → Run.Lists o levels lent es s l ls after told → Lists o levels lent es s r ls after told
 lists-by told made l =
     record {

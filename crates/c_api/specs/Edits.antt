@@ -12,14 +12,15 @@ use lib.ListN.{length}
 use Rattle.refusal.specs.Outcome.{Outcome}
 use Rattle.transform_1d.specs.declared.Kind.{Kind}
 use Rattle.transform_1d.specs.declared.Kind.the-variants.{Dct, Dst}
-use Rattle.edited_block.specs.declared.EditedBlock.{EditedBlock}
-use Rattle.edited_block.specs.Edit.{Buffers, Left}
-use Rattle.edited_block.specs.Opening.{Opening}
-use Rattle.level_block.specs.declared.Limits.{Limits}
-use Rattle.level_block.specs.Level.{LevelLeft, OpenLeft}
+use Rattle.block_rules.specs.declared.EditedBlock.{EditedBlock}
+use Rattle.block_rules.specs.Edit.{Buffers, Left}
+use Rattle.block_rules.specs.Opening.{Opening}
+use Rattle.block_rules.specs.declared.Limits.{Limits}
+use Rattle.block_rules.specs.Level.{LevelLeft, OpenLeft}
 use Rattle.edited_history.specs.History.{Edit}
 use Rattle.edited_history.specs.Run.{valued, heldOpened}
-use Rattle.edited_list.specs.Listed.{Slices, put, listed}
+use Rattle.edited_steps.specs.Steps.{Slices, put}
+use Rattle.edited_list.specs.Listed.{listed}
 use Rattle.c_api.specs.declared.Block.{Block}
 use Rattle.c_api.specs.declared.BlockAnswered.{BlockAnswered}
 use Rattle.c_api.specs.declared.LevelEditAnswered.{LevelEditAnswered}

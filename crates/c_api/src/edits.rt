@@ -3,12 +3,12 @@ ghost use mathlib.Core.Path.{_≡_};
 ghost use lib.ListN.{length};
 ghost use Rattle.refusal.specs.Outcome.{answer as answerOutcome};
 ghost use Rattle.transform_1d.specs.Kinds.{isDst};
-ghost use Rattle.edited_block.specs.Edit.{buffers, edited, refreshed};
-ghost use Rattle.edited_block.specs.Opening.{onCoefficients, openedAs};
+ghost use Rattle.block_rules.specs.Edit.{buffers, edited, refreshed};
+ghost use Rattle.block_rules.specs.Opening.{onCoefficients, openedAs};
 ghost use Rattle.scaling_blocks.specs.Blocks.{countOutcome};
-ghost use Rattle.level_block.specs.Level.{limitsOutcome, onLevels, onScaledLevels, levelOpened, levelEdited};
+ghost use Rattle.block_rules.specs.Level.{limitsOutcome, onLevels, onScaledLevels, levelOpened, levelEdited};
 ghost use Rattle.edited_history.specs.Run.{valued};
-ghost use Rattle.edited_list.specs.Listed.{slices, editCount, editsOf};
+ghost use Rattle.edited_steps.specs.Steps.{slices, editCount, editsOf};
 ghost use Rattle.c_api.specs.Blocks.{Writes};
 ghost use Rattle.c_api.specs.Edits.{kindOf, ofBlock, BlockIs, LevelEditIs, blockOfList, Opens, Edits, LevelOpens, LevelEdits, Lists};
 use crate::Answered;
@@ -269,7 +269,7 @@ pub extern "C" fn residual_edit_level(
     ensures { λ r. ⌜ LevelEdits (levelEdited (ofBlock block) (now (levels .entry)) (buffers (now (coeff .entry)) (now (inter .entry)) (now (residual .entry))) row column level) r (now (levels .exit)) (now (coeff .exit)) (now (inter .exit)) (now (residual .exit)) ⌝ }
 {
     let held = block_of(block);
-    let e = edited_record::edit_level_by_value(
+    let e = level_record::edit_level_by_value(
         held,
         levels,
         coeff,

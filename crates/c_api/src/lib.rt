@@ -1,4 +1,4 @@
-// The library for C and Rust: every entry point under the prefix residual_, those of pictures under picture_, with numbers and slices as arguments and one record of numbers as answer. include/residual.h and include/picture.h declare the same for C.
+// The library for C and Rust: the entry points that take and give plain data (docs/ARCHITECTURE.md names those that do not) under the prefix residual_, those of pictures under picture_, with numbers and slices as arguments and one record of numbers as answer. include/residual.h and include/picture.h declare the same for C.
 mod answers;
 mod edits;
 mod feeds;
@@ -23,6 +23,8 @@ pub use edits::residual_open_levels_scaled_and_edit;
 pub use edits::residual_refresh_residual;
 pub use feeds::residual_feed_room;
 pub use feeds::residual_feed_run;
+pub use feeds::residual_listing_room;
+pub use feeds::residual_listing_run;
 pub use levels::residual_dequantize_into_scalar_i16;
 pub use levels::residual_dequantize_into_scalar_i32;
 pub use levels::residual_dequantize_scaled_into_scalar_i16;

@@ -1,6 +1,6 @@
 // Scaling lists read from the bitstream, and written to one.
 ghost use Rattle.scaling_lists.specs.Answers.{listsRead};
-ghost use Rattle.scaling_lists.specs.Syntax.{defaults};
+ghost use Rattle.scaling_lists_codes.specs.Syntax.{defaults};
 ghost use Rattle.scaling_lists_writer.specs.Answers.{listsWritten};
 ghost use Rattle.c_api.specs.Lists.{Reads, Writes};
 use crate::BitsAnswered;

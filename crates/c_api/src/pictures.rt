@@ -1,6 +1,6 @@
 // Samples rebuilt into a plane, and the checksum of a picture.
 ghost use mathlib.Core.Path.{_≡_};
-ghost use Rattle.picture.specs.Checksum.{checksummed};
+ghost use Rattle.checksum.specs.Checksum.{checksummed};
 ghost use Rattle.picture.specs.Rebuild.{rebuilt};
 ghost use Rattle.c_api.specs.Answers.{ofNumber};
 ghost use Rattle.c_api.specs.Pictures.{Rebuilds};
@@ -50,5 +50,5 @@ pub extern "C" fn picture_checksum(
 ) -> NumberAnswered
     ensures { λ r. ⌜ ofNumber r ≡ checksummed «bit_depth» width height stride (now (plane .entry)) ⌝ }
 {
-    answers::checksum_answered(picture::picture_checksum(width, height, stride, bit_depth, plane))
+    answers::checksum_answered(checksum::picture_checksum(width, height, stride, bit_depth, plane))
 }

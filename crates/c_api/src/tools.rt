@@ -1,7 +1,7 @@
 // The block tools of the range extensions, and the levels that give a block's coefficients.
 ghost use mathlib.Core.Path.{_≡_};
 ghost use Rattle.h265.specs.ScalingFactor.ScalingList.{flat, listed};
-ghost use Rattle.block_tools.specs.Residual.{skipResidual, bypassResidual};
+ghost use Rattle.block_tool_rules.specs.Residual.{skipResidual, bypassResidual};
 ghost use Rattle.level_search.specs.Found.{levelsFound};
 ghost use Rattle.c_api.specs.Blocks.{Writes, CountWrites};
 ghost use Rattle.c_api.specs.Tools.{accumulateOf};

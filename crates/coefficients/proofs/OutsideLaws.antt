@@ -1,5 +1,6 @@
 -- The search for a coefficient outside the range: all at once, and row by row.
 --   range-fits            a number within the widest range fits 32 bits
+--   Reaches z m           z lies in every range whose end 2^R is above m
 --   reaches-mag           a number reaches its size
 --   AllReach, allReach-…  bits gathered from the first coefficients: the invariant of a loop that gathers them
 --   none-flat             a block that has none in any column
@@ -31,12 +32,15 @@ use Rattle.integers.proofs.LinearLaws.{parts-add, parts-neg, le-out}
 use Rattle.integers.proofs.MachineLaws.{ltZ-of-le}
 use Rattle.integers.proofs.SearchLaws.{None, First, firstWhere-first}
 use Rattle.h265.specs.Range.{coeffMin, coeffMax, outsideRange}
-use Rattle.coefficients.specs.Outside.{outsideAt, firstOutside, Reaches}
+use Rattle.coefficients.specs.Outside.{outsideAt, firstOutside}
 
 pub range-fits : (r : ℕ) {z : ℤ} → r ≤ 22 → Within (2 ^ r) z → SFits w32 z
 range-fits r h w = within-fits {b = 4194304} tt (within-le (pow-mono h) w)
 
 -- ---- all at once
+pub record Reaches (z : ℤ) (m : ℕ) : Type 0 where
+  pub inside : (r : ℕ) → m < 2 ^ r → outsideRange r z ≡ false
+
 between : (r : ℕ) (z : ℤ) → ltZ z (coeffMin r) ≡ false → ltZ (coeffMax r) z ≡ false → outsideRange r z ≡ false
 unfolding outsideRange
 between r z e f = rw (e, f)

@@ -3,11 +3,9 @@
 --   firstOutside r n nx xs    the first such index in row order, and n² where there is none
 --   outsideRefusal r x k c    why a coefficient x outside the range, in row k and column c, is refused: 19 below the range, 9 above it
 --   refusalAt r n xs i        the same of index i
---   Reaches z m               z lies in every range whose end 2^R is above m
-use mathlib.Core.Path.{_≡_}
-use mathlib.Core.Bool.{Bool, false, _&&_, cond}
+use mathlib.Core.Bool.{Bool, _&&_, cond}
 use mathlib.Core.List.{List}
-use Prim.Native.Nat.{ℕ, _*_, _/_, _%_, _^_, _<_}
+use Prim.Native.Nat.{ℕ, _*_, _/_, _%_}
 use lib.Dec.{ltb}
 use lib.IntN.{ℤ, pos}
 use lib.ListN.{getD}
@@ -28,6 +26,3 @@ outsideRefusal r x k c = cond (ltZ x (coeffMin r)) (CoefficientBelow k c) (Coeff
 
 unfoldable pub refusalAt : ℕ → ℕ → List ℤ → ℕ → Refusal
 refusalAt r n xs i = outsideRefusal r (getD xs i (pos 0)) (i / n) (i % n)
-
-pub record Reaches (z : ℤ) (m : ℕ) : Type 0 where
-  pub inside : (r : ℕ) → m < 2 ^ r → outsideRange r z ≡ false

@@ -6,9 +6,9 @@ ghost use lib.Dec.{T};
 ghost use lib.IntN.{pos};
 ghost use lib.ListN.{getD, length};
 ghost use Rattle.integers.specs.Search.{firstWhere};
-ghost use lib.Signed.{ltZ};
+ghost use lib.Signed.{ltZ, mag};
 ghost use Rattle.h265.specs.Range.{isSize, transformRange, coeffMin, outsideRange};
-ghost use Rattle.coefficients.specs.Outside.{Reaches, firstOutside, outsideRefusal, refusalAt};
+ghost use Rattle.coefficients.specs.Outside.{firstOutside, outsideRefusal, refusalAt};
 use refusal::Refusal;
 
 mod rows; // which rows are in use
@@ -77,7 +77,7 @@ fn row_outside(coeff: &[i32], base: usize, nx: usize, range: u32) -> usize
 
 // The size of x, counted from 0 for x ≥ 0 and from -1 below: x lies in the range where this is below 2^R.
 fn reach(x: i32) -> u32
-    ensures { λ m. ⌜ Reaches x m ⌝ }
+    ensures { λ m. ⌜ m ≡ mag x ⌝ }
 {
     if x < 0 {
         return (-1 - x) as u32;
@@ -85,7 +85,8 @@ fn reach(x: i32) -> u32
     x as u32
 }
 
-// Whether the first len coefficients all lie in the range. One pass with no way out, so that the compiler takes several at a time.
+// `true` only where the first len coefficients all lie in the range. `false` says nothing, and is left free: the caller then looks row by row, so that
+// nothing rests on it but time. One pass with no way out, so that the compiler takes several at a time.
 pub fn all_inside(coeff: &[i32], len: usize, range: u32) -> bool
     requires { ⌜ (len ≤ length (now coeff)) × (range ≤ 22) ⌝ }
     ensures { λ r. ⌜ (r ≡ true → (i : ℕ) → i < len → outsideRange range (getD (now (coeff .entry)) i (pos 0)) ≡ false) ⌝ }

@@ -6,7 +6,7 @@ ghost use lib.IntN.{pos};
 ghost use lib.ListN.{length, getD};
 ghost use Rattle.coefficients.specs.Rows.{RowsUsed};
 
-// Whether nx coefficients from base on are all zero.
+// `true` only where nx coefficients from base on are all zero; `false` says nothing.
 fn zero_run(coeff: &[i32], base: usize, nx: usize) -> bool
     requires { ⌜ base + nx ≤ length (now coeff) ⌝ }
     ensures { λ r. ⌜ (r ≡ true → (c : ℕ) → c < nx → getD (now (coeff .entry)) (base + c) (pos 0) ≡ pos 0) ⌝ }
@@ -21,7 +21,8 @@ fn zero_run(coeff: &[i32], base: usize, nx: usize) -> bool
     true
 }
 
-// One past the last row with a coefficient other than zero in its first nx columns; it looks at no row before row least.
+// A row from which on the first nx columns are zero. That it is the first such row from `least` on is left free, since a caller that is told too many rows
+// computes sums with more zeros in them, and the same results.
 pub fn rows_used(coeff: &[i32], n: usize, nx: usize, least: usize) -> usize
     requires { ⌜ (n * n ≤ length (now coeff)) × (nx ≤ n) × (n ≤ 32) ⌝ }
     ensures { λ r. ⌜ RowsUsed (now (coeff .entry)) n nx r ⌝ }

@@ -11,7 +11,7 @@ use Rattle.integers.specs.Sum.{sum}
 use Rattle.integers.proofs.BoundLaws.{within-eq}
 use Rattle.integers.proofs.ListsLaws.{overwrite-getD}
 use Rattle.integers.proofs.LinearLaws.{split, ring, diff-ext}
-use Rattle.integers.proofs.SumLaws.{sum-cong, sum-scale}
+use Rattle.integers.proofs.SumLaws.{sum-cong, sum-scale, sum-swap}
 use Rattle.h265.specs.Range.{transformRange}
 use Rattle.h265.specs.Transform.{blockAt, rowOrder, residual}
 use Rattle.transform_1d.specs.declared.Kind.{Kind}
@@ -21,7 +21,7 @@ use Rattle.rounding.proofs.ClosenessLaws.{residual-is-close}
 use Rattle.contributions.specs.Sample.{contribution, contributed}
 use Rattle.contributions.specs.Explain.{contributionSum, writtenSum, ContributionsSum, ContributionsExplain, WrittenSum, WrittenExplain}
 use Rattle.contributions.proofs.SampleLaws.{sample-wrote}
-use Rattle.contributions.proofs.BlockSumLaws.{sum-swap, sum-rows}
+use Rattle.contributions.proofs.BlockSumLaws.{sum-rows}
 
 module _ (t : ℕ → ℕ → ℤ) (n : ℕ) (d : List ℤ) (m j : ℕ) where
   -- the contributions of one column of coefficients

@@ -25,13 +25,14 @@ use Rattle.refusal.specs.Condition.{sizeRefused, blockRefused}
 use Rattle.refusal.specs.Outcome.{accepted, refused, answer}
 use Rattle.refusal.specs.Written.{Written, left, wrote, Writes}
 use Rattle.refusal.proofs.RefusalLaws.{number-least}
-use Rattle.refusal.proofs.ConditionLaws.{size-accepted, neither}
+use Rattle.refusal.proofs.ConditionLaws.{size-accepted}
 use Rattle.refusal.proofs.LadderLaws.{Rung, Passed, first, first-accepted, first-passed, first-refused}
 use Rattle.refusal.proofs.LadderLaws.Rung.{rung}
 use Rattle.transform_1d.specs.declared.Kind.{Kind}
 use Rattle.transform_1d.specs.declared.Kind.the-variants.{Dct, Dst}
 use Rattle.transform_1d.specs.Kinds.{dstRefused}
 use Rattle.transform_1d.specs.MatrixOf.{matrixOf}
+use Rattle.integers.proofs.TestLaws.{neither}
 use Rattle.contributions.specs.Sample.{contribution, sampleLadder, contributed}
 
 abbrev pub rungs : Kind → ℕ → ℕ → ℕ → ℕ → ℕ → List Rung

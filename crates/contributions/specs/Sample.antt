@@ -1,4 +1,4 @@
--- What each coefficient adds to one sample of the residual, refused calls included: rows 1, 4, 6, 7, 8 of document 01's table.
+-- What each coefficient adds to one sample of the residual, refused calls included: rows 1, 4, 6, 7, 8 of docs/RULES.md's table.
 -- Letters: t the matrix, n size, d coefficients in row order, m and j the row and column of the sample, k and c those of a coefficient; out the buffer as lent.
 --   contribution t n d m j k c   T(k, m) × T(c, j) × coefficient (k, c)
 --   sampleLadder                 the conditions by kind, size, place and lengths, lowest number first

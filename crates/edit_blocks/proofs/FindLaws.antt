@@ -38,8 +38,9 @@ use Rattle.transform_1d.proofs.MatrixLaws.{transformLine-cong}
 use Rattle.edit_values.specs.Values.{leastWhere, mostWhere}
 use Rattle.edit_values.specs.Sample.{stageOneBy, sampleBy}
 use Rattle.edit_blocks.specs.Edits.{missesAt, hasTarget, editedResidual, givesTarget, leastEdit, mostEdit}
-use Rattle.edit_blocks.specs.Work.{Holds, StageAsk, Tables, tables, probeAt, sampledBy, TablesAsk, leastBy, mostBy, editedBy, EditsAsk}
-use Rattle.edit_blocks.proofs.TableLaws.{cell-index, line-within}
+use Rattle.edit_tables.specs.Tables.{Holds, StageNeeds}
+use Rattle.edit_blocks.specs.Work.{Tables, tables, probeAt, sampledBy, TablesNeeds, leastBy, mostBy, editedBy, EditsNeeds}
+use Rattle.edit_tables.proofs.TableLaws.{cell-index, line-within}
 use Rattle.edit_blocks.proofs.ChangedLaws.{edited-sample}
 
 pub matrix-within : (kind : Kind) (n k m : ℕ) → Within 90 (matrixOf kind n k m)
@@ -67,7 +68,7 @@ module _ (kind : Kind) {n : ℕ} {ts : List ℤ} (size : T (isSize n)) (m : Hold
   entry-within : (k j : ℕ) → k < n → j < n → Within 90 (blockAt n ts k j)
   entry-within k j hk hj = within-eq (m .at k j hk hj) (matrix-within kind n k j)
 
-  pub stage-ask : {xs : List ℤ} {g : ℕ → ℕ → ℤ} → Holds n g xs → ((k c : ℕ) → k < n → c < n → Within 4194304 (g k c)) → StageAsk n ts xs
+  pub stage-ask : {xs : List ℤ} {g : ℕ → ℕ → ℤ} → Holds n g xs → ((k c : ℕ) → k < n → c < n → Within 4194304 (g k c)) → StageNeeds n ts xs
   stage-ask h f =
       record {
         size = size;
@@ -77,11 +78,11 @@ module _ (kind : Kind) {n : ℕ} {ts : List ℤ} (size : T (isSize n)) (m : Hold
         reads = λ k c hk hc. within-eq (h .at k c hk hc) (f k c hk hc);
       }
 
-pub one-within : {n : ℕ} {ts ds ones : List ℤ} → StageAsk n ts ds → Holds n (stageOneSum (blockAt n ts) n (blockAt n ds)) ones
+pub one-within : {n : ℕ} {ts ds ones : List ℤ} → StageNeeds n ts ds → Holds n (stageOneSum (blockAt n ts) n (blockAt n ds)) ones
     → (m c : ℕ) → m < n → c < n → Within 12079595520 (blockAt n ones m c)
 one-within {n} {ts} {ds} a h m c hm hc = within-eq (h .at m c hm hc) (unfold stageOneSum in line-within (blockAt n ts) n (λ k. blockAt n ds k c) m (size-bound n (a .size) .1) (λ k l. a .entries k m l hm) (λ k l. a .reads k c l hc))
 
-pub two-within : {n : ℕ} {ts gs twos : List ℤ} → StageAsk n ts gs → Holds n (stageTwoSum (blockAt n ts) n (blockAt n gs)) twos
+pub two-within : {n : ℕ} {ts gs twos : List ℤ} → StageNeeds n ts gs → Holds n (stageTwoSum (blockAt n ts) n (blockAt n gs)) twos
     → (m j : ℕ) → m < n → j < n → Within 12079595520 (blockAt n twos m j)
 two-within {n} {ts} {gs} a h m j hm hj = within-eq (h .at m j hm hj) (unfold stageTwoSum in line-within (blockAt n ts) n (λ c. blockAt n gs m c) j (size-bound n (a .size) .1) (λ k l. a .entries k j l hj) (λ k l. a .reads m k hm l))
 
@@ -89,13 +90,13 @@ pub between-within : (r : ℕ) (z : ℤ) → r ≤ 22 → Within 4194304 (clipCo
 between-within r z h = within-le (pow-mono {i = r} {j = 22} h) (clipCoeff-within r z)
 
 module _ {kind : Kind} {n r : ℕ} {d ts ds ones gs twos : List ℤ} (h : Prepared kind n r d ts ds ones gs twos) where
-  one-ask : StageAsk n ts ds
+  one-ask : StageNeeds n ts ds
   one-ask = stage-ask kind (h .size) (h .matrix) (h .coeff) (h .inside)
 
-  two-ask : StageAsk n ts gs
+  two-ask : StageNeeds n ts gs
   two-ask = stage-ask kind (h .size) (h .matrix) (h .between) (λ m c hm hc. between-within r _ (h .range))
 
-  pub prepared-ask : {target : List ℤ} {s w : ℕ} → (1 ≤ s) × (s ≤ 12) → n * n ≤ length target → n * n ≤ w → TablesAsk (tables ts ds ones gs twos target) n r s w
+  pub prepared-ask : {target : List ℤ} {s w : ℕ} → (1 ≤ s) × (s ≤ 12) → n * n ≤ length target → n * n ≤ w → TablesNeeds (tables ts ds ones gs twos target) n r s w
   prepared-ask f t w =
       record {
         size = h .size;

@@ -23,13 +23,13 @@ use Rattle.edit_values.specs.Values.{valueCount, valueAt}
 use Rattle.edit_values.specs.Sample.{sampleBy, Bounded, Narrowed}
 use Rattle.edit_values.proofs.OrderedLaws.{not-both}
 use Rattle.edit_blocks.specs.Edits.{isWanted}
-use Rattle.edit_blocks.specs.Work.{Tables, probeAt, sampledBy, TablesAsk, Hit, hitBy, Sieved}
+use Rattle.edit_blocks.specs.Work.{Tables, probeAt, sampledBy, TablesNeeds, Hit, hitBy, Sieved}
 use Rattle.edit_blocks.proofs.SieveLaws.{sieved-none, sieved-more}
 
 rest-within : {a u x : ℤ} → Within 12079595520 a → Within 90 u → Within 4194304 x → Within 17179869184 (a +ℤ (pos 0 -ℤ u) *ℤ x)
 rest-within {a} {u} {x} f g h = within-le (omega arith) (within-add f (within-mul (within-eq (+ℤ-idl (negℤ u)) (within-neg g)) h))
 
-module _ {a : Tables} {n r s w : ℕ} (h : TablesAsk a n r s w) {k c m j : ℕ} (hk : k < n) (hc : c < n) (hm : m < n) (hj : j < n) where
+module _ {a : Tables} {n r s w : ℕ} (h : TablesNeeds a n r s w) {k c m j : ℕ} (hk : k < n) (hc : c < n) (hm : m < n) (hj : j < n) where
   pub probe-bounded : {p : Probe} → p ≡ probeAt a n r s k c m j → Within 2147483648 (p .target) → Bounded p
   unfolding probeAt
   probe-bounded {p} e t =
@@ -72,7 +72,7 @@ module _ (a : Tables) (n r s k c m j : ℕ) (wanted : List ℕ) (hj : j < n) {p 
       range-is = unfold probeAt in ap (λ (q : Probe). q .range) e
 
 -- the flags' length does not matter to a probe
-pub ask-square : {a : Tables} {n r s w : ℕ} → TablesAsk a n r s w → TablesAsk a n r s (n * n)
+pub ask-square : {a : Tables} {n r s w : ℕ} → TablesNeeds a n r s w → TablesNeeds a n r s (n * n)
 ask-square h =
     record {
       size = h .size;

@@ -26,7 +26,7 @@ use Rattle.h265.specs.Transform.{blockAt, rowOrder}
 use Rattle.h265.proofs.TransformLaws.{cell-row, cell-column, rowOrder-at}
 use Rattle.edit_values.specs.declared.Span.{Span}
 use Rattle.edit_values.specs.Values.{valueCount, valueAt, leastWhere, mostWhere}
-use Rattle.refusal.proofs.ConditionLaws.{neither}
+use Rattle.integers.proofs.TestLaws.{neither}
 use Rattle.edit_blocks.specs.Edits.{isWanted, HasTarget, differs, missesAt, hasTarget}
 use Rattle.edit_blocks.specs.Work.{Hit, Sieved, leastOf, mostOf}
 

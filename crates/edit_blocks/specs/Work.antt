@@ -1,17 +1,15 @@
 -- The search for the values of one coefficient, below the refusals: what its functions hold and find.
 -- Letters as in specs/Edits.antt; t matrix, r range, s shift of stage two, k and c row and column of the coefficient, q index of a sample.
---   Holds n g xs           xs is 1,024 long and holds g by row and column, rows being n long
---   LineAsk, StageAsk      what one sum of a stage, and all of them ask
 --   Tables                 matrix, coefficients, sums of stage one, intermediate, sums of stage two, and the target
 --   probeAt                what a sample has of everything but the coefficient's value, read from the tables
 --   sampledBy              the samples by it, for a value of the coefficient
---   TablesAsk              tables of n² elements whose probes are all in bounds
+--   TablesNeeds              tables of n² elements whose probes are all in bounds
 --   Hit n e target wanted q   sample q of the residual e has its target, or is not wanted
 --   Sieved r hit a b from to s   of the places from .. to - 1 of the range those in the span s hit samples a .. b - 1, and no other
 --   leastOf, mostOf r s    the ends of a span as values, 1 and 0 where it is empty
 --   leastBy, mostBy        the least and the most value that give the target at every wanted sample, by the tables
 --   editedBy t n r s d i v    the residual of the block with v at index i
---   EditsAsk               what the search of a whole block asks
+--   EditsNeeds               what the search of a whole block asks
 use mathlib.Core.Path.{_≡_}
 use mathlib.Core.Bool.{Bool, true, false, cond}
 use mathlib.Core.List.{List}
@@ -29,25 +27,6 @@ use Rattle.edit_values.specs.declared.Span.{Span}
 use Rattle.edit_values.specs.Values.{valueAt, leastWhere, mostWhere}
 use Rattle.edit_values.specs.Sample.{sampleBy, Bounded}
 use Rattle.edit_blocks.specs.Edits.{isWanted, hasTarget}
-
-pub record Holds (n : ℕ) (g : ℕ → ℕ → ℤ) (xs : List ℤ) : Type 0 where
-  pub long : length xs ≡ 1024
-  pub at : (m c : ℕ) → m < n → c < n → blockAt n xs m c ≡ g m c
-
-pub record LineAsk (n : ℕ) (t x : List ℤ) (m base stride : ℕ) : Type 0 where
-  pub few : n ≤ 32
-  pub column : m < n
-  pub matrix : length t ≡ 1024
-  pub values : length x ≡ 1024
-  pub entries : (k : ℕ) → k < n → Within 90 (blockAt n t k m)
-  pub reads : (k : ℕ) → k < n → (base + k * stride < 1024) × Within 4194304 (getD x (base + k * stride) (pos 0))
-
-pub record StageAsk (n : ℕ) (t x : List ℤ) : Type 0 where
-  pub size : T (isSize n)
-  pub matrix : length t ≡ 1024
-  pub values : length x ≡ 1024
-  pub entries : (k m : ℕ) → k < n → m < n → Within 90 (blockAt n t k m)
-  pub reads : (k c : ℕ) → k < n → c < n → Within 4194304 (blockAt n x k c)
 
 pub record Tables : Type 0 where
   pub matrix : List ℤ
@@ -78,7 +57,7 @@ probeAt a n r s k c m j =
 unfoldable pub sampledBy : Tables → ℕ → ℕ → ℕ → ℕ → ℕ → ℤ → ℕ → ℕ → ℤ
 sampledBy a n r s k c v m j = sampleBy (probeAt a n r s k c m j) v
 
-pub record TablesAsk (a : Tables) (n r s w : ℕ) : Type 0 where
+pub record TablesNeeds (a : Tables) (n r s w : ℕ) : Type 0 where
   pub size : T (isSize n)
   pub range : r ≤ 22
   pub matrix : length (a .matrix) ≡ 1024
@@ -124,7 +103,7 @@ unfoldable pub editedBy : (ℕ → ℕ → ℤ) → ℕ → ℕ → ℕ → List
 editedBy t n r s d i v = stageTwo t n s (intermediate t n r (columnsRead n (blockAt n (set d i v))))
 
 -- what the whole search asks: past the refusals
-pub record EditsAsk (kind : Kind) (n b : ℕ) (x : Bool) (d : List ℤ) (target wanted least most : ℕ) : Type 0 where
+pub record EditsNeeds (kind : Kind) (n b : ℕ) (x : Bool) (d : List ℤ) (target wanted least most : ℕ) : Type 0 where
   pub size : T (isSize n)
   pub dst : kind ≡ Dst → n ≡ 4
   pub depth : (8 ≤ b) × (b ≤ 16)

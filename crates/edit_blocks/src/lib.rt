@@ -1,7 +1,5 @@
 // For each index of a block the values of its coefficient that give the residual a target at every wanted sample.
 // Internal: no refusal; callers meet each `requires`.
-mod matrix; // the matrix by row and column
-mod sums; // the sums of both stages, worked out once
 mod spans; // the values of one coefficient, and of every index
 
 ghost use mathlib.Core.Path.{_≡_};
@@ -9,7 +7,9 @@ ghost use lib.ListN.{length};
 ghost use Prim.Native.Nat.{_*_};
 ghost use Rattle.integers.specs.Lists.{overwrite};
 ghost use Rattle.edit_blocks.specs.Edits.{leastEdit, mostEdit};
-ghost use Rattle.edit_blocks.specs.Work.{EditsAsk};
+ghost use Rattle.edit_blocks.specs.Work.{EditsNeeds};
+use edit_tables::matrix;
+use edit_tables::sums;
 pub use spans::least_of;
 pub use spans::most_of;
 use transform_1d::Kind;
@@ -26,7 +26,7 @@ pub fn find(
     least: &mut [i32],
     most: &mut [i32],
 )
-    requires { ⌜ EditsAsk kind n «bit_depth» «extended_precision» (now coeff) (length (now target)) (length (now wanted)) (length (now least)) (length (now most)) ⌝ }
+    requires { ⌜ EditsNeeds kind n «bit_depth» «extended_precision» (now coeff) (length (now target)) (length (now wanted)) (length (now least)) (length (now most)) ⌝ }
     ensures { λ _. ⌜ (now (least .exit) ≡ overwrite (n * n) (leastEdit kind n «bit_depth» «extended_precision» (now (coeff .entry)) (now (target .entry)) (now (wanted .entry))) (now (least .entry))) × (now (most .exit) ≡ overwrite (n * n) (mostEdit kind n «bit_depth» «extended_precision» (now (coeff .entry)) (now (target .entry)) (now (wanted .entry))) (now (most .entry))) ⌝ }
 {
     let range = coefficients::transform_range(bit_depth, extended_precision);

@@ -7,7 +7,7 @@ ghost use Rattle.integers.specs.Lists.{overwrite};
 ghost use Rattle.integers.specs.Within.{Within};
 ghost use Rattle.h265.specs.Transform.{blockAt};
 ghost use Rattle.edit_values.specs.Values.{valueCount};
-ghost use Rattle.edit_blocks.specs.Work.{tables, probeAt, TablesAsk, hitBy, Sieved, leastOf, mostOf, leastBy, mostBy};
+ghost use Rattle.edit_blocks.specs.Work.{tables, probeAt, TablesNeeds, hitBy, Sieved, leastOf, mostOf, leastBy, mostBy};
 use edit_values::Probe;
 use edit_values::Span;
 
@@ -56,7 +56,7 @@ fn probe_at(
     m: usize,
     j: usize,
 ) -> Probe
-    requires { ⌜ TablesAsk (tables (now t) (now d) (now ones) (now between) (now twos) (now target)) n range shift (n * n) × (k < n) × (c < n) × (m < n) × (j < n) ⌝ }
+    requires { ⌜ TablesNeeds (tables (now t) (now d) (now ones) (now between) (now twos) (now target)) n range shift (n * n) × (k < n) × (c < n) × (m < n) × (j < n) ⌝ }
     ensures { λ r. ⌜ (r ≡ probeAt (tables (now (t .entry)) (now (d .entry)) (now (ones .entry)) (now (between .entry)) (now (twos .entry)) (now (target .entry))) n range shift k c m j) × Within 2147483648 (r .target) ⌝ }
 {
     let entry_one = cell(t, n, k, m);
@@ -90,7 +90,7 @@ fn sample_span(
     j: usize,
     span: Span,
 ) -> Span
-    requires { ⌜ TablesAsk (tables (now t) (now d) (now ones) (now between) (now twos) (now target)) n range shift (length (now wanted)) × (k < n) × (c < n) × (m < n) × (j < n) × (span .from ≤ span .to) × (span .to ≤ valueCount range) ⌝ }
+    requires { ⌜ TablesNeeds (tables (now t) (now d) (now ones) (now between) (now twos) (now target)) n range shift (length (now wanted)) × (k < n) × (c < n) × (m < n) × (j < n) × (span .from ≤ span .to) × (span .to ≤ valueCount range) ⌝ }
     ensures { λ r. ⌜ Sieved range (hitBy (tables (now (t .entry)) (now (d .entry)) (now (ones .entry)) (now (between .entry)) (now (twos .entry)) (now (target .entry))) (now (wanted .entry)) n range shift k c) (m * n + j) (m * n + j + 1) (span .from) (span .to) r ⌝ }
 {
     if wanted[m * n + j] == 0 {
@@ -134,7 +134,7 @@ fn row_span(
     m: usize,
     span: Span,
 ) -> Span
-    requires { ⌜ TablesAsk (tables (now t) (now d) (now ones) (now between) (now twos) (now target)) n range shift (length (now wanted)) × (k < n) × (c < n) × (m < n) × (span .from ≤ span .to) × (span .to ≤ valueCount range) ⌝ }
+    requires { ⌜ TablesNeeds (tables (now t) (now d) (now ones) (now between) (now twos) (now target)) n range shift (length (now wanted)) × (k < n) × (c < n) × (m < n) × (span .from ≤ span .to) × (span .to ≤ valueCount range) ⌝ }
     ensures { λ r. ⌜ Sieved range (hitBy (tables (now (t .entry)) (now (d .entry)) (now (ones .entry)) (now (between .entry)) (now (twos .entry)) (now (target .entry))) (now (wanted .entry)) n range shift k c) (m * n) (m * n + n) (span .from) (span .to) r ⌝ }
 {
     let mut from = span.from;
@@ -181,7 +181,7 @@ fn index_span(
     k: usize,
     c: usize,
 ) -> Span
-    requires { ⌜ TablesAsk (tables (now t) (now d) (now ones) (now between) (now twos) (now target)) n range shift (length (now wanted)) × (k < n) × (c < n) ⌝ }
+    requires { ⌜ TablesNeeds (tables (now t) (now d) (now ones) (now between) (now twos) (now target)) n range shift (length (now wanted)) × (k < n) × (c < n) ⌝ }
     ensures { λ r. ⌜ Sieved range (hitBy (tables (now (t .entry)) (now (d .entry)) (now (ones .entry)) (now (between .entry)) (now (twos .entry)) (now (target .entry))) (now (wanted .entry)) n range shift k c) 0 (n * n) 0 (valueCount range) r ⌝ }
 {
     let mut from: u32 = 0;
@@ -252,7 +252,7 @@ pub(crate) fn all_indices(
     least: &mut [i32],
     most: &mut [i32],
 )
-    requires { ⌜ TablesAsk (tables (now t) (now d) (now ones) (now between) (now twos) (now target)) n range shift (length (now wanted)) × (n * n ≤ length (now least)) × (n * n ≤ length (now most)) ⌝ }
+    requires { ⌜ TablesNeeds (tables (now t) (now d) (now ones) (now between) (now twos) (now target)) n range shift (length (now wanted)) × (n * n ≤ length (now least)) × (n * n ≤ length (now most)) ⌝ }
     ensures { λ _. ⌜ (now (least .exit) ≡ overwrite (n * n) (leastBy (tables (now (t .entry)) (now (d .entry)) (now (ones .entry)) (now (between .entry)) (now (twos .entry)) (now (target .entry))) (now (wanted .entry)) n range shift) (now (least .entry))) × (now (most .exit) ≡ overwrite (n * n) (mostBy (tables (now (t .entry)) (now (d .entry)) (now (ones .entry)) (now (between .entry)) (now (twos .entry)) (now (target .entry))) (now (wanted .entry)) n range shift) (now (most .entry))) ⌝ }
 {
     let count = n * n;

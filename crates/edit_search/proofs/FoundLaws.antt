@@ -25,7 +25,7 @@ use Rattle.refusal.specs.declared.Refusal.the-variants.{SizeInvalid, DepthInval
 use Rattle.refusal.specs.Condition.{sizeRefused, depthRefused, blockRefused}
 use Rattle.refusal.specs.Outcome.{accepted, refused, answer}
 use Rattle.refusal.proofs.RefusalLaws.{number-least}
-use Rattle.refusal.proofs.ConditionLaws.{size-accepted, depth-accepted}
+use Rattle.refusal.proofs.ConditionLaws.{size-accepted, depth-accepted, block-room}
 use Rattle.refusal.proofs.LadderLaws.{Rung, Passed, first, first-accepted, first-passed, first-refused}
 use Rattle.refusal.proofs.LadderLaws.Rung.{rung}
 use Rattle.transform_1d.specs.declared.Kind.{Kind}
@@ -33,7 +33,7 @@ use Rattle.transform_1d.specs.declared.Kind.the-variants.{Dct, Dst}
 use Rattle.transform_1d.specs.Kinds.{dstRefused}
 use Rattle.coefficients.specs.Outside.{outsideAt, firstOutside, refusalAt}
 use Rattle.edit_blocks.specs.Edits.{leastEdit, mostEdit}
-use Rattle.edit_blocks.specs.Work.{EditsAsk}
+use Rattle.edit_blocks.specs.Work.{EditsNeeds}
 use Rattle.edit_search.specs.Found.{Found, left, wrote, Finds, editLadder, blockFound, editsFound}
 
 abbrev pub rungs : Kind → ℕ → ℕ → ℕ → ℕ → ℕ → ℕ → ℕ → List Rung
@@ -47,10 +47,6 @@ rungs kind n b coeff target wanted least most =
     ∷ rung (blockRefused n least) OutputTooShort
     ∷ rung (blockRefused n most) OutputTooShort
     ∷ []
-
-pub room : (n len : ℕ) → blockRefused n len ≡ false → n * n ≤ len
-unfolding blockRefused
-room n len e = ltb-false len (n * n) e
 
 -- a ladder that answered 0 has passed every rung
 pub answered-passed : (low high : List ℤ) (done : Found) (rs : List Rung) → first (left low high) done rs .answer .number ≡ 0 → Passed rs
@@ -97,18 +93,18 @@ module _ (kind : Kind) (n b : ℕ) (x : Bool) (d target : List ℤ) (wanted : Li
   unfolding blockFound
   edits-done p h l m = rw (past p, le-ltb (firstOutside (transformRange b x) n n d) (n * n) h) (record { answered = refl; least = l; most = m })
 
-  pub edits-ask : Passed checks → n * n ≤ firstOutside (transformRange b x) n n d → EditsAsk kind n b x d (length target) (length wanted) (length least) (length most)
+  pub edits-ask : Passed checks → n * n ≤ firstOutside (transformRange b x) n n d → EditsNeeds kind n b x d (length target) (length wanted) (length least) (length most)
   edits-ask p h =
       record {
         size = size-accepted n (p .0);
         dst = four kind (p .1 .1 .0);
         depth = depth-accepted b (p .1 .0);
-        coeff = room n (length d) (p .1 .1 .1 .0);
+        coeff = block-room n (length d) (p .1 .1 .1 .0);
         range = inside-at (transformRange b x) n d h;
-        targets = room n (length target) (p .1 .1 .1 .1 .0);
-        wants = room n (length wanted) (p .1 .1 .1 .1 .1 .0);
-        leasts = room n (length least) (p .1 .1 .1 .1 .1 .1 .0);
-        mosts = room n (length most) (p .1 .1 .1 .1 .1 .1 .1 .0);
+        targets = block-room n (length target) (p .1 .1 .1 .1 .0);
+        wants = block-room n (length wanted) (p .1 .1 .1 .1 .1 .0);
+        leasts = block-room n (length least) (p .1 .1 .1 .1 .1 .1 .0);
+        mosts = block-room n (length most) (p .1 .1 .1 .1 .1 .1 .1 .0);
       }
     where
       four : (k : Kind) → dstRefused k n ≡ false → k ≡ Dst → n ≡ 4

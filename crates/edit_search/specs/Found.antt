@@ -1,4 +1,4 @@
--- The edits of a whole block, refused calls included: rows 1, 2, 4, 6, 7, 9, 19 of document 01's table.
+-- The edits of a whole block, refused calls included: rows 1, 2, 4, 6, 7, 9, 19 of docs/RULES.md's table.
 -- Letters: n size, b depth, x extended precision, d coefficients; target and wanted n² samples and n² bytes; least and most the two
 -- buffers as lent.
 --   Found               what a call hands back: its answer, and both buffers

@@ -1,4 +1,4 @@
--- The values of a coefficient, and the least and the most of them that pass a test. Document 01, "Quantities": -2^R .. 2^R - 1.
+-- The values of a coefficient, and the least and the most of them that pass a test. docs/RULES.md, "Quantities": -2^R .. 2^R - 1.
 --   valueCount r      how many values the range has
 --   valueAt r o       the value at place o, the least value being at place 0
 --   leastWhere r p    the least value of the range that passes, and 1 where none does

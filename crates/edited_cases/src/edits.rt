@@ -28,7 +28,7 @@ pub fn edit(
     residual: &mut [i32],
 ) -> LevelEditedBlock {
     if level {
-        return edited_record::edit_level_by_value(
+        return level_record::edit_level_by_value(
             block,
             levels,
             coeff,

@@ -23,14 +23,15 @@ use Rattle.refusal.specs.declared.Refusal.the-variants.{PlaceOutside}
 use Rattle.refusal.specs.Outcome.{accepted}
 use Rattle.transform_1d.specs.MatrixOf.{matrixOf}
 use Rattle.coefficients.specs.Outside.{outsideRefusal}
-use Rattle.edited_block.specs.declared.EditedBlock.{EditedBlock}
+use Rattle.block_rules.specs.declared.EditedBlock.{EditedBlock}
 use Rattle.stages_wide.specs.Wide.{columnReplaced}
-use Rattle.edited_block.specs.Columns.{columnCount}
-use Rattle.edited_block.specs.Edit.{Buffers, Left, intermediateOf, residualOf, blockLadder, stopped, withColumns, edited, editedBuffers}
-use Rattle.edited_block.specs.Opening.{Opening, rangeOf, openedAs, blockOf}
+use Rattle.block_rules.specs.Columns.{columnCount}
+use Rattle.block_rules.specs.Edit.{Buffers, Left, intermediateOf, residualOf, blockLadder, stopped, withColumns, edited, editedBuffers}
+use Rattle.block_rules.specs.Opening.{Opening, rangeOf, openedAs, blockOf}
+use Rattle.integers.proofs.TestLaws.{neither}
 use Rattle.edited_history.specs.History.{historyIntermediate, historyResidual}
-use Rattle.edited_block.proofs.ColumnsLaws.{columnReplaced-overwrite, columnCount-append}
-use Rattle.edited_block.proofs.OpeningLaws.{Fits, opened-accepted, opened-is, neither, coeff-long, inter-long, res-long, stageOneOf, stageTwoOf, InRange, intermediateOf-is, written-residual, Agrees, opened-agrees}
+use Rattle.block_laws.proofs.ColumnsLaws.{columnReplaced-overwrite, columnCount-append}
+use Rattle.block_laws.proofs.OpeningLaws.{Fits, opened-accepted, opened-is, coeff-long, inter-long, res-long, stageOneOf, stageTwoOf, InRange, intermediateOf-is, written-residual, Agrees, opened-agrees}
 
 same-column : (n a b k l : ℕ) → a < n → b < n → k * n + a ≡ l * n + b → a ≡ b
 same-column n a b k l ha hb e = sym (digits-mod k {m = n} {r = a} ha) ∙ ap (λ (i : ℕ). i % n) e ∙ digits-mod l {m = n} {r = b} hb

@@ -21,10 +21,10 @@ use Rattle.refusal.proofs.LadderLaws.Rung.{rung}
 use Rattle.transform_1d.specs.Kinds.{dstRefused}
 use Rattle.coefficients.specs.Outside.{outsideRefusal}
 use Rattle.stages_wide.specs.Wide.{columnReplaced}
-use Rattle.edited_block.specs.declared.EditedBlock.{EditedBlock}
-use Rattle.edited_block.specs.Edit.{Buffers, Left, blockLadder, stopped, edited, editedBuffers}
-use Rattle.edited_block.proofs.ColumnsLaws.{columnReplaced-length}
-use Rattle.level_block.specs.Level.{scaledBy, LevelLeft, levelLadder, levelStopped, lookedAt, levelEdited}
+use Rattle.block_rules.specs.declared.EditedBlock.{EditedBlock}
+use Rattle.block_rules.specs.Edit.{Buffers, Left, blockLadder, stopped, edited, editedBuffers}
+use Rattle.block_laws.proofs.ColumnsLaws.{columnReplaced-length}
+use Rattle.block_rules.specs.Level.{scaledBy, LevelLeft, levelLadder, levelStopped, lookedAt, levelEdited}
 use Rattle.edited_history.specs.History.{Edit}
 use Rattle.edited_history.specs.Run.{besides, heldEdited, SameAt, EditsKeepColumns, RefusedEditsAlterNothing}
 

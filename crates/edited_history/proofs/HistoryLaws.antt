@@ -27,16 +27,16 @@ use Rattle.refusal.specs.Outcome.{Outcome, accepted, refused}
 use Rattle.scaling_blocks.specs.Blocks.{entriesOf}
 use Rattle.transform_1d.specs.Kinds.{dstRefused}
 use Rattle.coefficients.specs.Outside.{outsideRefusal}
-use Rattle.edited_block.specs.declared.EditedBlock.{EditedBlock}
-use Rattle.edited_block.specs.Columns.{columnCount}
-use Rattle.edited_block.specs.Edit.{Buffers, Left, stopped, openedBuffers, edited, editedBuffers, withColumns}
-use Rattle.edited_block.specs.Opening.{Opening, rangeOf, openedAs, blockOf}
-use Rattle.edited_block.proofs.OpeningLaws.{Fits, Accepted, Agrees, InRange, neither, stageOneOf, stageTwoOf, opened-accepted, opened-is, opened-agrees}
-use Rattle.edited_block.proofs.LadderLaws.{edit-way, edit-place, edit-outside, edit-done}
-use Rattle.level_block.specs.Level.{listOf, scaledBy, limitsBy, noLimits, OpenLeft, levelLadder, LevelLeft, levelStopped, lookedAt, levelEdited, levelOpened, scaledBuffers}
-use Rattle.level_block.proofs.ScaledLaws.{scaled-inside}
-use Rattle.level_block.proofs.LevelLaws.{EditFits, level-edit-way, level-edit-place, level-edit-done}
-use Rattle.level_block.proofs.LevelOpeningLaws.{counted, OpenFits, scaled-accepted, level-open-is}
+use Rattle.block_rules.specs.declared.EditedBlock.{EditedBlock}
+use Rattle.block_rules.specs.Columns.{columnCount}
+use Rattle.block_rules.specs.Edit.{Buffers, Left, stopped, openedBuffers, edited, editedBuffers, withColumns}
+use Rattle.block_rules.specs.Opening.{Opening, rangeOf, openedAs, blockOf}
+use Rattle.block_laws.proofs.OpeningLaws.{Fits, Accepted, Agrees, InRange, stageOneOf, stageTwoOf, opened-accepted, opened-is, opened-agrees}
+use Rattle.block_laws.proofs.LadderLaws.{edit-way, edit-place, edit-outside, edit-done}
+use Rattle.block_rules.specs.Level.{listOf, scaledBy, limitsBy, noLimits, OpenLeft, levelLadder, LevelLeft, levelStopped, lookedAt, levelEdited, levelOpened, scaledBuffers}
+use Rattle.block_laws.proofs.LevelLaws.{scaled-inside, EditFits, level-edit-way, level-edit-place, level-edit-done}
+use Rattle.block_laws.proofs.LevelOpeningLaws.{counted, OpenFits, scaled-accepted, level-open-is}
+use Rattle.integers.proofs.TestLaws.{neither}
 use Rattle.edited_history.specs.History.{Edit, otherWay, byEdit, limitsTo, answerTo, valuesAfter, answersTo, historyOf, coefficientsOf}
 use Rattle.edited_history.specs.Run.{uncounted, heldOpened, besides, heldEdited, Ran, ranFrom, ran, openedOn, historyAfter, EditsFollowHistory}
 use Rattle.edited_history.proofs.AgreesLaws.{after-agrees, fits-now, agrees-history}

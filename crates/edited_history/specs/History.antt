@@ -1,4 +1,4 @@
--- What a list of edits has to give (document 01: the bench sheet; document 02, R-9). It is fed what the opening got and each edit's row, column and
+-- What a list of edits has to give (docs/RULES.md, "The history of edits"). It is fed what the opening got and each edit's row, column and
 -- value, and whether the value is a level; no answers, nothing from the record. It holds values: coefficients, or levels where the opening was on levels.
 --   Edit                 row, column and value of one edit, and whether it is of a level
 --   byEdit               one of four: refused with 10, with 8, with 9 or 19, or accepted
@@ -22,9 +22,9 @@ use Rattle.refusal.specs.declared.Refusal.the-variants.{PlaceOutside, WayMismat
 use Rattle.refusal.specs.Outcome.{Outcome, accepted, refused}
 use Rattle.transform_1d.specs.MatrixOf.{matrixOf}
 use Rattle.coefficients.specs.Outside.{outsideRefusal}
-use Rattle.edited_block.specs.Opening.{Opening, rangeOf}
-use Rattle.level_block.specs.declared.Limits.{Limits}
-use Rattle.level_block.specs.Level.{listOf, limitsBy, noLimits}
+use Rattle.block_rules.specs.Opening.{Opening, rangeOf}
+use Rattle.block_rules.specs.declared.Limits.{Limits}
+use Rattle.block_rules.specs.Level.{listOf, limitsBy, noLimits}
 
 pub record Edit : Type 0 where
   pub row : ℕ

@@ -15,12 +15,12 @@ use Prim.Native.Nat.{ℕ, _*_, _/_, _%_, _<_}
 use lib.IntN.{ℤ, pos}
 use lib.ListN.{length, getD, take, drop}
 use Rattle.refusal.specs.Outcome.{Outcome}
-use Rattle.edited_block.specs.declared.EditedBlock.{EditedBlock}
-use Rattle.edited_block.specs.Columns.{columnCount}
-use Rattle.edited_block.specs.Edit.{Buffers, Left, edited}
-use Rattle.edited_block.specs.Opening.{Opening, openedAs, blockOf}
-use Rattle.level_block.specs.declared.Limits.{Limits}
-use Rattle.level_block.specs.Level.{LevelLeft, OpenLeft, noLimits, levelEdited, levelOpened}
+use Rattle.block_rules.specs.declared.EditedBlock.{EditedBlock}
+use Rattle.block_rules.specs.Columns.{columnCount}
+use Rattle.block_rules.specs.Edit.{Buffers, Left, edited}
+use Rattle.block_rules.specs.Opening.{Opening, openedAs, blockOf}
+use Rattle.block_rules.specs.declared.Limits.{Limits}
+use Rattle.block_rules.specs.Level.{LevelLeft, OpenLeft, noLimits, levelEdited, levelOpened}
 use Rattle.edited_history.specs.History.{Edit, answersTo, historyOf, coefficientsOf, historyIntermediate, historyResidual}
 
 -- an outcome with another value

@@ -1,11 +1,10 @@
 -- An opening and a list of edits: after an opening that answered 0 the run is the history's, and after a refused one nothing was done.
 --   ran-is-history     the run as the history gives it, in one equation
---   runs-none, runs-all   the edits after an opening that was refused, and after one that was not
 --   lists-after        an opening and the edits after it are what the call is to hand back
 use mathlib.Core.Path.{_≡_, refl, sym, ap, ap₂, subst, _∙_}
 use mathlib.Core.Bool.{Bool, true, false, _||_, cond}
 use mathlib.Core.List.{List, [], _∷_, _++_}
-use Prim.Native.Nat.{ℕ, suc, _*_, _≤_, min}
+use Prim.Native.Nat.{ℕ, _*_}
 use native.Mathlib.Omega.{arith}
 use borrow.Author.Tests.{ne-eqb}
 use lib.Dec.{eqb, ltb}
@@ -21,20 +20,21 @@ use Rattle.refusal.proofs.RefusalLaws.{number-least}
 use Rattle.refusal.proofs.LadderLaws.{Rung, first-both}
 use Rattle.refusal.proofs.LadderLaws.Rung.{rung}
 use Rattle.coefficients.specs.Outside.{firstOutside, refusalAt}
-use Rattle.edited_block.specs.declared.EditedBlock.{EditedBlock}
-use Rattle.edited_block.specs.Columns.{columnCount}
+use Rattle.block_rules.specs.declared.EditedBlock.{EditedBlock}
+use Rattle.block_rules.specs.Columns.{columnCount}
 use Rattle.transform_1d.specs.Kinds.{dstRefused}
-use Rattle.edited_block.specs.Edit.{Buffers, Left, buffers, zeroBlock, blockLadder, stopped, openedBuffers, opened, Opens}
-use Rattle.edited_block.specs.Opening.{Opening, rangeOf, openedAs, blockOf}
+use Rattle.block_rules.specs.Edit.{Buffers, Left, buffers, zeroBlock, blockLadder, stopped, openedBuffers, opened, Opens}
+use Rattle.block_rules.specs.Opening.{Opening, rangeOf, openedAs, blockOf}
 use Rattle.scaling_blocks.specs.declared.CountAnswer.{CountAnswer}
 use Rattle.scaling_blocks.specs.declared.CountAnswer.the-variants.{Limited, Refused}
 use Rattle.scaling_blocks.specs.Blocks.{entriesOf, countOutcome}
-use Rattle.level_block.specs.Level.{listOf, LevelLeft, OpenLeft, openStopped, levelLadder, levelOpened, LevelOpens}
+use Rattle.block_rules.specs.Level.{listOf, OpenLeft, openStopped, levelLadder, levelOpened, LevelOpens}
 use Rattle.edited_history.specs.History.{Edit}
-use Rattle.edited_history.specs.Run.{valued, uncounted, Ran, heldOpened, heldEdited, ranFrom, ran}
+use Rattle.edited_history.specs.Run.{valued, uncounted, Ran, heldOpened, ranFrom, ran}
 use Rattle.edited_history.proofs.HistoryLaws.{edits-follow-history}
-use Rattle.edited_list.specs.declared.Listed.{Listed}
-use Rattle.edited_list.specs.Listed.{Slices, put, historyRan, listed, editCount, ranAfter, Lists, ListAsk, RunsFrom, RunsAfter}
+use Rattle.edited_steps.specs.declared.Listed.{Listed}
+use Rattle.edited_steps.specs.Steps.{Slices, put, ranAfter, RunsAfter}
+use Rattle.edited_list.specs.Listed.{historyRan, listed, Lists}
 
 -- a list by its first k elements and the others
 halves : {A : Type 0} (k : ℕ) (xs ys zs : List A) → take k xs ≡ ys → drop k xs ≡ zs → xs ≡ ys ++ zs
@@ -49,38 +49,6 @@ ran-is-history o levels lent es e =
     let g = halves k _ _ _ (f .inter) (f .past-inter) in
     let r = halves k _ _ _ (f .res) (f .past-res) in
     λ i. record { answers = f .answers i; block = f .block i; levels = f .levels-are i; buffers = record { coeff = d i; inter = g i; res = r i } }
-
--- a run answers every edit
-ran-length : (es : List Edit) (block : EditedBlock) (levels : List ℤ) (lent : Buffers) → length (ranFrom block levels lent es .answers) ≡ length es
-unfolding ranFrom
-ran-length [] block levels lent = refl
-ran-length (e ∷ es) block levels lent =
-    let h : LevelLeft = heldEdited block levels lent e in
-    ap suc (ran-length es (h .block) (h .levels) (h .buffers))
-
--- ---- how many edits
-below : (a b : ℕ) → (min a b ≤ a) × (min a b ≤ b)
-below a b = (omega arith, omega arith)
-
-four : (x a b c d : ℕ) → x ≤ min (min a b) (min c d) → (x ≤ a) × (x ≤ b) × (x ≤ c) × (x ≤ d)
-four x a b c d h = (omega (arith, h), omega (arith, h), omega (arith, h), omega (arith, h))
-
-pub count-ask : (rows columns values ways : ℕ) (s : Slices) → ListAsk (editCount rows columns values ways s) rows columns values ways s
-unfolding editCount
-count-ask rows columns values ways s =
-    let both = below (min (min rows columns) (min values ways)) (min (min (length (s .numbers)) (length (s .named))) (min (length (s .across)) (length (s .limits)))) in
-    let given = four _ rows columns values ways (both .0) in
-    let told = four _ (length (s .numbers)) (length (s .named)) (length (s .across)) (length (s .limits)) (both .1) in
-    record {
-      rows-long = given .0;
-      columns-long = given .1;
-      values-long = given .2;
-      ways-long = given .3;
-      numbers-long = told .0;
-      named-long = told .1;
-      across-long = told .2;
-      limits-long = told .3;
-    }
 
 -- ---- a refused opening
 -- the record is zeros and the buffers are as lent
@@ -182,19 +150,3 @@ module _ (o : Opening) (levels : List ℤ) (lent : Buffers) (es : List Edit) whe
         buffers = run .buffers-are ∙ ap (λ (x : Ran). x .buffers) is;
         told-are = run .told-are ∙ ap (λ (x : Ran). put s 0 (x .answers)) is;
       }
-
--- ---- the edits after an opening, by its answer
-module _ (block : EditedBlock) (levels : List ℤ) (lent : Buffers) (es : List Edit) (s : Slices) where
-  pub runs-none : (given : CountAnswer) (why : Refusal) → given ≡ Refused why
-      → RunsAfter given block levels lent es s (record { answer = Refused why; block = block; edits = 0 }) levels (lent .coeff) (lent .inter) (lent .res) s
-  runs-none given why told = subst (λ (a : CountAnswer). RunsAfter a block levels lent es s (record { answer = Refused why; block = block; edits = 0 }) levels (lent .coeff) (lent .inter) (lent .res) s) (sym told) none
-    where
-      none : RunsAfter (Refused why) block levels lent es s (record { answer = Refused why; block = block; edits = 0 }) levels (lent .coeff) (lent .inter) (lent .res) s
-      none = unfold ranAfter in record { answered = refl; edits = refl; runs = record { block-is = refl; levels-are = refl; buffers-are = refl; told-are = refl } }
-
-  pub runs-all : (given : CountAnswer) (k count : ℕ) (last : EditedBlock) (ls d g e : List ℤ) (told : Slices) → given ≡ Limited k → count ≡ length es → RunsFrom (ranFrom block levels lent es) s last ls d g e told
-      → RunsAfter given block levels lent es s (record { answer = given; block = last; edits = count }) ls d g e told
-  runs-all given k count last ls d g e told limited made w = subst (λ (a : CountAnswer). RunsAfter a block levels lent es s (record { answer = a; block = last; edits = count }) ls d g e told) (sym limited) all
-    where
-      all : RunsAfter (Limited k) block levels lent es s (record { answer = Limited k; block = last; edits = count }) ls d g e told
-      all = unfold ranAfter in record { answered = refl; edits = made ∙ sym (ran-length es block levels lent); runs = w }

@@ -2,37 +2,23 @@
 --   feedWalk                    what a record of the feed does, the last line, and the bytes that its text may take
 --   Answered                    the answer to a record is that of its effect
 --   feed-refused, feed-passed   after a record, by the number of its answer
-use mathlib.Core.Path.{_≡_, refl, sym, ap, _∙_}
-use mathlib.Core.Bool.{true, true≢false}
+use mathlib.Core.Path.{_≡_, sym, ap, _∙_}
 use mathlib.Core.List.{List}
 use Prim.Native.Nat.{ℕ}
 use borrow.Author.Tests.{ne-eqb}
 use Rattle.refusal.specs.declared.Answer.{Answer}
 use Rattle.refusal.specs.Outcome.{Outcome, answer}
 use Rattle.text.proofs.WroteLaws.{Left}
-use Rattle.feed_block.specs.declared.Kind.{Kind}
-use Rattle.feed_block.specs.declared.Kind.the-variants.{Parameters, List as ListKind, NoList, Levels, Edit, Reading, Unknown}
-use Rattle.feed_block.specs.declared.State.{State}
-use Rattle.feed_block.specs.Format.{kindOf, textRoom, recordRoom}
-use Rattle.feed_records.specs.Record.{FeedState, Effect, isUnknown, recordEffect}
-use Rattle.feed_records.specs.Buffers.{Lent, Buffered, inBuffers}
-use Rattle.feed_records.specs.Taken.{stateOf, answerOf}
-use Rattle.feed_records.proofs.EffectLaws.{effect-moved}
-use Rattle.feed.specs.Feed.{refusedText, lastLine}
-use Rattle.feed.proofs.WalkLaws.{Walk, walkText, Going, effectAt, Turn, Passed, passed, going-refused}
-
-unknown-none : (kind : Kind) → isUnknown kind ≡ true → textRoom kind ≡ 0
-unknown-none Parameters e = refl
-unknown-none ListKind e = refl
-unknown-none NoList e = refl
-unknown-none (Levels n) e = absurd (true≢false (sym e))
-unknown-none Edit e = refl
-unknown-none Reading e = absurd (true≢false (sym e))
-unknown-none Unknown e = refl
-
-pub unknown-room : (k : ℕ) → isUnknown (kindOf k) ≡ true → recordRoom k ≡ 0
-unfolding recordRoom
-unknown-room k e = unknown-none (kindOf k) e
+use Rattle.feed_format.specs.Format.{recordRoom}
+use Rattle.feed_format.proofs.FormatLaws.{unknown-room}
+use Rattle.feed_lines.specs.Lines.{refusedText}
+use Rattle.feed_rules.specs.Record.{Effect, recordEffect}
+use Rattle.feed_rules.specs.Feed.{lastLine}
+use Rattle.feed_rules.proofs.EffectLaws.{effect-moved}
+use Rattle.feed_state.specs.declared.State.{State}
+use Rattle.feed_state.specs.Buffers.{Lent, Buffered, inBuffers}
+use Rattle.feed_state.specs.Taken.{stateOf, answerOf}
+use Rattle.feed_history.proofs.WalkLaws.{Walk, walkText, Going, effectAt, Turn, Passed, passed, going-refused}
 
 abbrev pub feedWalk : Walk
 feedWalk = record { effect = recordEffect inBuffers; last = lastLine; asks = recordRoom; asks-none = unknown-room; moves = effect-moved inBuffers }

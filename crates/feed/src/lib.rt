@@ -1,21 +1,21 @@
 // The feed: records of parameters, lists, levels, edits and readings in, rows of residuals as text out. On slices; `feed_main` is the program.
 use refusal::Refusal;
 
-mod line_text;
 mod stream;
 
-pub use feed_block::Given;
-pub use feed_block::Mode;
-pub use feed_block::Parameters;
-pub use feed_block::State;
-pub use feed_block::block::list_ignored;
-pub use feed_block::format::record_length;
-pub use feed_block::format::record_room;
-pub use line_text::blocks_line;
-pub use line_text::refusal_line;
-pub use stream::feed_room;
+pub use feed_format::Given;
+pub use feed_format::Mode;
+pub use feed_format::Parameters;
+pub use feed_format::feed_room;
+pub use feed_format::list_ignored;
+pub use feed_format::record_length;
+pub use feed_format::record_room;
+pub use feed_lines::Line;
+pub use feed_lines::blocks_line;
+pub use feed_lines::refusal_line;
+pub use feed_state::State;
+pub use feed_state::start;
 pub use stream::run;
-pub use stream::start;
 pub use stream::step;
 
 pub enum StepAnswer {
@@ -35,10 +35,4 @@ pub struct Stepped {
 pub enum Ran {
     Text(usize),
     NoRoom,
-}
-
-// One line of text: the first `end` bytes.
-pub struct Line {
-    pub bytes: [u8; 40],
-    pub end: usize,
 }

@@ -1,40 +1,22 @@
-// A feed's stream of records: where it begins, one record, and a whole input.
+// A feed's stream of records: one record, and a whole input.
 ghost use mathlib.Core.Path.{_≡_};
 ghost use mathlib.Core.Bool.{_||_};
-ghost use Prim.Native.Nat.{_+_, min, _≤_};
+ghost use Prim.Native.Nat.{_≤_};
 ghost use lib.Dec.{ltb};
 ghost use lib.ListN.{length};
 ghost use Rattle.refusal.specs.Outcome.{answer as answer·spec};
 ghost use Rattle.text.specs.Text.{Wrote, Counts};
-ghost use Rattle.feed_records.specs.Buffers.{Lent, lent};
-ghost use Rattle.feed_records.specs.Taken.{stateOf};
-ghost use Rattle.feed.specs.Feed.{beginning, feedText};
-ghost use Rattle.feed.specs.Answers.{feedRoom, stepping, Steps, Runs};
-ghost use Rattle.feed.specs.Steps.{closed};
+ghost use Rattle.feed_format.specs.Room.{feedRoom};
+ghost use Rattle.feed_rules.specs.Feed.{feedText};
+ghost use Rattle.feed_state.specs.Buffers.{lent};
+ghost use Rattle.feed_state.specs.Taken.{stateOf};
+ghost use Rattle.feed_history.specs.Stepping.{stepping};
+ghost use Rattle.feed.specs.Answers.{Steps, Runs};
 use crate::Ran;
 use crate::StepAnswer;
 use crate::Stepped;
-use crate::line_text;
-use feed_block::Given;
-use feed_block::State;
-use feed_block::format;
+use feed_state::State;
 use refusal::Answer;
-
-// The state before the first record.
-pub fn start() -> State
-    ensures { λ r. ⌜ ((w : Lent) → stateOf r w ≡ beginning (closed w)) ⌝ }
-{
-    State {
-        given: Given::Nothing,
-        listed: false,
-        entries: [0u8; 64],
-        dc: 0,
-        editing: false,
-        block: edited_block::zero_block(),
-        blocks: 0,
-        offset: 0,
-    }
-}
 
 // Whether a buffer of the open block has no room for the largest block.
 fn too_short(levels: usize, coeff: usize, inter: usize, residual: usize) -> bool
@@ -68,7 +50,7 @@ pub fn step(
 ) -> Stepped
     ensures { λ r. ⌜ Steps state r (lent (now (levels .exit)) (now (coeff .exit)) (now (inter .exit)) (now (residual .exit))) (now (out .entry)) (now (out .exit)) (stepping (stateOf state (lent (now (levels .entry)) (now (coeff .entry)) (now (inter .entry)) (now (residual .entry)))) kind (now (body .entry)) (length (now (out .entry)))) ⌝ }
 {
-    if out.len() < format::record_room(kind) {
+    if out.len() < feed_format::record_room(kind) {
         return Stepped {
             answer: StepAnswer::NoRoom,
             state,
@@ -110,12 +92,6 @@ pub fn step(
     }
 }
 
-fn least(a: usize, b: usize) -> usize
-    ensures { λ r. ⌜ r ≡ min a b ⌝ }
-{
-    if a < b { a } else { b }
-}
-
 fn number_of(answer: Answer) -> u8
     ensures { λ r. ⌜ r ≡ answer·spec answer .number ⌝ }
 {
@@ -123,34 +99,6 @@ fn number_of(answer: Answer) -> u8
         Answer::Done => 0,
         Answer::Refused(why) => refusal::number(why),
     }
-}
-
-// A sum that stops before it would wrap.
-fn capped_sum(a: usize, b: usize) -> usize
-    ensures { λ r. ⌜ r ≡ min (a + b) 18446744073709551615 ⌝ }
-{
-    if b < usize::MAX - a {
-        a + b
-    } else {
-        usize::MAX
-    }
-}
-
-// How many bytes the text of a whole feed may take, by its kinds; more than any buffer has where that passes 64 bits.
-pub fn feed_room(input: &[u8]) -> usize
-    ensures { λ r. ⌜ r ≡ min (feedRoom (now (input .entry))) 18446744073709551615 ⌝ }
-{
-    let mut room = 0;
-    let mut at = 0;
-    while at < input.len() {
-        let kind = input[at];
-        if feed_records::is_unknown(format::kind_of(kind)) {
-            return capped_sum(room, 40);
-        }
-        room = capped_sum(room, format::record_room(kind));
-        at = least(at + 1 + format::record_length(kind), input.len());
-    }
-    capped_sum(room, 40)
 }
 
 // The text of a whole feed, where there is room for it.
@@ -162,13 +110,13 @@ fn run_within(input: &[u8], out: &mut [u8]) -> usize
     let mut coeff = [0i32; 1024];
     let mut inter = [0i32; 1024];
     let mut residual = [0i32; 1024];
-    let mut state = start();
+    let mut state = feed_state::start();
     let mut end = 0;
     while (state.offset as usize) < input.len() {
         let at = state.offset as usize;
         let kind = input[at];
         let from = at + 1;
-        let stop = least(from + format::record_length(kind), input.len());
+        let stop = feed_format::least(from + feed_format::record_length(kind), input.len());
         let taken = feed_records::take_record(
             state,
             kind,
@@ -184,14 +132,14 @@ fn run_within(input: &[u8], out: &mut [u8]) -> usize
         let number = number_of(answer);
         let reached = taken.end;
         if number != 0 {
-            return line_text::put_refused(number, state.offset, out, reached);
+            return feed_lines::put_refused(number, state.offset, out, reached);
         }
         let next = taken.state;
         state = next;
         end = reached;
     }
     let blocks = state.blocks;
-    line_text::put_blocks(blocks, out, end)
+    feed_lines::put_blocks(blocks, out, end)
 }
 
 // The text of a whole feed at the start of `out`: the rows of its blocks, each with the count of its limited coefficients, its readings, then the line of
@@ -199,7 +147,7 @@ fn run_within(input: &[u8], out: &mut [u8]) -> usize
 pub fn run(input: &[u8], out: &mut [u8]) -> Ran
     ensures { λ r. ⌜ Runs r (now (out .entry)) (now (out .exit)) (now (input .entry)) ⌝ }
 {
-    if out.len() < feed_room(input) {
+    if out.len() < feed_format::feed_room(input) {
         return Ran::NoRoom;
     }
     Ran::Text(run_within(input, out))

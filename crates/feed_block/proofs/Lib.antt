@@ -1,5 +1,3 @@
--- Laws of the format and of blocks; each file builds only on those above it.
-pub mod BufferLaws
-pub mod FormatLaws
+-- Laws of blocks; each file builds only on those above it.
 pub mod ScaleLaws
 pub mod OpenLaws

@@ -25,18 +25,18 @@ use Rattle.transform_1d.specs.declared.Kind.{Kind}
 use Rattle.transform_1d.specs.declared.Kind.the-variants.{Dct as DctKind, Dst as DstKind}
 use Rattle.transform_1d.specs.Kinds as kinds
 use Rattle.transform_1d.specs.MatrixOf.{matrixOf}
-use Rattle.edited_block.specs.Edit.{Buffers}
-use Rattle.edited_block.specs.Opening.{Opening}
-use Rattle.level_block.specs.Level.{listOf, OpenLeft, levelOpened, LevelOpens}
-use Rattle.level_block.proofs.LevelOpeningLaws.{OpenFits, level-open-is}
+use Rattle.block_rules.specs.Edit.{Buffers}
+use Rattle.block_rules.specs.Opening.{Opening}
+use Rattle.block_rules.specs.Level.{listOf, OpenLeft, levelOpened, LevelOpens}
+use Rattle.block_laws.proofs.LevelOpeningLaws.{OpenFits, level-open-is}
 use Rattle.edited_history.specs.History.{historyOf, coefficientsOf, historyResidual}
 use Rattle.edited_history.specs.Run.{heldOpened, ran, ranFrom, openedOn, historyAfter}
 use Rattle.edited_history.proofs.HistoryLaws.{edits-follow-history}
 use Rattle.feed_block.specs.declared.BlockOpened.{BlockOpened}
-use Rattle.feed_block.specs.declared.Mode.{Mode}
-use Rattle.feed_block.specs.declared.Parameters.{Parameters}
-use Rattle.feed_block.specs.Format.{levelAt, levelsOf}
-use Rattle.feed_block.specs.Block.{dstRefused, listIgnored, listFor, coefficients, transformedAt, residualBy, residualAt, blockResidual, blockLimited, modeOfKind, openingOf}
+use Rattle.feed_format.specs.declared.Mode.{Mode}
+use Rattle.feed_format.specs.declared.Parameters.{Parameters}
+use Rattle.feed_format.specs.Format.{levelAt, levelsOf, dstRefused, listIgnored}
+use Rattle.feed_rules.specs.Block.{listFor, coefficients, transformedAt, residualBy, residualAt, blockResidual, blockLimited, modeOfKind, openingOf}
 use Rattle.feed_block.specs.Work.{Accepted, OpensBlock}
 use Rattle.feed_block.proofs.ScaleLaws.{size-ok, block-ok}
 

@@ -25,11 +25,12 @@ use Rattle.h265.specs.Limited.{limitedCount}
 use Rattle.h265.proofs.RangeLaws.{clipCoeff-between}
 use Rattle.refusal.specs.Outcome.{Outcome}
 use Rattle.refusal.specs.Condition.{sizeRefused, depthRefused, listRefused, blockRefused}
-use Rattle.scaling_blocks.specs.Blocks.{bits32, entriesOf, blockLadder, blockWritten, dequantized, transformSkipped, countOutcome, CountWritten, CountWrites, counted}
+use Rattle.scaling_blocks.specs.Blocks.{bits32, entriesOf, scalingLadder, blockWritten, dequantized, transformSkipped, countOutcome, CountWritten, CountWrites, counted}
 use Rattle.scaling_blocks.specs.declared.CountAnswer.{CountAnswer}
-use Rattle.feed_block.specs.declared.Mode.{Mode}
-use Rattle.feed_block.specs.declared.Parameters.{Parameters}
-use Rattle.feed_block.specs.Block.{listIgnored, listFor, coefficients, listIn}
+use Rattle.feed_format.specs.declared.Mode.{Mode}
+use Rattle.feed_format.specs.declared.Parameters.{Parameters}
+use Rattle.feed_format.specs.Format.{listIgnored}
+use Rattle.feed_rules.specs.Block.{listFor, coefficients, listIn}
 use Rattle.feed_block.specs.Work.{Leaves}
 
 pub list-used : {t : Bool} (mode : Mode) (n : ℕ) (x : Bool) (entries : List ℕ) (d : ℕ) → t ≡ not (listIgnored mode n) && x
@@ -62,7 +63,7 @@ module _ (list : ScalingList) (n : ℕ) (q : ℤ) (b : ℕ) (x : Bool) (levels o
     (size : T (isSize n)) (depth : depthRefused b ≡ false) (entries : entriesOf list ≡ 64)
     (input : n * n ≤ length levels) (output : n * n ≤ length out) where
   done : (at : ℕ → ℤ) → blockWritten bits32 list n q b x levels out at ≡ counted (limitedCount list n b x q levels) (overwrite (n * n) at out)
-  unfolding blockWritten blockLadder
+  unfolding blockWritten scalingLadder
   done at = simp (size-ok n size, depth, list-ok (entriesOf list) entries, block-ok n (length levels) input, block-ok n (length out) output)
 
   leaves : {r : CountAnswer} {after : List ℤ} {m : ℕ} (at : ℕ → ℤ) → CountWrites r after (blockWritten bits32 list n q b x levels out at) → m ≡ countOutcome r .value

@@ -1,3 +1,1 @@
-pub mod Format
-pub mod Block
 pub mod Work

@@ -7,16 +7,15 @@ ghost use lib.ListN.{length};
 ghost use Rattle.h265.specs.TransformSkip.{skippedAt};
 ghost use Rattle.h265.specs.Limited.{limitedCount};
 ghost use Rattle.scaling_blocks.specs.Blocks.{entriesOf, countOutcome};
-ghost use Rattle.edited_block.specs.Edit.{buffers};
-ghost use Rattle.level_block.specs.Level.{levelOpened, LevelOpens};
-ghost use Rattle.feed_block.specs.Format.{levelsOf};
-ghost use Rattle.feed_block.specs.Block.{listIgnored, listFor, residualAt, blockLimited, listIn, modeOfKind, openingOf};
+ghost use Rattle.block_rules.specs.Edit.{buffers};
+ghost use Rattle.block_rules.specs.Level.{levelOpened, LevelOpens};
+ghost use Rattle.feed_format.specs.Format.{listIgnored, levelsOf};
+ghost use Rattle.feed_rules.specs.Block.{listFor, residualAt, blockLimited, listIn, modeOfKind, openingOf};
 ghost use Rattle.feed_block.specs.Work.{Accepted, Leaves, OpensBlock};
 use crate::BlockOpened;
-use crate::Mode;
-use crate::Parameters;
-use crate::State;
-use crate::values;
+use feed_format::Mode;
+use feed_format::Parameters;
+use feed_state::State;
 use level_block::LevelsOpened;
 use parameters::QpPrime;
 use scaling_blocks::CountAnswer;
@@ -27,22 +26,11 @@ fn signed(byte: u8) -> i32
     byte as i32
 }
 
-// Whether a block of this mode and size is scaled without a list, though one may be in force.
-pub fn list_ignored(mode: Mode, n: usize) -> bool
-    ensures { λ r. ⌜ r ≡ listIgnored mode n ⌝ }
-{
-    match mode {
-        Mode::Dct => false,
-        Mode::Dst => false,
-        Mode::Skip => 4 < n,
-    }
-}
-
 // Whether a block is scaled by the list.
 fn uses_list(listed: bool, mode: Mode, n: usize) -> bool
     ensures { λ r. ⌜ r ≡ not (listIgnored mode n) && listed ⌝ }
 {
-    if list_ignored(mode, n) {
+    if feed_format::list_ignored(mode, n) {
         return false;
     }
     listed
@@ -100,7 +88,7 @@ pub fn skip_body(s: State, p: Parameters, n: usize, body: &[u8], out: &mut [i32]
 {
     let mut levels = [0i32; 1024];
     let count = n * n;
-    values::read_levels(body, count, &mut levels);
+    feed_format::read_levels(body, count, &mut levels);
     skip(s, p, n, &levels[..count], out)
 }
 
@@ -166,7 +154,7 @@ pub fn open_body(
     ensures { λ r. ⌜ OpensBlock (listIn (s .listed) (s .entries) (s .dc)) p kind n (now (body .entry)) (now (levels .entry)) (buffers (now (coeff .entry)) (now (inter .entry)) (now (residual .entry))) r (now (levels .exit)) (now (coeff .exit)) (now (inter .exit)) (now (residual .exit)) ⌝ }
 {
     let count = n * n;
-    values::read_levels(body, count, levels);
+    feed_format::read_levels(body, count, levels);
     let opened = open_by(s, p, kind, n, levels, coeff, inter, residual);
     let answer = opened.answer;
     let block = opened.block;

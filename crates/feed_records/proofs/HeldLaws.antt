@@ -22,31 +22,33 @@ use Rattle.refusal.specs.Outcome.{Outcome, accepted, refused}
 use Rattle.refusal.proofs.RefusalLaws.{number-least}
 use Rattle.transform_1d.specs.declared.Kind.{Kind}
 use Rattle.transform_1d.specs.declared.Kind.the-variants.{Dct, Dst}
-use Rattle.edited_block.specs.declared.EditedBlock.{EditedBlock}
-use Rattle.edited_block.specs.Edit as edit
-use Rattle.level_block.specs.declared.Limits.{Limits}
-use Rattle.level_block.specs.declared.LimitsAnswer.{LimitsAnswer}
-use Rattle.level_block.specs.declared.LimitsAnswer.the-variants.{Done as EditDone, Refused as EditRefused}
-use Rattle.level_block.specs.Level.{LevelLeft, noLimits, limitsOutcome, levelEdited, LevelEdits}
+use Rattle.block_rules.specs.declared.EditedBlock.{EditedBlock}
+use Rattle.block_rules.specs.Edit as edit
+use Rattle.block_rules.specs.declared.Limits.{Limits}
+use Rattle.block_rules.specs.declared.LimitsAnswer.{LimitsAnswer}
+use Rattle.block_rules.specs.declared.LimitsAnswer.the-variants.{Done as EditDone, Refused as EditRefused}
+use Rattle.block_rules.specs.Level.{LevelLeft, noLimits, limitsOutcome, levelEdited, LevelEdits}
 use Rattle.edited_history.specs.Run.{heldEdited}
 use Rattle.edited_history.proofs.EditLaws.{refused-edits-alter-nothing}
 use Rattle.text.specs.Text.{blockText, WroteUpTo}
+use Rattle.feed_records.specs.Work.{Skips}
+use Rattle.feed_lines.specs.Lines.{limitedText, columnsText}
 use Rattle.feed_block.specs.declared.BlockOpened.{BlockOpened}
-use Rattle.feed_block.specs.declared.Kind.the-variants.{Levels, Reading}
-use Rattle.feed_block.specs.declared.Given.the-variants.{These}
-use Rattle.feed_block.specs.declared.Mode.{Mode}
-use Rattle.feed_block.specs.declared.Mode.the-variants.{Skip}
-use Rattle.feed_block.specs.declared.Parameters.{Parameters}
-use Rattle.feed_block.specs.declared.State.{State}
-use Rattle.feed_block.specs.Format.{textRoom, levelsOf, editRow, editColumn, editLevel}
-use Rattle.feed_block.specs.Block.{listIn, residualAt, blockResidual, blockLimited, modeOfKind}
+use Rattle.feed_format.specs.declared.Kind.the-variants.{Levels, Reading}
+use Rattle.feed_format.specs.declared.Given.the-variants.{These}
+use Rattle.feed_format.specs.declared.Mode.{Mode}
+use Rattle.feed_format.specs.declared.Mode.the-variants.{Skip}
+use Rattle.feed_format.specs.declared.Parameters.{Parameters}
+use Rattle.feed_state.specs.declared.State.{State}
+use Rattle.feed_format.specs.Format.{textRoom, levelsOf, editRow, editColumn, editLevel}
+use Rattle.feed_rules.specs.Block.{listIn, residualAt, blockResidual, blockLimited, modeOfKind}
 use Rattle.feed_block.specs.Work.{Accepted, Leaves, OpensBlock}
-use Rattle.feed_records.specs.declared.Taken.{Taken}
-use Rattle.feed_records.specs.Record.{FeedState, Effect, unchanged, limitedText, columnsText, blockAfter, counted, levelsBy, editEffect, readingEffect}
-use Rattle.feed_records.specs.Buffers.{Lent, lent, Buffered, closedIn, openedIn, editedIn, readText, readIn, inBuffers}
-use Rattle.feed_records.specs.Buffers.Held.{block as held-block}
-use Rattle.feed_records.specs.Taken.{stateOf, capped, Takes, Quiet, Skips}
-use Rattle.feed_records.proofs.StateLaws.{capped-offset, quiet-moved, block-takes}
+use Rattle.feed_state.specs.declared.Taken.{Taken}
+use Rattle.feed_rules.specs.Record.{FeedState, Effect, unchanged, blockAfter, counted, levelsBy, editEffect, readingEffect}
+use Rattle.feed_state.specs.Buffers.{Lent, lent, Buffered, closedIn, openedIn, editedIn, readText, readIn, inBuffers}
+use Rattle.feed_state.specs.Buffers.Held.{block as held-block}
+use Rattle.feed_state.specs.Taken.{stateOf, capped, Takes, Quiet}
+use Rattle.feed_state.proofs.StateLaws.{capped-offset, quiet-moved, block-takes}
 
 -- the state with an open block
 abbrev pub with-open : State → EditedBlock → ℕ → ℕ → State

@@ -1,4 +1,2 @@
--- Laws of records; each file builds only on those above it.
-pub mod StateLaws
-pub mod EffectLaws
+-- Laws of the open block.
 pub mod HeldLaws

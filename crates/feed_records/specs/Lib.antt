@@ -1,3 +1,1 @@
-pub mod Record
-pub mod Buffers
-pub mod Taken
+pub mod Work

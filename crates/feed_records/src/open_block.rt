@@ -1,48 +1,25 @@
 // The block that a feed holds open: opened by a levels record, edited, and read.
 ghost use mathlib.Core.Path.{_≡_};
-ghost use mathlib.Core.Bool.{true};
-ghost use Prim.Native.Nat.{_+_, _*_, min, _≤_};
+ghost use Prim.Native.Nat.{_+_, _*_, _≤_};
 ghost use lib.ListN.{length};
-ghost use Rattle.feed_block.specs.Format.{textRoom};
-ghost use Rattle.feed_block.specs.Block.{modeOfKind};
+ghost use Rattle.feed_format.specs.Format.{textRoom};
+ghost use Rattle.feed_rules.specs.Block.{modeOfKind};
+ghost use Rattle.feed_rules.specs.Record.{levelsBy, editEffect};
+ghost use Rattle.feed_state.specs.Buffers.{lent, inBuffers};
+ghost use Rattle.feed_state.specs.Taken.{stateOf, Ample, Takes, Quiet};
 ghost use Rattle.feed_block.specs.Work.{Accepted};
-ghost use Rattle.feed_records.specs.Record.{levelsBy, editEffect};
-ghost use Rattle.feed_records.specs.Buffers.{lent, inBuffers};
-ghost use Rattle.feed_records.specs.Taken.{stateOf, Ample, Takes, Quiet, Reads};
-use crate::Taken;
-use crate::line_text;
-use crate::records::behind;
-use crate::records::kept;
-use crate::records::moved;
-use crate::records::one_more;
-use crate::records::put_rows;
-use edited_block::EditedBlock;
-use feed_block::Given;
-use feed_block::Kind;
-use feed_block::Parameters;
-use feed_block::State;
-use feed_block::block;
-use feed_block::values;
+ghost use Rattle.feed_records.specs.Work.{Reads};
+use feed_format::Given;
+use feed_format::Kind;
+use feed_format::Parameters;
+use feed_state::State;
+use feed_state::Taken;
+use feed_state::kept;
+use feed_state::moved;
+use feed_state::one_more;
+use feed_state::with_open;
 use level_block::LimitsAnswer;
 use refusal::Refusal;
-
-// The state with an open block, behind a record with a body of this length.
-fn with_open(s: State, block: EditedBlock, blocks: u64, length: usize) -> State
-    ensures { λ r. ⌜ r ≡ record { given = s .given; listed = s .listed; entries = s .entries; dc = s .dc; editing = true; block = block; blocks = blocks; offset = min (s .offset + 1 + length) 18446744073709551615 } ⌝ }
-{
-    let given = s.given;
-    let entries = s.entries;
-    State {
-        given,
-        listed: s.listed,
-        entries,
-        dc: s.dc,
-        editing: true,
-        block,
-        blocks,
-        offset: behind(s.offset, length),
-    }
-}
 
 // A block by a transform, which stays open.
 pub(crate) fn take_opened(
@@ -64,10 +41,10 @@ pub(crate) fn take_opened(
     requires { ⌜ at + textRoom (Kind.Levels n) ≤ length (now out) ⌝ }
     ensures { λ r. ⌜ Takes s r (lent (now (levels .exit)) (now (coeff .exit)) (now (inter .exit)) (now (residual .exit))) (now (out .entry)) at (now (out .exit)) (levelsBy inBuffers (Given.These p) (stateOf s (lent (now (levels .entry)) (now (coeff .entry)) (now (inter .entry)) (now (residual .entry)))) n (now (body .entry))) (textRoom (Kind.Levels n)) ⌝ }
 {
-    let opened = block::open_body(s, p, kind, n, body, levels, coeff, inter, residual);
+    let opened = feed_block::open_body(s, p, kind, n, body, levels, coeff, inter, residual);
     let limited = opened.limited;
     let after = opened.block;
-    let end = put_rows(residual, n, limited, out, at);
+    let end = feed_lines::put_rows(residual, n, limited, out, at);
     moved(with_open(s, after, one_more(s.blocks), 4 * (n * n)), end)
 }
 
@@ -96,9 +73,9 @@ pub(crate) fn take_edit(
     }
     let row = index(body[0]);
     let column = index(body[1]);
-    let level = values::edit_level(body);
+    let level = feed_format::edit_level(body);
     let held = s.block;
-    let edited = edited_record::edit_level_by_value(
+    let edited = level_record::edit_level_by_value(
         held,
         levels,
         coeff,
@@ -132,8 +109,6 @@ pub(crate) fn take_reading(s: State, residual: &[i32], out: &mut [u8], at: usize
     if refusal::size_refused(n) {
         return kept(s, Refusal::SizeInvalid, at);
     }
-    let count = n * n;
-    let rows = text::put_block(&residual[..count], n, out, at);
-    let end = line_text::put_columns(columns, out, rows);
+    let end = feed_lines::put_reading(residual, n, columns, out, at);
     moved(with_open(s, held, s.blocks, 0), end)
 }

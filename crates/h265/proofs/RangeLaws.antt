@@ -23,6 +23,7 @@ use Rattle.integers.proofs.LinearLaws.{parts-add, parts-neg, le-out}
 use Rattle.integers.proofs.MachineLaws.{ltZ-false}
 use Rattle.integers.proofs.BoundLaws.{within-neg, within-pos, within-out}
 use Rattle.integers.proofs.ClipLaws.{clip3-between, clip3-id, clip3-within}
+use Rattle.integers.proofs.TestLaws.{neither}
 use Rattle.h265.specs.Range.{isSize, log2Size, transformRange, coeffMin, coeffMax, clipCoeff, outsideRange}
 
 either : (a b : Bool) (Q : Type 0) → (T a → Q) → (T b → Q) → T (a || b) → Q
@@ -42,6 +43,12 @@ size-bound n t = size-cases (λ m. (4 ≤ m) × (m ≤ 32)) (omega arith) (omega
 
 pub size-square : (n : ℕ) → T (isSize n) → n * n ≤ 1024
 size-square n t = mul-le-mul (size-bound n t .1) (size-bound n t .1)
+
+-- what is neither 4, 8 nor 16
+pub size-else : (n : ℕ) → T (isSize n) → (n ≡ 4 → ⊥) → (n ≡ 8 → ⊥) → (n ≡ 16 → ⊥) → n ≡ 32
+size-else n t =
+    size-cases (λ m. (m ≡ 4 → ⊥) → (m ≡ 8 → ⊥) → (m ≡ 16 → ⊥) → m ≡ 32)
+    (λ a b d. absurd (a refl)) (λ a b d. absurd (b refl)) (λ a b d. absurd (d refl)) (λ a b d. refl) n t
 
 pub log2Size-bound : (n : ℕ) → T (isSize n) → (2 ≤ log2Size n) × (log2Size n ≤ 5)
 unfolding log2Size
@@ -97,9 +104,11 @@ pub clipCoeff-id : (r : ℕ) (z : ℤ) → coeffMin r ≤ℤ z → z ≤ℤ coef
 unfolding clipCoeff
 clipCoeff-id r z h k = clip3-id (coeffMin r) (coeffMax r) z h k
 
-neither : (s t : Bool) → s || t ≡ false → (s ≡ false) × (t ≡ false)
-neither true t e = absurd (subst T e tt)
-neither false t e = (refl, e)
+pub clipCoeff-zero : (r : ℕ) → clipCoeff r (pos 0) ≡ pos 0
+unfolding coeffMin coeffMax
+clipCoeff-zero r =
+    clipCoeff-id r (pos 0) (le-out (negℤ (pos (2 ^ r))) (pos 0) (omega (arith, parts-neg (pos (2 ^ r)))))
+    (le-out (pos 0) (pos (2 ^ r) -ℤ pos 1) (omega (arith, parts-add (pos (2 ^ r)) (negℤ (pos 1)), pow-pos r)))
 
 pub outsideRange-false : (r : ℕ) (z : ℤ) → outsideRange r z ≡ false → (coeffMin r ≤ℤ z) × (z ≤ℤ coeffMax r)
 unfolding outsideRange

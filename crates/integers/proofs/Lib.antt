@@ -8,3 +8,4 @@ pub mod ShiftLaws
 pub mod SumLaws
 pub mod ListsLaws
 pub mod SearchLaws
+pub mod TestLaws

@@ -1,108 +1,22 @@
-// A block that is opened on levels and then changed one level at a time (document 02, R-9).
-ghost use mathlib.Core.Path.{_≡_};
-ghost use mathlib.Core.Bool.{Bool, cond};
-ghost use Prim.Native.Nat.{_*_, _<_, _≤_};
-ghost use lib.ListN.{length, take};
-ghost use Rattle.h265.specs.ScalingFactor.{scalingFactor};
-ghost use Rattle.refusal.specs.Condition.{sizeRefused, depthRefused};
-ghost use Rattle.edited_block.specs.Edit.{buffers, withColumns};
-ghost use Rattle.level_block.specs.Level.{listOf, Scaled, lookedAt, levelEdited, LevelEdits, onLevels, onScaledLevels, levelOpened, LevelOpens};
-use edited_block::EditedBlock;
-use edited_block::Source;
+// A block that is opened on levels and then changed one level at a time (change request R-9).
+ghost use Rattle.block_rules.specs.Edit.{buffers, withColumns};
+ghost use Rattle.block_rules.specs.Level.{levelEdited, LevelEdits, onLevels, onScaledLevels, levelOpened, LevelOpens};
+use block_rules::EditedBlock;
+pub use block_rules::LevelEdited;
+pub use block_rules::LevelEditedBlock;
+pub use block_rules::LevelsOpened;
+pub use block_rules::Limits;
+pub use block_rules::LimitsAnswer;
+use block_rules::Source;
+use level_work::coefficient_of;
+use level_work::entries_of;
+use level_work::looked_at;
+use level_work::refuse::level_refusal;
 use parameters::QpPrime;
 use refusal::Answer;
 use refusal::Refusal;
-use scaling::FactorAnswer;
-use scaling::LevelAnswer;
 use scaling_blocks::CountAnswer;
-use scaling_values::ScaledLevel;
 use transform_1d::Kind;
-
-mod refuse;
-
-use refuse::level_refusal;
-
-// Whether a level was limited, and after that its result.
-pub struct Limits {
-    pub level: bool,
-    pub result: bool,
-}
-
-// The answer to a level edit.
-pub enum LimitsAnswer {
-    Done(Limits),
-    Refused(Refusal),
-}
-
-// What a level edit answers, with the column count afterwards.
-pub struct LevelEdited {
-    pub answer: LimitsAnswer,
-    pub columns: usize,
-}
-
-// The same of an edit that takes the record by value, with the record afterwards.
-pub struct LevelEditedBlock {
-    pub answer: LimitsAnswer,
-    pub block: EditedBlock,
-}
-
-// What an opening on levels answers, how many coefficients were limited, and the record.
-pub struct LevelsOpened {
-    pub answer: CountAnswer,
-    pub block: EditedBlock,
-}
-
-// m at an index of a block, by its source.
-fn factor_of(source: Source, n: usize, index: usize) -> u8
-    requires { ⌜ (sizeRefused n ≡ Bool.false) × (index < n * n) ⌝ }
-    ensures { λ r. ⌜ r ≡ scalingFactor (listOf source) n index ⌝ }
-{
-    let listed = source.listed;
-    let dc = source.dc;
-    let entries = source.entries;
-    if listed {
-        let found = scaling::scaling_coeff(&entries, dc, n, index);
-        return match found {
-            FactorAnswer::Factor(m) => m,
-            FactorAnswer::Refused(_) => 0,
-        };
-    }
-    16
-}
-
-// The coefficient that a level at an index gives, and what was limited.
-fn coefficient_of(
-    source: Source,
-    n: usize,
-    bit_depth: u8,
-    extended_precision: bool,
-    index: usize,
-    level: i32,
-) -> ScaledLevel
-    requires { ⌜ (sizeRefused n ≡ Bool.false) × (depthRefused «bit_depth» ≡ Bool.false) × (index < n * n) ⌝ }
-    ensures { λ r. ⌜ Scaled r source n «bit_depth» «extended_precision» index level ⌝ }
-{
-    let m = factor_of(source, n, index);
-    let qp_prime = source.qp_prime;
-    let found = scaling::scale_level(level, m, n, qp_prime, bit_depth, extended_precision);
-    match found {
-        LevelAnswer::Level(scaled) => scaled,
-        LevelAnswer::Refused(_) => ScaledLevel {
-            value: 0,
-            level_limited: false,
-            result_limited: false,
-        },
-    }
-}
-
-fn looked_at(on: bool, levels: usize, coeff: usize) -> usize
-    ensures { λ r. ⌜ r ≡ lookedAt on levels coeff ⌝ }
-{
-    if on {
-        return levels;
-    }
-    coeff
-}
 
 // One level edit of a block whose record is given by value; the new column count is in the answer. It cannot meet 9 or 19: scaling limits.
 pub fn edit_level_core(
@@ -168,7 +82,7 @@ pub fn edit_level_core(
         depth: bit_depth,
         extended: extended_precision,
         columns,
-        source: edited_block::zero_source(),
+        source: block_rules::zero_source(),
     };
     let edited = edited_block::edit_core(plain, coeff, inter, residual, row, column, scaled.value);
     LevelEdited {
@@ -207,7 +121,7 @@ pub fn open_levels(
     if let Answer::Refused(why) = checked {
         return LevelsOpened {
             answer: CountAnswer::Refused(why),
-            block: edited_block::zero_block(),
+            block: block_rules::zero_block(),
         };
     }
     let counted = scaling_wide::dequantize_into_scalar_i32(
@@ -225,7 +139,7 @@ pub fn open_levels(
         dc: 0,
         entries: [0u8; 64],
     };
-    let opened = edited_block::open_from(
+    let opened = block_work::open_from(
         kind,
         n,
         bit_depth,
@@ -240,20 +154,6 @@ pub fn open_levels(
         answer: counted,
         block,
     }
-}
-
-// The entries of a list, for the record to keep.
-fn entries_of(list: &[u8]) -> [u8; 64]
-    requires { ⌜ length (now list) ≡ 64 ⌝ }
-    ensures { λ r. ⌜ r ≡ now (list .entry) ⌝ }
-{
-    let mut entries = [0u8; 64];
-    let mut i = 0;
-    while i < 64 {
-        entries[i] = list[i];
-        i += 1;
-    }
-    entries
 }
 
 // The same with a list, which the record keeps.
@@ -285,7 +185,7 @@ pub fn open_levels_scaled(
     if let Answer::Refused(why) = checked {
         return LevelsOpened {
             answer: CountAnswer::Refused(why),
-            block: edited_block::zero_block(),
+            block: block_rules::zero_block(),
         };
     }
     let counted = scaling_wide::dequantize_scaled_into_scalar_i32(
@@ -305,7 +205,7 @@ pub fn open_levels_scaled(
         dc,
         entries: entries_of(list),
     };
-    let opened = edited_block::open_from(
+    let opened = block_work::open_from(
         kind,
         n,
         bit_depth,

@@ -21,7 +21,7 @@ use Rattle.level_search.specs.Work.{scalingBy}
 use Rattle.edit_values.proofs.ValuesLaws.{passes-between}
 use Rattle.edit_search.specs.Found.{Found}
 use Rattle.edit_search.proofs.BetweenLaws.{test-has, has-test, convex}
-use Rattle.edit_search.proofs.FoundLaws.{room}
+use Rattle.refusal.proofs.ConditionLaws.{block-room}
 use Rattle.level_edits.specs.Levels.{scaledBlock, levelGives, leastLevelEdit, mostLevelEdit, levelEditsFound}
 use Rattle.level_edits.specs.Between.{LevelEditsLieBetween}
 use Rattle.level_edits.specs.Work.{scaledBy, givesBy}
@@ -40,7 +40,7 @@ module _ (list : ScalingList) (kind : Kind) (n : ℕ) (q : ℤ) (b : ℕ) (x : B
   inside = digits-lt hk hc
 
   long : n * n ≤ length levels
-  long = room n (length levels) (level-wrote list kind n q b x levels target wanted least most z .0 .1 .1 .1 .1 .0)
+  long = block-room n (length levels) (level-wrote list kind n q b x levels target wanted least most z .0 .1 .1 .1 .1 .0)
 
   ordered : (u v : ℤ) → u ≤ℤ v → scalingBy by list n i u ≤ℤ scalingBy by list n i v
   unfolding scalingBy

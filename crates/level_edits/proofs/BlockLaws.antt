@@ -35,11 +35,11 @@ use Rattle.level_search.specs.Work.{scalingBy}
 use Rattle.edit_values.specs.Values.{leastWhere, mostWhere}
 use Rattle.edit_values.proofs.OrderedLaws.{not-both}
 use Rattle.edit_blocks.specs.Edits.{hasTarget, editedResidual, givesTarget, leastEdit, mostEdit}
-use Rattle.edit_blocks.specs.Work.{EditsAsk}
-use Rattle.edit_blocks.proofs.TableLaws.{cell-index}
+use Rattle.edit_blocks.specs.Work.{EditsNeeds}
+use Rattle.edit_tables.proofs.TableLaws.{cell-index}
 use Rattle.edit_search.proofs.BetweenLaws.{gives-between}
 use Rattle.level_edits.specs.Levels.{scaledBlock, levelGives, leastLevelEdit, mostLevelEdit}
-use Rattle.level_edits.specs.Work.{scalesBetween, leastScaling, mostScaling, scaledBy, givesBy, leastLevelBy, mostLevelBy, LevelsAsk}
+use Rattle.level_edits.specs.Work.{scalesBetween, leastScaling, mostScaling, scaledBy, givesBy, leastLevelBy, mostLevelBy, LevelsNeeds}
 use Rattle.level_edits.proofs.PlaceLaws.{between-iff}
 
 same-test : (s t : Bool) → (s ≡ true → t ≡ true) → (t ≡ true → s ≡ true) → s ≡ t
@@ -137,15 +137,15 @@ module _ (n : ℕ) (t : T (isSize n)) (f : ℕ → ℤ) {xs : List ℤ} (e : xs 
   front-is = ap (take (n * n)) e ∙ overwrite-take (n * n) f zeros
 
 module _ (list : ScalingList) {by : DequantParams} {kind : Kind} {n b : ℕ} {x : Bool} {entries levels target wanted least most : ℕ}
-    (a : LevelsAsk by kind n b x entries levels target wanted least most) (given : List ℤ) {xs : List ℤ}
+    (a : LevelsNeeds by kind n b x entries levels target wanted least most) (given : List ℤ) {xs : List ℤ}
     (e : xs ≡ overwrite (n * n) (λ i. scalingBy by list n i (getD given i (pos 0))) zeros) where
   block-is : take (n * n) xs ≡ scaledBy by list n given
   unfolding scaledBy
   block-is = front-is n (a .list .size) (λ i. scalingBy by list n i (getD given i (pos 0))) e
 
-  pub scaled-ask : {low high : ℕ} → n * n ≤ low → n * n ≤ high → EditsAsk kind n b x (take (n * n) xs) target wanted low high
+  pub scaled-ask : {low high : ℕ} → n * n ≤ low → n * n ≤ high → EditsNeeds kind n b x (take (n * n) xs) target wanted low high
   scaled-ask {low} {high} l h =
-      subst (λ (d : List ℤ). EditsAsk kind n b x d target wanted low high) (sym block-is)
+      subst (λ (d : List ℤ). EditsNeeds kind n b x d target wanted low high) (sym block-is)
       (record {
         size = a .list .size;
         dst = a .dst;

@@ -31,7 +31,7 @@ use Rattle.refusal.specs.declared.Refusal.the-variants.{SizeInvalid, DepthInval
 use Rattle.refusal.specs.Condition.{sizeRefused, depthRefused, listRefused, blockRefused}
 use Rattle.refusal.specs.Outcome.{Outcome, accepted, refused, answer}
 use Rattle.refusal.proofs.RefusalLaws.{number-least}
-use Rattle.refusal.proofs.ConditionLaws.{size-accepted, depth-accepted}
+use Rattle.refusal.proofs.ConditionLaws.{size-accepted, depth-accepted, block-room}
 use Rattle.refusal.proofs.LadderLaws.{Rung, Passed, first, first-accepted, first-passed, first-refused}
 use Rattle.refusal.proofs.LadderLaws.Rung.{rung}
 use Rattle.parameters.specs.declared.DequantParams.{DequantParams}
@@ -45,14 +45,14 @@ use Rattle.scaling_values.specs.Level.{listedLevel}
 use Rattle.scaling_values.proofs.LevelLaws.{listedLevel-eq}
 use Rattle.scaling_blocks.specs.Blocks.{entriesOf}
 use Rattle.level_search.specs.Work.{Invertible}
-use Rattle.level_search.proofs.LevelLaws.{inside-range}
+use Rattle.least_level.proofs.LevelLaws.{inside-range}
 use Rattle.level_search.proofs.FoundLaws.{dequantOf-invertible, sixteens, sixteens-factor}
 use Rattle.edit_values.specs.Values.{leastWhere, mostWhere}
 use Rattle.edit_blocks.specs.Edits.{hasTarget}
 use Rattle.edit_search.specs.Found.{Found, left, wrote, Finds}
-use Rattle.edit_search.proofs.FoundLaws.{room, answered-passed}
+use Rattle.edit_search.proofs.FoundLaws.{answered-passed}
 use Rattle.level_edits.specs.Levels.{scaledBlock, levelGives, leastLevelEdit, mostLevelEdit, levelEditLadder, levelEditsFound}
-use Rattle.level_edits.specs.Work.{leastLevelBy, mostLevelBy, LevelsAsk}
+use Rattle.level_edits.specs.Work.{leastLevelBy, mostLevelBy, LevelsNeeds}
 use Rattle.level_edits.proofs.BlockLaws.{least-is, most-is}
 
 abbrev pub rungs : Kind → ℕ → ℕ → ℕ → ℕ → ℕ → ℕ → ℕ → ℕ → List Rung
@@ -121,7 +121,7 @@ module _ (list : ScalingList) (kind : Kind) (n : ℕ) (q : ℤ) (b : ℕ) (x : B
     pub level-done : {low high : List ℤ} → low ≡ overwrite (n * n) (leastLevelBy by list kind n b x levels target wanted) least
         → high ≡ overwrite (n * n) (mostLevelBy by list kind n b x levels target wanted) most → Finds Done low high answer-by
     level-done l m =
-        let long = room n (length levels) (p .1 .1 .1 .1 .0) in
+        let long = block-room n (length levels) (p .1 .1 .1 .1 .0) in
         rw (past p)
         (record {
           answered = refl;
@@ -129,7 +129,7 @@ module _ (list : ScalingList) (kind : Kind) (n : ℕ) (q : ℤ) (b : ℕ) (x : B
           most = m ∙ ap (λ (y : DequantParams). overwrite (n * n) (mostLevelBy y list kind n b x levels target wanted) most) e ∙ overwrite-cong (n * n) _ _ most (λ i h. most-is list kind n q b x levels long target wanted i h);
         })
 
-    pub level-ask : LevelsAsk by kind n b x (entriesOf list) (length levels) (length target) (length wanted) (length least) (length most)
+    pub level-ask : LevelsNeeds by kind n b x (entriesOf list) (length levels) (length target) (length wanted) (length least) (length most)
     unfolding listRefused
     level-ask =
         record {
@@ -138,11 +138,11 @@ module _ (list : ScalingList) (kind : Kind) (n : ℕ) (q : ℤ) (b : ℕ) (x : B
           list = record { size = size-accepted n (p .0); whole = eqb-true (entriesOf list) 64 (not-false (eqb (entriesOf list) 64) (p .1 .1 .1 .0)) };
           dst = four kind (p .1 .1 .0);
           depth = depth-accepted b (p .1 .0);
-          given = room n (length levels) (p .1 .1 .1 .1 .0);
-          targets = room n (length target) (p .1 .1 .1 .1 .1 .0);
-          wants = room n (length wanted) (p .1 .1 .1 .1 .1 .1 .0);
-          leasts = room n (length least) (p .1 .1 .1 .1 .1 .1 .1 .0);
-          mosts = room n (length most) (p .1 .1 .1 .1 .1 .1 .1 .1 .0);
+          given = block-room n (length levels) (p .1 .1 .1 .1 .0);
+          targets = block-room n (length target) (p .1 .1 .1 .1 .1 .0);
+          wants = block-room n (length wanted) (p .1 .1 .1 .1 .1 .1 .0);
+          leasts = block-room n (length least) (p .1 .1 .1 .1 .1 .1 .1 .0);
+          mosts = block-room n (length most) (p .1 .1 .1 .1 .1 .1 .1 .1 .0);
         }
       where
         four : (k : Kind) → dstRefused k n ≡ false → k ≡ Dst → n ≡ 4

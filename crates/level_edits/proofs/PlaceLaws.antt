@@ -14,7 +14,7 @@ use lib.Signed.{ltZ, _≤ℤ_}
 use Rattle.integers.proofs.OrderLaws.{≤ℤ-trans}
 use Rattle.integers.proofs.MachineLaws.{ltZ-true, ltZ-false, ltZ-of-lt, ltZ-of-le}
 use Rattle.integers.proofs.LinearLaws.{lt-in, le-in, lt-out}
-use Rattle.level_search.specs.Level.{Scales}
+use Rattle.least_level.specs.Level.{Scales}
 use Rattle.edit_values.specs.declared.Span.{Span}
 use Rattle.edit_values.specs.Values.{valueCount, valueAt}
 use Rattle.edit_values.specs.Sample.{Split}

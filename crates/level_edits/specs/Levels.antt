@@ -1,5 +1,5 @@
 -- Which levels give a block's residual the target at every wanted sample: the edits of a block of levels, refused calls included. Rows 1, 2, 4,
--- 5, 6, 7 of document 01's table. Letters as in edit_blocks/specs/Edits.antt; q QP′ as given, list no list or one with its DC.
+-- 5, 6, 7 of docs/RULES.md's table. Letters as in edit_blocks/specs/Edits.antt; q QP′ as given, list no list or one with its DC.
 --   scaledBlock           the n² coefficients of a block of levels
 --   levelGives            with v in place of the level at index i the residual has the target at every wanted sample
 --   leastLevelEdit, mostLevelEdit   the least and the most level of the range that do so, asked of every level; 1 and 0 where none does

@@ -6,7 +6,7 @@
 --   scaledBy                  the n² coefficients of a block of levels
 --   givesBy                   with v in place of the level at index i the residual has the target at every wanted sample
 --   leastLevelBy, mostLevelBy the least and the most level of the range that do
---   LevelsAsk                 what the search of a whole block asks
+--   LevelsNeeds                 what the search of a whole block asks
 use mathlib.Core.Path.{_≡_}
 use mathlib.Core.Bool.{Bool, true, false, not, _&&_, cond}
 use mathlib.Core.List.{List}
@@ -56,7 +56,7 @@ leastLevelBy by list kind n b x levels target wanted i = leastWhere (transformRa
 unfoldable pub mostLevelBy : DequantParams → ScalingList → Kind → ℕ → ℕ → Bool → List ℤ → List ℤ → List ℕ → ℕ → ℤ
 mostLevelBy by list kind n b x levels target wanted i = mostWhere (transformRange b x) (givesBy by list kind n b x levels target wanted i)
 
-pub record LevelsAsk (by : DequantParams) (kind : Kind) (n b : ℕ) (x : Bool) (entries levels target wanted least most : ℕ) : Type 0 where
+pub record LevelsNeeds (by : DequantParams) (kind : Kind) (n b : ℕ) (x : Bool) (entries levels target wanted least most : ℕ) : Type 0 where
   pub invertible : Invertible by
   pub inside : (m : ℕ) (v : ℤ) → outsideRange (transformRange b x) (listedLevel by m v) ≡ false
   pub list : WholeList entries n

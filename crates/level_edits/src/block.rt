@@ -8,7 +8,7 @@ ghost use Rattle.h265.specs.ScalingFactor.{scalingFactor};
 ghost use Rattle.h265.specs.ScalingFactor.ScalingList.{listed};
 ghost use Rattle.scaling_values.specs.Factor.{WholeList};
 ghost use Rattle.level_search.specs.Work.{scalingBy, Invertible};
-ghost use Rattle.level_edits.specs.Work.{leastScaling, mostScaling, leastLevelBy, mostLevelBy, LevelsAsk};
+ghost use Rattle.level_edits.specs.Work.{leastScaling, mostScaling, leastLevelBy, mostLevelBy, LevelsNeeds};
 use crate::places;
 use parameters::DequantParams;
 use scaling::FactorAnswer;
@@ -82,7 +82,7 @@ pub(crate) fn find_block(
     least: &mut [i32],
     most: &mut [i32],
 )
-    requires { ⌜ LevelsAsk by kind n «bit_depth» «extended_precision» (length (now list)) (length (now levels)) (length (now target)) (length (now wanted)) (length (now least)) (length (now most)) ⌝ }
+    requires { ⌜ LevelsNeeds by kind n «bit_depth» «extended_precision» (length (now list)) (length (now levels)) (length (now target)) (length (now wanted)) (length (now least)) (length (now most)) ⌝ }
     ensures { λ _. ⌜ (now (least .exit) ≡ overwrite (n * n) (leastLevelBy by (listed (now (list .entry)) dc) kind n «bit_depth» «extended_precision» (now (levels .entry)) (now (target .entry)) (now (wanted .entry))) (now (least .entry))) × (now (most .exit) ≡ overwrite (n * n) (mostLevelBy by (listed (now (list .entry)) dc) kind n «bit_depth» «extended_precision» (now (levels .entry)) (now (target .entry)) (now (wanted .entry))) (now (most .entry))) ⌝ }
 {
     let mut coeff = [0i32; 1024];

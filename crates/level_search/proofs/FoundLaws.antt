@@ -39,13 +39,13 @@ use Rattle.parameters.specs.Answers.{noTransformSkip}
 use Rattle.parameters.specs.Parameters.{dequantOf, transformSkipOf, KnownSize}
 use Rattle.scaling_values.proofs.FactorLaws.{size-large, factor-small, factor-first, factor-later, position-inside}
 use Rattle.scaling_values.proofs.LevelLaws.{dequantOf-manageable, listedLevel-eq}
-use Rattle.scaling_blocks.specs.Blocks.{bits32, entriesOf, blockLadder, blockParams}
+use Rattle.scaling_blocks.specs.Blocks.{bits32, entriesOf, scalingLadder, blockParams}
 use Rattle.scaling_blocks.proofs.BlockLaws.{rungs, Ready}
-use Rattle.level_search.specs.Level.{LeastLevel, equal, levelMissing, leastLevel, Scales}
+use Rattle.least_level.specs.Level.{LeastLevel, equal, levelMissing, leastLevel, Scales}
 use Rattle.level_search.specs.Found.{scalingAt, missingAt, firstMissing, leastAt, blockFound, levelsFound}
 use Rattle.level_search.specs.Work.{nearest, scalingBy, nearestAt, missesAt, firstMiss, Invertible}
-use Rattle.level_search.proofs.LevelLaws.{clash, equal-sound, equal-refl, zero-inside, missing-some, leastLevel-eq}
-use Rattle.level_search.proofs.ScalesLaws.{scaleLevel-scales, scales-cong}
+use Rattle.least_level.proofs.LevelLaws.{clash, equal-sound, equal-refl, zero-inside, missing-some, leastLevel-eq}
+use Rattle.least_level.proofs.ScalesLaws.{scaleLevel-scales, scales-cong}
 use Rattle.level_search.proofs.SideLaws.{Ranged, nearest-least, nearest-missing}
 
 -- ---- the numbers of a block
@@ -144,7 +144,7 @@ module _ (list : ScalingList) (n : ℕ) (q : ℤ) (b : ℕ) (x : Bool) (k : Know
 module _ (list : ScalingList) (n : ℕ) (q : ℤ) (b : ℕ) (x : Bool) (coeff out : List ℤ) where
   pub levels-refused : (e : Refusal) → refused noTransformSkip e ≡ blockParams bits32 n q b x (entriesOf list) (length coeff) (length out)
       → Writes (Refused e) out (levelsFound list n q b x coeff out)
-  unfolding blockParams levelsFound blockLadder
+  unfolding blockParams levelsFound scalingLadder
   levels-refused e h =
       first-refused noTransformSkip (transformSkipOf (log2Size n) q b x) _ _ (λ w. Writes (Refused e) out w) e
       (λ f k. record { answered = with-value tt e f k; out = refl }) (rungs bits32 n b x (entriesOf list) (length coeff) (length out)) h
@@ -160,7 +160,7 @@ module _ (list : ScalingList) (n : ℕ) (q : ℤ) (b : ℕ) (x : Bool) (coeff ou
     pub levels-found : {a : Answer} {after : List ℤ}
         → Writes a after (blockFound n (firstMiss (p .dequant) list n coeff) (nearestAt (p .dequant) list n coeff) out)
         → Writes a after (levelsFound list n q b x coeff out)
-    unfolding levelsFound blockLadder
+    unfolding levelsFound scalingLadder
     levels-found {a} {after} w =
         subst (λ (v : Written). Writes a after v)
         (ap (λ (d : DequantParams). blockFound n (firstMiss d list n coeff) (nearestAt d list n coeff) out) dequant-is
@@ -205,10 +205,10 @@ module _ (n : ℕ) (q : ℤ) (b : ℕ) (x : Bool) (coeff out : List ℤ) where
       (λ i h. ap (λ (g : ℤ → ℤ). leastLevel g (transformRange b x) (getD coeff i (pos 0))) (scalingAt-flat i t h)))
 
   pub levelsFound-flat : levelsFound sixteens n q b x coeff out ≡ levelsFound flat n q b x coeff out
-  unfolding levelsFound blockLadder
+  unfolding levelsFound scalingLadder
   levelsFound-flat = by-test (sizeRefused n) refl
     where
       by-test : (t : Bool) → sizeRefused n ≡ t → levelsFound sixteens n q b x coeff out ≡ levelsFound flat n q b x coeff out
       by-test true e = rw e
       by-test false e =
-          ap (λ (w : Written). blockLadder (left out) w bits32 n b x 64 (length coeff) (length out)) (blockFound-flat (size-accepted n e))
+          ap (λ (w : Written). scalingLadder (left out) w bits32 n b x 64 (length coeff) (length out)) (blockFound-flat (size-accepted n e))

@@ -30,12 +30,12 @@ use Rattle.refusal.proofs.RefusalLaws.{number-least}
 use Rattle.refusal.proofs.LadderLaws.{Rung, Passed, first, first-passed}
 use Rattle.refusal.proofs.LadderLaws.Rung.{rung}
 use Rattle.parameters.specs.Parameters.{KnownSize}
-use Rattle.scaling_blocks.specs.Blocks.{bits32, entriesOf, blockLadder, blockWritten, dequantized, leftAsLent, counted}
+use Rattle.scaling_blocks.specs.Blocks.{bits32, entriesOf, scalingLadder, blockWritten, dequantized, leftAsLent, counted}
 use Rattle.scaling_blocks.proofs.BlockLaws.{rungs}
-use Rattle.level_search.specs.Level.{LeastLevel}
+use Rattle.least_level.specs.Level.{LeastLevel}
 use Rattle.level_search.specs.Found.{scalingAt, missingAt, firstMissing, leastAt, blockFound, levelsFound, Missing}
 use Rattle.level_search.specs.Inverse.{checked, LeastLevelIsUnique, RefusesWhereALevelIsMissing, LevelsFoundAreLeast, LevelsScaleBack}
-use Rattle.level_search.proofs.LevelLaws.{clash, missing-none, missing-all, leastLevel-found, leastLevel-unique}
+use Rattle.least_level.proofs.LevelLaws.{clash, missing-none, missing-all, leastLevel-found, leastLevel-unique}
 use Rattle.level_search.proofs.FoundLaws.{scalingAt-scales}
 
 -- a ladder whose number is 0 has passed every rung
@@ -96,7 +96,7 @@ module _ (list : ScalingList) (n : ℕ) (q : ℤ) (b : ℕ) (x : Bool) (coeff ou
           (missing-all _ (transformRange b x) _ (m .none))
 
   past : Passed checks → levelsFound list n q b x coeff out ≡ blockFound n (firstMissing list n b x q coeff) (leastAt list n b x q coeff) out
-  unfolding levelsFound blockLadder
+  unfolding levelsFound scalingLadder
   past p = first-passed (left out) _ checks p
 
   refuses : Passed checks → (levelsFound list n q b x coeff out .answer .number ≡ 0 → ⊥) ↔ Missing list n b x q coeff
@@ -118,7 +118,7 @@ module _ (list : ScalingList) (n : ℕ) (q : ℤ) (b : ℕ) (x : Bool) (coeff ou
   -- ---- scaling the levels that were found
   module _ (z : levelsFound list n q b x coeff out .answer .number ≡ 0) where
     passed : Passed checks
-    unfolding levelsFound blockLadder
+    unfolding levelsFound scalingLadder
     passed = first-zero (left out) (blockFound n (firstMissing list n b x q coeff) (leastAt list n b x q coeff) out) (λ (w : Written). w .answer .number) number-least checks z
 
     abbrev after : List ℤ
@@ -146,7 +146,7 @@ module _ (list : ScalingList) (n : ℕ) (q : ℤ) (b : ℕ) (x : Bool) (coeff ou
         ap length (written .1) ∙ overwrite-length (n * n) (leastAt list n b x q coeff) out (ltb-false (length out) (n * n) (passed .1 .1 .1 .1 .1 .0))
 
     scale-back : dequantized bits32 list n q b x after coeff ≡ counted (limitedCount list n b x q after) coeff
-    unfolding dequantized blockWritten blockLadder blockRefused
+    unfolding dequantized blockWritten scalingLadder blockRefused
     scale-back =
         let p = passed in
         first-passed (leftAsLent coeff) (counted (limitedCount list n b x q after) (overwrite (n * n) (scaledAt list n b x q after) coeff)) (rungs bits32 n b x (entriesOf list) (length after) (length coeff))
@@ -162,7 +162,7 @@ least-level-is-unique list n b x q i t d z v w l k =
     leastLevel-unique (scalingAt list n b x q i) (transformRange b x) z (scalingAt-scales list n q b x (known-size n b t d) i) v w l k
 
 pub refuses-where-a-level-is-missing : RefusesWhereALevelIsMissing
-unfolding checked blockLadder
+unfolding checked scalingLadder
 refuses-where-a-level-is-missing list n q b x coeff out h =
     refuses list n q b x coeff out (first-zero number 0 (λ (k : ℕ). k) number-least (rungs bits32 n b x (entriesOf list) (length coeff) (length out)) h)
 

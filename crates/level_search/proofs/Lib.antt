@@ -1,8 +1,5 @@
-pub mod LevelLaws
-pub mod ScalesLaws
 pub mod SideLaws
 pub mod NearestLaws
 pub mod BlockLaws
 pub mod FoundLaws
 pub mod InverseLaws
-pub mod Examples

@@ -26,9 +26,9 @@ use Rattle.integers.proofs.SearchLaws.{None, firstWhere-first, firstWhere-none,
 use Rattle.parameters.specs.declared.DequantParams.{DequantParams}
 use Rattle.scaling_values.specs.Level.{listedLevel, Manageable}
 use Rattle.scaling_values.proofs.LevelLaws.{listedLevel-fits, manageable-ends}
-use Rattle.level_search.specs.Level.{equal}
+use Rattle.least_level.specs.Level.{equal}
 use Rattle.level_search.specs.Work.{sided, sideEnd, reaches, nearestSize}
-use Rattle.level_search.proofs.LevelLaws.{clash, equal-sound, equal-refl}
+use Rattle.least_level.proofs.LevelLaws.{clash, equal-sound, equal-refl}
 
 module _ (x : ℤ) (k : ℕ) where
   pub sided-below : ltZ x (pos 0) ≡ true → sided x k ≡ negℤ (pos k)

@@ -22,9 +22,9 @@ use Rattle.integers.proofs.SearchLaws.{firstWhere-first}
 use Rattle.h265.specs.Range.{coeffMin, coeffMax, outsideRange}
 use Rattle.h265.proofs.RangeLaws.{outsideRange-false}
 use Rattle.parameters.specs.declared.DequantParams.{DequantParams}
-use Rattle.level_search.specs.Level.{Gives, LeastLevel, levelMissing, Scales}
+use Rattle.least_level.specs.Level.{Gives, LeastLevel, levelMissing, Scales}
 use Rattle.level_search.specs.Work.{sided, sideEnd, reaches, nearestSize, nearest}
-use Rattle.level_search.proofs.LevelLaws.{clash, inside-range, inside-size, missing-all}
+use Rattle.least_level.proofs.LevelLaws.{clash, inside-range, inside-size, missing-all}
 
 -- ---- the first of a rising test
 module _ (e : ℕ) (p : ℕ → Bool) (Hit : ℕ → Type 0)

@@ -20,8 +20,8 @@ use Rattle.h265.specs.Scaling.{bdShift, scaleLevel}
 use Rattle.h265.specs.ScalingFactor.{ScalingList, scalingFactor}
 use Rattle.refusal.specs.declared.Refusal.the-variants.{LevelMissing}
 use Rattle.refusal.specs.Written.{Written, left, wrote}
-use Rattle.scaling_blocks.specs.Blocks.{bits32, entriesOf, blockLadder}
-use Rattle.level_search.specs.Level.{Gives, levelMissing, leastLevel}
+use Rattle.scaling_blocks.specs.Blocks.{bits32, entriesOf, scalingLadder}
+use Rattle.least_level.specs.Level.{Gives, levelMissing, leastLevel}
 
 unfoldable pub scalingAt : ScalingList → ℕ → ℕ → Bool → ℤ → ℕ → ℤ → ℤ
 scalingAt list n b x q i level =
@@ -46,7 +46,7 @@ blockFound n first at out =
 
 unfoldable pub levelsFound : ScalingList → ℕ → ℤ → ℕ → Bool → List ℤ → List ℤ → Written
 levelsFound list n q b x coeff out =
-    blockLadder (left out)
+    scalingLadder (left out)
     (blockFound n (firstMissing list n b x q coeff) (leastAt list n b x q coeff) out)
     bits32 n b x (entriesOf list) (length coeff) (length out)
 

@@ -16,12 +16,12 @@ use Rattle.h265.specs.Range.{isSize, transformRange}
 use Rattle.h265.specs.ScalingFactor.{ScalingList}
 use Rattle.h265.specs.Limited.{limitedCount}
 use Rattle.refusal.specs.Refusal.{number}
-use Rattle.scaling_blocks.specs.Blocks.{bits32, entriesOf, blockLadder, dequantized, counted}
-use Rattle.level_search.specs.Level.{LeastLevel}
+use Rattle.scaling_blocks.specs.Blocks.{bits32, entriesOf, scalingLadder, dequantized, counted}
+use Rattle.least_level.specs.Level.{LeastLevel}
 use Rattle.level_search.specs.Found.{scalingAt, levelsFound, Missing}
 
 unfoldable pub checked : ScalingList → ℕ → ℕ → Bool → ℕ → ℕ → ℕ
-checked list n b x coefficients levels = blockLadder number 0 bits32 n b x (entriesOf list) coefficients levels
+checked list n b x coefficients levels = scalingLadder number 0 bits32 n b x (entriesOf list) coefficients levels
 
 abbrev pub LeastLevelIsUnique : Type 0
 LeastLevelIsUnique =

@@ -1,4 +1,3 @@
-pub mod Level
 pub mod Found
 pub mod Work
 pub mod Inverse

@@ -21,7 +21,7 @@ use Rattle.integers.specs.Search.{firstWhere}
 use Rattle.h265.specs.ScalingFactor.{ScalingList, scalingFactor}
 use Rattle.parameters.specs.declared.DequantParams.{DequantParams}
 use Rattle.scaling_values.specs.Level.{listedLevel, Manageable}
-use Rattle.level_search.specs.Level.{equal, Scales}
+use Rattle.least_level.specs.Level.{equal, Scales}
 
 unfoldable pub sided : ℤ → ℕ → ℤ
 sided x k = cond (ltZ x (pos 0)) (negℤ (pos k)) (pos k)

@@ -2,7 +2,7 @@
 ghost use mathlib.Core.Path.{_≡_};
 ghost use Prim.Native.Nat.{_≤_};
 ghost use Rattle.scaling_values.specs.Level.{listedLevel, Manageable};
-ghost use Rattle.level_search.specs.Level.{equal};
+ghost use Rattle.least_level.specs.Level.{equal};
 ghost use Rattle.level_search.specs.Work.{sided, sideEnd, reaches, nearestSize, nearest, Invertible};
 use parameters::DequantParams;
 use scaling_values::level;

@@ -22,9 +22,8 @@ use Rattle.integers.specs.Sum.{sum}
 use Rattle.integers.specs.Within.{Within}
 use Rattle.integers.proofs.BoundLaws.{within-add, within-fits, within-eq, within-le, allWithin, table-within}
 use Rattle.integers.proofs.MachineLaws.{sfits-abs}
-use Rattle.integers.proofs.SumLaws.{sum-cong, sum-add}
+use Rattle.integers.proofs.SumLaws.{sum-cong, sum-add, sum-pairs}
 use Rattle.lines.specs.Fold.{dotSum, Small}
-use Rattle.lines.proofs.SplitLaws.{sum-pairs}
 use Rattle.lines.proofs.FoldLaws.{zero-+ℤ}
 
 unfoldable pub pairTerm : List ℤ → ℕ → List ℤ → ℕ → ℤ

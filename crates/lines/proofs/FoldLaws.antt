@@ -29,7 +29,7 @@ use Rattle.integers.proofs.SumLaws.{sum-cong, sum-scale}
 use Rattle.h265.specs.Matrix.{foldingValues, folding, foldedEntry, foldedAngle, transMatrix32, transMatrix}
 use Rattle.h265.specs.Transform.{transformLine}
 use Rattle.h265.proofs.TransformLaws.{transformLine-cong}
-use Rattle.lines.specs.Fold.{valueMost, dotSum, oddSum, oddColumn, Small, DotAsk, Twice, TwiceOdd, Folded}
+use Rattle.lines.specs.Fold.{valueMost, dotSum, oddSum, oddColumn, Small, DotNeeds, Twice, TwiceOdd, Folded}
 use Rattle.lines.proofs.SplitLaws.{mirrors, line-low, line-high}
 
 -- ---- lists and sums
@@ -228,7 +228,7 @@ odds h st {xs} {z} e p =
     out : (m : ℕ) → m < h → OddOut h st xs m (getD z m (pos 0))
     out m l = subst (λ (j : ℕ). OddOut h st xs j (getD z m (pos 0))) (zero-add m) (each-at p m (omega arith))
 
-pub dot-ask : (h st : ℕ) {xs t : List ℤ} → T (ltb 0 st && leb st 8 && allWithin 180 t) → length xs ≡ 2 * h * st → DotAsk h st xs t
+pub dot-ask : (h st : ℕ) {xs t : List ℤ} → T (ltb 0 st && leb st 8 && allWithin 180 t) → length xs ≡ 2 * h * st → DotNeeds h st xs t
 dot-ask h st {xs} {t} b e =
     let f = and-yes (ltb 0 st && leb st 8) (allWithin 180 t) b in
     let g = and-yes (ltb 0 st) (leb st 8) (f .0) in

@@ -5,7 +5,7 @@ ghost use Prim.Native.Nat.{ℕ, _+_, _*_, _<_, _≤_};
 ghost use lib.IntN.{_+ℤ_, _*ℤ_};
 ghost use lib.ListN.{length};
 ghost use Rattle.integers.specs.Within.{Within};
-ghost use Rattle.lines.specs.Fold.{valueMost, dotSum, Small, DotAsk, Folded, Twice, TwiceOdd};
+ghost use Rattle.lines.specs.Fold.{valueMost, dotSum, Small, DotNeeds, Folded, Twice, TwiceOdd};
 
 // One product.
 fn times(u: i16, x: i16) -> i32
@@ -17,7 +17,7 @@ fn times(u: i16, x: i16) -> i32
 
 // The value at st by the entry t.
 fn dot_1(x: &[i16], st: usize, t: [i16; 1]) -> i32
-    requires { ⌜ DotAsk 1 st (now x) t ⌝ }
+    requires { ⌜ DotNeeds 1 st (now x) t ⌝ }
     ensures { λ r. ⌜ (r ≡ dotSum 1 t st (now (x .entry))) × Within 5898240 r ⌝ }
 {
     times(t[0], x[st])

@@ -18,7 +18,8 @@ use Rattle.h265.specs.Matrix.{foldingValues, folding, foldedEntry, foldedAngle,
 use Rattle.h265.specs.Transform.{transformLine}
 use Rattle.h265.proofs.TransformLaws.{transformLine-cong}
 use Rattle.transform_1d.proofs.MatrixLaws.{transformLine-within, transMatrix-absSum-8}
-use Rattle.lines.proofs.SplitLaws.{allBelow, mirrors, line-low as split-low, line-high as split-high}
+use Rattle.integers.proofs.TestLaws.{allBelow}
+use Rattle.lines.proofs.SplitLaws.{mirrors, line-low as split-low, line-high as split-high}
 use Rattle.lines_wide.specs.Values.{WideValues, WideOutputs, oddRows}
 use Rattle.lines_wide.proofs.ValuesLaws.{most, read, small-fits, reads-fit, reads-op, below-4, Output, outputs, picked, picked-at}
 

@@ -21,7 +21,7 @@ use Rattle.refusal.proofs.LadderLaws.Rung.{rung}
 use Rattle.parameters.specs.declared.TransformSkipParams.{TransformSkipParams}
 use Rattle.parameters.specs.Answers.{noTransformSkip}
 use Rattle.parameters.specs.Parameters.{transformSkipOf}
-use Rattle.scaling_blocks.specs.Blocks.{blockLadder, blockParams, CountWrites, leftAsLent}
+use Rattle.scaling_blocks.specs.Blocks.{scalingLadder, blockParams, CountWrites, leftAsLent}
 use Rattle.scaling_blocks.specs.declared.CountAnswer.{CountAnswer}
 use Rattle.scaling_blocks.specs.declared.CountAnswer.the-variants.{Refused}
 use Rattle.scaling_blocks.proofs.BlockLaws.{rungs}
@@ -32,21 +32,21 @@ use Rattle.list_blocks.specs.Scale.{Block, listOf, libraryBlock, scaleAn
 
 module _ (narrow : Bool) (n : ℕ) (q : ℤ) (b : ℕ) (x : Bool) (levels places : ℕ) (done : Outcome (Unit {0})) where
   pub params-refused : (e : Refusal) → refused noTransformSkip e ≡ blockParams narrow n q b x 64 levels places
-      → refused tt e ≡ blockLadder (refused tt) done narrow n b x 64 levels places
-  unfolding blockParams blockLadder
+      → refused tt e ≡ scalingLadder (refused tt) done narrow n b x 64 levels places
+  unfolding blockParams scalingLadder
   params-refused e h =
       first-refused noTransformSkip (transformSkipOf (log2Size n) q b x) (refused tt) done (λ o. refused tt e ≡ o) e (λ f k. with-value tt e f k) (rungs narrow n b x 64 levels places) h
 
   pub params-passed : (p : TransformSkipParams) → accepted p ≡ blockParams narrow n q b x 64 levels places
-      → blockLadder (refused tt) done narrow n b x 64 levels places ≡ done
-  unfolding blockParams blockLadder
+      → scalingLadder (refused tt) done narrow n b x 64 levels places ≡ done
+  unfolding blockParams scalingLadder
   params-passed p h =
       first-passed (refused tt) done (rungs narrow n b x 64 levels places) (first-accepted noTransformSkip (transformSkipOf (log2Size n) q b x) p (rungs narrow n b x 64 levels places) h .0)
 
 -- ---- all rungs of a block by number
 abbrev pub answered : Bool → ℕ → Stream → ℕ → Block → List ℤ → Outcome (Unit {0})
 answered short d s i k out =
-    blockLadder (refused tt) (numberAnswer short d s i) (k .narrow) (k .size) (k .depth) (k .extended) 64 (length (k .levels)) (length out)
+    scalingLadder (refused tt) (numberAnswer short d s i) (k .narrow) (k .size) (k .depth) (k .extended) 64 (length (k .levels)) (length out)
 
 abbrev allRungs : Bool → ℕ → Stream → ℕ → Block → List ℤ → List Rung
 allRungs short d s i k out =
@@ -54,7 +54,7 @@ allRungs short d s i k out =
 
 module _ (short : Bool) (d : ℕ) (s : Stream) (i : ℕ) (k : Block) (out : List ℤ) where
   pub scale-refused : (e : Refusal) → refused tt e ≡ answered short d s i k out → CountWrites (Refused e) out (scaleAnswer short d s i k out)
-  unfolding blockLadder numberAnswer numberLadder scaleAnswer
+  unfolding scalingLadder numberAnswer numberLadder scaleAnswer
   scale-refused e h =
       first-refused tt tt (leftAsLent out) (libraryBlock k (listOf (numbered s i)) out) (λ w. CountWrites (Refused e) out w) e
       (λ f g. record { answered = with-value 0 e f g; out = refl }) (allRungs short d s i k out) h
@@ -65,7 +65,7 @@ module _ (short : Bool) (d : ℕ) (s : Stream) (i : ℕ) (k : Block) (out : List
     pub is : scaleAnswer short d s i k out ≡ libraryBlock k (listOf (numbered s i)) out
 
   pub scale-ready : accepted tt ≡ answered short d s i k out → Ready
-  unfolding blockLadder numberAnswer numberLadder scaleAnswer
+  unfolding scalingLadder numberAnswer numberLadder scaleAnswer
   scale-ready h =
       let p = first-accepted tt tt tt (allRungs short d s i k out) h .0 in
       let l = p .1 .1 .1 .1 .1 .1 in

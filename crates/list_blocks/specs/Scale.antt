@@ -13,7 +13,7 @@ use lib.IntN.{ℤ}
 use lib.ListN.{length}
 use Rattle.h265.specs.ScalingFactor.{ScalingList}
 use Rattle.h265.specs.ScalingFactor.ScalingList.{flat, listed}
-use Rattle.scaling_blocks.specs.Blocks.{blockLadder, dequantized, transformSkipped, CountWritten, leftAsLent}
+use Rattle.scaling_blocks.specs.Blocks.{scalingLadder, dequantized, transformSkipped, CountWritten, leftAsLent}
 use Rattle.list_places.specs.Stream.{Place, Stream, numbered, numberLadder}
 use Rattle.list_places.specs.Stream.Place.{free, held}
 
@@ -48,6 +48,6 @@ libraryBlock k list out = byWork (k .work) (k .narrow) list (k .size) (k .qp) (k
 -- a place has 64 entries, so row 5 never applies
 unfoldable pub scaleAnswer : Bool → ℕ → Stream → ℕ → Block → List ℤ → CountWritten
 scaleAnswer short d s i k out =
-    blockLadder (leftAsLent out)
+    scalingLadder (leftAsLent out)
     (numberLadder (leftAsLent out) (libraryBlock k (listOf (numbered s i)) out) short d s i)
     (k .narrow) (k .size) (k .depth) (k .extended) 64 (length (k .levels)) (length out)

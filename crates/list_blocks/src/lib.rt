@@ -2,7 +2,7 @@
 // library's count of limited coefficients.
 ghost use mathlib.Core.Path.{_≡_};
 ghost use Rattle.refusal.specs.Outcome.{refused, answer};
-ghost use Rattle.scaling_blocks.specs.Blocks.{bits16, bits32, blockLadder, CountWrites};
+ghost use Rattle.scaling_blocks.specs.Blocks.{bits16, bits32, scalingLadder, CountWrites};
 ghost use Rattle.list_places.specs.Stream.{numberAnswer};
 ghost use Rattle.list_places.specs.Table.{streamOf, short};
 ghost use Rattle.list_blocks.specs.Scale.{block, scaleAnswer};
@@ -26,7 +26,7 @@ fn block_refused(
     levels: usize,
     places: usize,
 ) -> Answer
-    ensures { λ r. ⌜ answer r ≡ blockLadder (refused tt) (numberAnswer (short (now (table .entry))) stream (streamOf (now (table .entry)) stream) number) narrow n «bit_depth» «extended_precision» 64 levels places ⌝ }
+    ensures { λ r. ⌜ answer r ≡ scalingLadder (refused tt) (numberAnswer (short (now (table .entry))) stream (streamOf (now (table .entry)) stream) number) narrow n «bit_depth» «extended_precision» 64 levels places ⌝ }
 {
     let found = refuse::block_params(
         narrow,

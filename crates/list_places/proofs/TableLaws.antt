@@ -20,7 +20,7 @@ use Rattle.integers.specs.Lists.{tabulate}
 use Rattle.integers.proofs.ListsLaws.{tabulate-cong, tabulate-length, tabulate-getD}
 use Rattle.refusal.specs.declared.Refusal.the-variants.{OutputTooShort, ListMissing}
 use Rattle.refusal.specs.Outcome.{accepted, refused}
-use Rattle.refusal.proofs.ConditionLaws.{neither}
+use Rattle.integers.proofs.TestLaws.{neither}
 use Rattle.list_places.specs.Stream.{Place, Stream, isFree, numbered, emptyStream, streamRefused, missing, numberLadder, numberAnswer}
 use Rattle.list_places.specs.Stream.Place.{free, held}
 use Rattle.list_places.specs.Table.{entriesAt, placeAt, streamOf, short}

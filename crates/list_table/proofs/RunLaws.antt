@@ -21,6 +21,7 @@ use Rattle.refusal.proofs.LadderLaws.Rung.{rung}
 use Rattle.list_places.specs.Stream.{Place, Stream, emptyStream, lowestFree, streamRefused, missing, full, numberLadder}
 use Rattle.list_places.specs.Stream.Place.{free, held}
 use Rattle.list_places.specs.Table.{placeAt, streamOf, short, put}
+use Rattle.refusal.proofs.ConditionLaws.{list-whole}
 use Rattle.list_table.specs.Calls.{storeLadder, storedTable, droppedTable}
 use Rattle.list_table.specs.Run.{Call, EmptyTable, StreamCall, replyTo, replyOn, streamAfter, historyReplies, historyAfter, tableAfter, repliesFor, tableAfterAll, callsOf, StreamsDoNotMeet, OtherCallsChangeNothing, UnknownStreamChangesNothing}
 use Rattle.list_table.specs.Run.Call.{store, drop, find, scale}
@@ -46,10 +47,6 @@ module _ (table after : List ℕ) (d i : ℕ) (v : Place) (h : d < 2) (l : i < 1
         others = λ e n. streamOf-kept table after (12 * d + i) other e (λ j he hj q. n (omega arith));
         long = long;
       }
-
-list-whole : (len : ℕ) → listRefused len ≡ false → len ≡ 64
-unfolding listRefused
-list-whole len e = eqb-true len 64 (not-false (eqb len 64) e)
 
 free-inside : (s : Stream) → full s ≡ false → lowestFree s < 12
 unfolding full

@@ -1,5 +1,5 @@
 -- What the functions of this crate answer, for every value of every argument: refusals lowest number first, then the values of clause 8.6.
--- Document 01, "Quantities", "Scaling", "Transform skip".
+-- docs/RULES.md, "Quantities", "Scaling", "Transform skip".
 --   maxLog2TransformDynamicRange b x      R
 --   qpBdOffsetOf b, qpPrimeOf qp b        6 × (B - 8); QP′
 --   dequantParams n q b x                 factor 16 × levelScale[QP′ mod 6] × 2^(QP′ div 6), rounding, shift s, ends of the range

@@ -1,5 +1,5 @@
--- Examples of the definitions, as one list of cases under one statement: checksums at depths 8 and 9 with each part of the mask in use, sums
--- limited at both ends with the largest residuals, a block in a plane whose stride is above its width, and 13 before 12.
+-- Examples of the definitions, as one list of cases under one statement: sums limited at both ends with the largest residuals, a block in a
+-- plane whose stride is above its width, and 13 before 12.
 use mathlib.Core.Path.{_≡_, refl}
 use mathlib.Core.List.{List, [], _∷_, map}
 use Prim.Native.Nat.{ℕ}
@@ -9,10 +9,9 @@ use Rattle.integers.specs.Clip.{clip3}
 use Rattle.integers.specs.Lists.{tabulate, tabulateFrom}
 use Rattle.integers.specs.Search.{firstWhere}
 use Rattle.refusal.specs.Condition.{sizeRefused, depthRefused, blockRefused}
-use Rattle.picture.specs.Picture.{sideRefused, strideRefused, pictureRefused, blockOutside}
+use Rattle.planes.specs.Picture.{sideRefused, strideRefused, pictureRefused, blockOutside}
 use Rattle.picture.specs.Samples.{sampleMax, rebuiltSample, rebuiltAt, among, placedAt, rebuiltPlane, firstAbove}
 use Rattle.picture.specs.Rebuild.{Rebuilt, rebuilt}
-use Rattle.picture.specs.Checksum.{xorMask, sampleTerm, total, columnTerm, rowTotal, pictureChecksum}
 
 -- what a definition gives, and what is right
 pub record Case : Type 0 where
@@ -35,14 +34,7 @@ answered width =
 pub examples : List Case
 unfolding _gives_ one answered
 examples =
-    (one (pictureChecksum 8 1 1 1 (one 65535)) gives one 255)
-    ∷ (one (pictureChecksum 9 1 1 1 (one 65535)) gives one 510)
-    ∷ (one (pictureChecksum 8 257 1 257 (replicate 257 0)) gives one 32641)
-    ∷ (one (pictureChecksum 9 257 1 257 (replicate 257 0)) gives one 65282)
-    ∷ (one (pictureChecksum 8 1 257 1 (replicate 257 0)) gives one 32641)
-    ∷ (one (pictureChecksum 8 2 2 3 (1 ∷ 2 ∷ 99 ∷ 3 ∷ 4 ∷ 99 ∷ [])) gives one 10)
-    ∷ (one (pictureChecksum 16 2 2 3 (256 ∷ 513 ∷ 99 ∷ 3 ∷ 1024 ∷ 99 ∷ [])) gives one 11)
-    ∷ (one (rebuiltSample 255 200 (pos 55)) gives one 255)
+    (one (rebuiltSample 255 200 (pos 55)) gives one 255)
     ∷ (one (rebuiltSample 255 200 (pos 2147483647)) gives one 255)
     ∷ (one (rebuiltSample 255 200 (negsuc 198)) gives one 1)
     ∷ (one (rebuiltSample 1023 1023 (negsuc 2147483647)) gives one 0)
@@ -52,5 +44,5 @@ examples =
     ∷ []
 
 pub examples-hold : map (λ c. c .found) examples ≡ map (λ c. c .expected) examples
-unfolding examples _gives_ one answered pictureChecksum rowTotal columnTerm total sampleTerm xorMask rebuiltSample rebuiltPlane placedAt rebuiltAt among sampleMax rebuilt firstAbove pictureRefused sideRefused strideRefused blockOutside sizeRefused depthRefused blockRefused clip3 tabulate tabulateFrom firstWhere
+unfolding examples _gives_ one answered rebuiltSample rebuiltPlane placedAt rebuiltAt among sampleMax rebuilt firstAbove pictureRefused sideRefused strideRefused blockOutside sizeRefused depthRefused blockRefused clip3 tabulate tabulateFrom firstWhere
 examples-hold = refl

@@ -1,6 +1,4 @@
--- Laws of planes and of the checksum's sums, and examples of the definitions.
-pub mod PictureLaws
+-- Laws of rebuilt samples in a plane, and examples of the definitions.
 pub mod SamplesLaws
 pub mod RebuildLaws
-pub mod ChecksumLaws
 pub mod Examples

@@ -20,10 +20,10 @@ use Rattle.refusal.specs.declared.Refusal.{Refusal}
 use Rattle.refusal.specs.declared.Refusal.the-variants.{SizeInvalid, DepthInvalid, InputTooShort, SampleOutside, PictureInvalid}
 use Rattle.refusal.specs.Condition.{sizeRefused, depthRefused, blockRefused}
 use Rattle.refusal.proofs.ConditionLaws.{size-accepted, depth-accepted}
-use Rattle.picture.specs.Picture.{pictureRefused, blockOutside}
+use Rattle.planes.specs.Picture.{pictureRefused, blockOutside}
 use Rattle.picture.specs.Samples.{sampleMax, firstAbove, rebuiltPlane}
 use Rattle.picture.specs.Rebuild.{Rebuilt, Rebuilds, rebuilt, left, put, Below, Inside}
-use Rattle.picture.proofs.PictureLaws.{picture-accepted, block-accepted}
+use Rattle.planes.proofs.PictureLaws.{picture-accepted, block-accepted}
 
 pub rebuilds-left : {w : Rebuilt} {plane : List ℕ} (e : Refusal) → w ≡ left plane e → Rebuilds (Refused e) plane w
 rebuilds-left e h = record { answered = sym (ap (λ (v : Rebuilt). v .answer) h); plane = sym (ap (λ (v : Rebuilt). v .plane) h) }

@@ -20,7 +20,7 @@ use Rattle.refusal.specs.declared.Refusal.{Refusal}
 use Rattle.refusal.specs.declared.Refusal.the-variants.{SizeInvalid, DepthInvalid, InputTooShort, SampleOutside, PictureInvalid}
 use Rattle.refusal.specs.Condition.{sizeRefused, depthRefused, blockRefused}
 use Rattle.refusal.specs.Outcome.{Outcome, accepted, refused, answer}
-use Rattle.picture.specs.Picture.{pictureRefused, blockOutside}
+use Rattle.planes.specs.Picture.{pictureRefused, blockOutside}
 use Rattle.picture.specs.Samples.{sampleMax, among, rebuiltPlane, firstAbove}
 
 pub record Rebuilt : Type 0 where

@@ -110,10 +110,10 @@ pub fn rebuild_block(
     if prediction.len() < n * n {
         return Answer::Refused(Refusal::InputTooShort);
     }
-    if refuse::picture_refused(width, height, stride, plane.len()) {
+    if planes::picture_refused(width, height, stride, plane.len()) {
         return Answer::Refused(Refusal::PictureInvalid);
     }
-    if refuse::block_outside(n, width, height, x, y) {
+    if planes::block_outside(n, width, height, x, y) {
         return Answer::Refused(Refusal::PictureInvalid);
     }
     let first = refuse::first_above(sample_max(bit_depth), n * n, prediction);

@@ -2,8 +2,8 @@
 // size, eight bytes, depth, a byte, and width, height, stride, column and row, eight bytes each; residual and prediction, each after its length of eight bytes. A plane
 // comes as its length, its first sample and the step from sample to sample, two bytes each, modulo 2^16, and samples that stand in its first places, after their number.
 // The text goes on with the answer, and the plane afterwards or the checksum. tests/picture_cases.py writes cases and text.
+use checksum::ChecksumAnswer;
 use libc::STDIN_FILENO;
-use picture::ChecksumAnswer;
 use refusal::Answer;
 
 struct Case {
@@ -70,7 +70,7 @@ fn rebuild(case: Case, residual: &[i32], prediction: &[u16], plane: &mut [u16]) 
 }
 
 fn checksum(case: Case, plane: &[u16]) {
-    match picture::picture_checksum(case.width, case.height, case.stride, case.bit_depth, plane) {
+    match checksum::picture_checksum(case.width, case.height, case.stride, case.bit_depth, plane) {
         ChecksumAnswer::Sum(sum) => {
             cases::put_answer(Answer::Done);
             cases::put(sum as u64);

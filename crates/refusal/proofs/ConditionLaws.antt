@@ -3,14 +3,16 @@
 --   depth-accepted  the depth is 8 .. 16
 --   width-accepted  the depth is at most 9, and precision is not extended
 --   rotation-accepted  the size is 4
---   neither         where one test or another does not apply, neither does
+--   block-room      a buffer has room for the block
+--   list-whole      a list has 64 entries
 use mathlib.Core.Path.{_≡_, refl, sym, subst}
 use mathlib.Core.Bool.{Bool, true, false, not, _||_}
-use Prim.Native.Nat.{ℕ, _≤_}
+use Prim.Native.Nat.{ℕ, _*_, _≤_}
 use borrow.Author.Tests.{ltb-false}
 use lib.Dec.{T, eqb, eqb→eq, ltb}
 use Rattle.h265.specs.Range.{isSize}
-use Rattle.refusal.specs.Condition.{sizeRefused, depthRefused, widthRefused, rotationRefused}
+use Rattle.integers.proofs.TestLaws.{neither}
+use Rattle.refusal.specs.Condition.{sizeRefused, depthRefused, widthRefused, rotationRefused, blockRefused, listRefused}
 
 not-false : (t : Bool) → not t ≡ false → T t
 not-false true e = tt
@@ -19,10 +21,6 @@ not-false false e = subst T e tt
 pub size-accepted : (n : ℕ) → sizeRefused n ≡ false → T (isSize n)
 unfolding sizeRefused
 size-accepted n e = not-false (isSize n) e
-
-pub neither : (s t : Bool) → s || t ≡ false → (s ≡ false) × (t ≡ false)
-neither true t e = absurd (subst T e tt)
-neither false t e = (refl, e)
 
 pub depth-accepted : (b : ℕ) → depthRefused b ≡ false → (8 ≤ b) × (b ≤ 16)
 unfolding depthRefused
@@ -35,3 +33,11 @@ width-accepted b x e = let h = neither (ltb 9 b) x e in (ltb-false 9 b (h .0), h
 pub rotation-accepted : (n : ℕ) → rotationRefused true n ≡ false → n ≡ 4
 unfolding rotationRefused
 rotation-accepted n e = eqb→eq n 4 (not-false (eqb n 4) e)
+
+pub block-room : (n len : ℕ) → blockRefused n len ≡ false → n * n ≤ len
+unfolding blockRefused
+block-room n len e = ltb-false len (n * n) e
+
+pub list-whole : (len : ℕ) → listRefused len ≡ false → len ≡ 64
+unfolding listRefused
+list-whole len e = eqb→eq len 64 (not-false (eqb len 64) e)

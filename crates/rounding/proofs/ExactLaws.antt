@@ -21,7 +21,7 @@ use Rattle.integers.proofs.SumLaws.{sum-cong, sum-none, sum-short}
 use Rattle.h265.specs.Matrix.{transMatrix, absSum}
 use Rattle.h265.specs.Range.{isSize, transformRange, coeffMin, coeffMax, clipCoeff}
 use Rattle.h265.specs.Transform.{transformLine, blockAt, columnsRead, stageOneSum, stageOneValue, stageTwoShift}
-use Rattle.h265.proofs.RangeLaws.{size-cases, transformRange-least, transformRange-depth, clipCoeff-id, outsideRange-false}
+use Rattle.h265.proofs.RangeLaws.{size-cases, transformRange-least, transformRange-depth, clipCoeff-id, outsideRange-false, clipCoeff-zero}
 use Rattle.h265.proofs.TransformLaws.{transformLine-cong, columnsRead-in}
 use Rattle.transform_1d.specs.declared.Kind.{Kind}
 use Rattle.transform_1d.specs.declared.Kind.the-variants.{Dct, Dst}
@@ -70,12 +70,6 @@ module _ (t : ℕ → ℕ → ℤ) (n nx : ℕ) (d : ℕ → ℕ → ℤ) (m c :
   unfolding stageOneValue roundShift shiftRight
   value-past h = ap (λ (z : ℤ). roundShift z 7) (sum-past h)
 
-clip-zero : (r : ℕ) → clipCoeff r (pos 0) ≡ pos 0
-unfolding coeffMin coeffMax
-clip-zero r =
-    clipCoeff-id r (pos 0) (le-out (coeffMin r) (pos 0) (omega (arith, parts-neg (pow2 r))))
-    (le-out (pos 0) (coeffMax r) (omega (arith, pow-pos r, parts-add (pow2 r) (negsuc 0))))
-
 -- no limit of stage one changes anything, in a column that is read or not
 pub unlimited-all : {kind : Kind} {n b : ℕ} {x : Bool} {nx : ℕ} {xs : List ℤ} → Unlimited kind n b x nx xs → (m c : ℕ) → m < n → c < n
     → clipCoeff (transformRange b x) (stageOneValue (matrixOf kind n) n (columnsRead nx (blockAt n xs)) m c)
@@ -86,7 +80,7 @@ unlimited-all {kind} {n} {b} {x} {nx} {xs} u m c hm hc =
     elim (decLt c nx) [
       | yes h ↦ (let i = outsideRange-false r (stageOneValue t n (blockAt n xs) m c) (u .inside m c hm hc h) in
           rw (value-in t n nx (blockAt n xs) m c h) (clipCoeff-id r (stageOneValue t n (blockAt n xs) m c) (i .0) (i .1)))
-      | no h ↦ rw (value-past t n nx (blockAt n xs) m c (omega arith)) (clip-zero r)
+      | no h ↦ rw (value-past t n nx (blockAt n xs) m c (omega arith)) (clipCoeff-zero r)
     ]
 
 -- the product over the columns read is the one over all, those from the count on being zero

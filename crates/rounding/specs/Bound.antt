@@ -1,4 +1,4 @@
--- What `rounding_bound` answers, for every value of every argument: rows 1, 2, 4 of document 01's table, lowest number first, then the bound.
+-- What `rounding_bound` answers, for every value of every argument: rows 1, 2, 4 of docs/RULES.md's table, lowest number first, then the bound.
 --   boundOutcome           the answer as number, place and value, which is zero on refusal
 --   roundingBoundOf        the bound, refused calls included
 use mathlib.Core.Bool.{Bool, cond}

@@ -1,4 +1,4 @@
--- The exact product, and how far a residual may be from it. H.265, clause 8.6.4.2; document 01, "Inverse transforms".
+-- The exact product, and how far a residual may be from it. H.265, clause 8.6.4.2; docs/RULES.md, "Inverse transforms".
 -- Letters: t the matrix, n size, b depth, x extended precision, nx column count, xs coefficients in row order, k row, c column,
 -- m and j the row and column of a result.
 --   exactProduct t n nx xs m j   E: the double matrix product over the columns read, in whole numbers, with no rounding and no limit

@@ -1,5 +1,4 @@
 -- The listing as a walk over a feed's records.
---   line-is, line-fits                a line's text
 --   listingWalk                       what a record adds to the listing, nothing behind the last one, and the bytes that its lines may take
 --   Answered                          the answer to a record is that of its effect
 --   traces-full                       what was made of a record over buffers of 1,024 elements is its effect
@@ -12,53 +11,38 @@ use Prim.Native.Nat.{ℕ, _+_, _≤_}
 use native.Mathlib.Omega.{arith}
 use borrow.Author.Tests.{eqb-true}
 use lib.Dec.{T, eqb}
-use lib.ListN.{length, take, drop}
-use lib.Seq.{take-append-seam, sets-eq}
-use Rattle.integers.specs.Lists.{tabulate, tabulateFrom}
+use lib.ListN.{length}
 use Rattle.h265.specs.ScalingFactor.{ScalingList}
 use Rattle.refusal.specs.Outcome.{Outcome}
-use Rattle.text.specs.Text.{Wrote}
-use Rattle.text.proofs.WroteLaws.{Left, wrote-length}
-use Rattle.feed_block.specs.declared.Kind.{Kind}
-use Rattle.feed_block.specs.declared.Kind.the-variants.{Parameters, List as ListKind, NoList, Levels, Edit, Reading, Unknown}
-use Rattle.feed_block.specs.declared.Given.{Given}
-use Rattle.feed_block.specs.declared.State.{State}
-use Rattle.feed_block.specs.Format.{kindOf}
-use Rattle.feed_records.specs.Record.{FeedState, Effect, isUnknown, recordEffect}
-use Rattle.feed_records.specs.Buffers.{Lent, Buffered, inBuffers}
-use Rattle.feed_records.specs.Taken.{answerOf, Ample}
-use Rattle.feed_records.proofs.EffectLaws.{Moved, effect-moved}
-use Rattle.feed.specs.declared.Line.{Line}
+use Rattle.text.proofs.WroteLaws.{Left}
+use Rattle.feed_lines.specs.Lines.{refusedText}
+use Rattle.feed_format.specs.declared.Kind.{Kind}
+use Rattle.feed_format.specs.declared.Kind.the-variants.{Parameters, List as ListKind, NoList, Levels, Edit, Reading, Unknown}
+use Rattle.feed_format.specs.declared.Given.{Given}
+use Rattle.feed_state.specs.declared.State.{State}
+use Rattle.feed_format.specs.Format.{kindOf, isUnknown}
+use Rattle.feed_rules.specs.Record.{FeedState, Effect, recordEffect}
+use Rattle.feed_state.specs.Buffers.{Lent, Buffered, inBuffers}
+use Rattle.feed_state.specs.Taken.{answerOf, Ample}
+use Rattle.feed_rules.proofs.EffectLaws.{Moved, effect-moved}
 use Rattle.feed.specs.declared.Stepped.{Stepped}
 use Rattle.feed.specs.declared.StepAnswer.{StepAnswer}
 use Rattle.feed.specs.declared.StepAnswer.the-variants.{Done, Refused, NoRoom}
-use Rattle.feed.specs.Feed.{refusedText, History, inHistory}
-use Rattle.feed.specs.Answers.{stepAnswer, isDone, Stepping, Lines}
-use Rattle.feed.specs.Answers.Room.{enough}
-use Rattle.feed.proofs.FollowLaws.{Follows, Same, record-follows, walks-agree, follows-start}
-use Rattle.feed.proofs.StepLaws.{enough-room}
-use Rattle.feed.proofs.WalkLaws.{Walk, walkText, Going, Turn, Passed, passed, going-refused}
-use Rattle.scale_trace.specs.Trace.{levelsLines, recordLines, traceEffect, linesRoom, listRoom, tracing, traceText}
-use Rattle.scale_trace.specs.Work.{refusalOf, TracesAt}
+use Rattle.feed_rules.specs.Feed.{History, inHistory}
+use Rattle.feed.specs.Answers.{stepAnswer, isDone}
+use Rattle.feed_history.specs.Stepping.{Stepping}
+use Rattle.feed_history.specs.Stepping.Room.{enough}
+use Rattle.feed_history.proofs.FollowLaws.{Follows, Same, record-follows, walks-agree, follows-start}
+use Rattle.feed_history.proofs.StepsLaws.{enough-room}
+use Rattle.feed_history.proofs.WalkLaws.{Walk, walkText, Going, Turn, Passed, passed, going-refused}
+use Rattle.scale_trace_rules.specs.Trace.{levelsLines, recordLines, traceEffect, linesRoom, listRoom, traceText}
+use Rattle.scale_trace.specs.Work.{tracing, refusalOf, TracesAt}
 use Rattle.scale_trace.proofs.StepLaws.{numberIn, done-is}
 
 refusal-is : (a : StepAnswer) (o : Outcome (Unit {0})) (at : ℕ) → stepAnswer a ≡ enough o → isDone a ≡ false → refusalOf a at ≡ refusedText (o .number) at
 refusal-is Done o at e d = absurd (subst T d tt)
 refusal-is (Refused why) o at e d = ap (λ (n : ℕ). refusedText n at) (ap numberIn e)
 refusal-is NoRoom o at e d = let z : _≡_ {A = ℕ} 0 1 = cc in absurd (omega arith)
-
-pub line-fits : {t : List ℕ} (r : Line) → Lines r t → length t ≤ 40
-unfolding tabulate tabulateFrom
-line-fits r h = omega (arith, h .wrote .end, h .counts .0, wrote-length (h .wrote))
-
-first-is : (l t m : List ℕ) (j : ℕ) → Wrote l 0 t m j → j ≤ length m → take j m ≡ t
-first-is l t m j w h =
-    let long : 0 + length t ≤ length l = omega (arith, w .end, wrote-length w) in
-    let none : 0 + length t ≡ length t = omega arith in
-    rw (w .is, w .end, sets-eq t l 0 long, none) (take-append-seam t (drop (length t) l))
-
-pub line-is : {t : List ℕ} (r : Line) → Lines r t → take (r .end) (r .bytes) ≡ t
-line-is {t} r h = first-is _ t (r .bytes) (r .end) (h .wrote) (h .counts .0)
 
 -- ---- the walk
 lines-none : (kind : Kind) → isUnknown kind ≡ true → linesRoom kind ≡ 0

@@ -1,6 +1,5 @@
 -- Laws of one record: what the feed's own step says of it, and the lines that it adds.
---   size-none                 a kind without levels has no size
---   kind-side, kind-room      a kind of levels has one of the four sizes, and its lines fit the room of its kind
+--   kind-side                 a kind of levels has one of the four sizes
 --   kind-lines                the lines of a kind, by its size
 --   done-is                   an answer is `Done` where its number is 0
 --   Fed, fed                  the feed's step, with room for every text, says answer and state of the listing's
@@ -20,41 +19,28 @@ use Rattle.refusal.specs.Outcome.{Outcome}
 use Rattle.refusal.proofs.RefusalLaws.{number-least}
 use Rattle.text.specs.Text.{WroteUpTo}
 use Rattle.text.proofs.WroteLaws.{wrote-none, counts}
-use Rattle.feed_block.specs.declared.Kind.{Kind}
-use Rattle.feed_block.specs.declared.Kind.the-variants.{Parameters, List as ListKind, NoList, Levels, Edit, Reading, Unknown}
-use Rattle.feed_block.specs.declared.Given.{Given}
-use Rattle.feed_block.specs.declared.Given.the-variants.{Nothing, These}
-use Rattle.feed_block.specs.declared.State.{State}
-use Rattle.feed_block.specs.Format.{kindOf, recordRoom}
-use Rattle.feed_block.specs.Work.{sizeKnown}
-use Rattle.feed_block.proofs.FormatLaws.{kind-size}
-use Rattle.feed_records.specs.Record.{FeedState, Effect, recordEffect}
-use Rattle.feed_records.specs.Buffers.{Lent, Buffered, inBuffers}
-use Rattle.feed_records.specs.Taken.{stateOf, capped, answerOf}
+use Rattle.feed_format.specs.declared.Kind.{Kind}
+use Rattle.feed_format.specs.declared.Kind.the-variants.{Parameters, List as ListKind, NoList, Levels, Edit, Reading, Unknown}
+use Rattle.feed_format.specs.declared.Given.{Given}
+use Rattle.feed_format.specs.declared.Given.the-variants.{Nothing, These}
+use Rattle.feed_state.specs.declared.State.{State}
+use Rattle.feed_format.specs.Format.{kindOf, recordRoom, sizeKnown}
+use Rattle.feed_format.proofs.FormatLaws.{kind-size, room-most}
+use Rattle.feed_rules.specs.Record.{FeedState, Effect, recordEffect}
+use Rattle.feed_state.specs.Buffers.{Lent, Buffered, inBuffers}
+use Rattle.feed_state.specs.Taken.{stateOf, capped, answerOf}
 use Rattle.feed.specs.declared.Stepped.{Stepped}
 use Rattle.feed.specs.declared.StepAnswer.{StepAnswer}
 use Rattle.feed.specs.declared.StepAnswer.the-variants.{Done, Refused, NoRoom}
-use Rattle.feed.specs.Answers.{Room, stepAnswer, isDone, Stepping, tooShort, steppingBy, stepping, Steps}
-use Rattle.feed.specs.Answers.Room.{tooLittle, enough}
-use Rattle.feed.proofs.StepLaws.{room-most}
-use Rattle.scale_trace_block.specs.Block.{linesFrom, blockLines}
-use Rattle.scale_trace.specs.Trace.{levelsLines, recordLines, traceEffect, linesRoom, listRoom, tracing}
-use Rattle.scale_trace.specs.Work.{sizeOf, TracesAt}
+use Rattle.feed.specs.Answers.{stepAnswer, isDone, Steps}
+use Rattle.feed_history.specs.Stepping.{Room, Stepping, tooShort, steppingBy, stepping}
+use Rattle.feed_history.specs.Stepping.Room.{tooLittle, enough}
+use Rattle.scale_trace_rules.specs.Block.{linesFrom, blockLines}
+use Rattle.scale_trace_rules.specs.Trace.{levelsLines, recordLines, traceEffect, listRoom, sizeOf}
+use Rattle.scale_trace_block.proofs.RoomLaws.{kind-room}
+use Rattle.scale_trace.specs.Work.{tracing, TracesAt}
 
 -- ---- sizes of kinds
-pub size-none : (k : ℕ) → (k ≡ 4 → ⊥) → (k ≡ 5 → ⊥) → (k ≡ 6 → ⊥) → (k ≡ 7 → ⊥) → _≡_ {A = ℕ} 0 (sizeOf (kindOf k))
-unfolding kindOf
-size-none k a b c d =
-    simp (ne-eqb k 4 a, ne-eqb k 5 b, ne-eqb k 6 c, ne-eqb k 7 d) (either (eqb k 1) (eqb k 2) (eqb k 3) (eqb k 8) (eqb k 9))
-  where
-    either : (t u v w x : Bool) → _≡_ {A = ℕ} 0 (sizeOf (cond t Parameters (cond u ListKind (cond v NoList (cond w Edit (cond x Reading Unknown))))))
-    either true u v w x = refl
-    either false true v w x = refl
-    either false false true w x = refl
-    either false false false true x = refl
-    either false false false false true = refl
-    either false false false false false = refl
-
 pub kind-side : {n : ℕ} (k : ℕ) → n ≡ sizeOf (kindOf k) → 0 < n → T (isSize n)
 kind-side k e h = rw e (by-kind (kindOf k) (kind-size k) (rw e at h))
   where
@@ -66,19 +52,6 @@ kind-side k e h = rw e (by-kind (kindOf k) (kind-size k) (rw e at h))
     by-kind Edit t h = absurd (omega arith)
     by-kind Reading t h = absurd (omega arith)
     by-kind Unknown t h = absurd (omega arith)
-
-pub kind-room : {n : ℕ} (k : ℕ) → n ≡ sizeOf (kindOf k) → 20 * (n * n) ≡ listRoom k
-unfolding listRoom
-kind-room k e = rw e (by-kind (kindOf k))
-  where
-    by-kind : (kind : Kind) → 20 * (sizeOf kind * sizeOf kind) ≡ linesRoom kind
-    by-kind Parameters = refl
-    by-kind ListKind = refl
-    by-kind NoList = refl
-    by-kind (Levels n) = refl
-    by-kind Edit = refl
-    by-kind Reading = refl
-    by-kind Unknown = refl
 
 lines-none : (g : Given) (list : ScalingList) → levelsLines g list 0 ≡ []
 unfolding blockLines linesFrom

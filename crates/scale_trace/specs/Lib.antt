@@ -1,2 +1,1 @@
-pub mod Trace
 pub mod Work

@@ -2,6 +2,6 @@
 // `scale_trace_main` is the program.
 mod stream;
 
-pub use stream::listing_room;
+pub use scale_trace_block::listing_room;
 pub use stream::run;
 pub use stream::step;

@@ -1,29 +1,21 @@
 // The listing of a feed: one record, and a whole input. The feed's own step gives answer and state.
 ghost use mathlib.Core.Path.{_≡_};
-ghost use Prim.Native.Nat.{_+_, _*_, _<_, min, _≤_};
+ghost use Prim.Native.Nat.{_+_, _*_, _<_, _≤_};
 ghost use lib.Dec.{T};
 ghost use lib.ListN.{length};
 ghost use Rattle.h265.specs.Range.{isSize};
 ghost use Rattle.text.specs.Text.{Wrote, WroteUpTo, Counts};
-ghost use Rattle.feed_block.specs.Format.{kindOf};
-ghost use Rattle.feed_block.specs.Block.{listIn};
-ghost use Rattle.feed_records.specs.Buffers.{lent};
-ghost use Rattle.feed_records.specs.Taken.{stateOf};
+ghost use Rattle.feed_rules.specs.Block.{listIn};
+ghost use Rattle.feed_state.specs.Buffers.{lent};
+ghost use Rattle.feed_state.specs.Taken.{stateOf};
 ghost use Rattle.feed.specs.Answers.{isDone, Steps};
-ghost use Rattle.scale_trace.specs.Trace.{levelsLines, listRoom, tracing, traceText, listingRoom, Lists};
-ghost use Rattle.scale_trace.specs.Work.{sizeOf, refusalOf, TracesAt};
-use feed::Given;
+ghost use Rattle.scale_trace_rules.specs.Trace.{levelsLines, listRoom, traceText, listingRoom};
+ghost use Rattle.scale_trace.specs.Work.{tracing, Lists, refusalOf, TracesAt};
 use feed::Ran;
-use feed::State;
 use feed::StepAnswer;
 use feed::Stepped;
-use feed_block::format;
-
-fn least(a: usize, b: usize) -> usize
-    ensures { λ r. ⌜ r ≡ min a b ⌝ }
-{
-    if a < b { a } else { b }
-}
+use feed_format::Given;
+use feed_state::State;
 
 fn is_done(answer: StepAnswer) -> bool
     ensures { λ r. ⌜ r ≡ isDone answer ⌝ }
@@ -32,32 +24,6 @@ fn is_done(answer: StepAnswer) -> bool
         StepAnswer::Done => true,
         StepAnswer::Refused(_) => false,
         StepAnswer::NoRoom => false,
-    }
-}
-
-// The size of a kind's block; 0 where a kind has none.
-fn size_of(kind: u8) -> usize
-    ensures { λ r. ⌜ r ≡ sizeOf (kindOf kind) ⌝ }
-{
-    match kind {
-        4 => 4,
-        5 => 8,
-        6 => 16,
-        7 => 32,
-        _ => 0,
-    }
-}
-
-// How many bytes the lines of a record may take.
-fn list_room(kind: u8) -> usize
-    ensures { λ r. ⌜ r ≡ listRoom kind ⌝ }
-{
-    match kind {
-        4 => 320,
-        5 => 1280,
-        6 => 5120,
-        7 => 20480,
-        _ => 0,
     }
 }
 
@@ -104,7 +70,7 @@ fn take_record(
             end: at,
         };
     }
-    let end = put_levels(state, size_of(kind), out, at);
+    let end = put_levels(state, scale_trace_block::size_of(kind), out, at);
     Stepped {
         answer,
         state: next,
@@ -128,7 +94,7 @@ pub fn step(
 ) -> Stepped
     ensures { λ r. ⌜ Steps state r (lent (now (levels .exit)) (now (coeff .exit)) (now (inter .exit)) (now (residual .exit))) (now (out .entry)) (now (out .exit)) (tracing (stateOf state (lent (now (levels .entry)) (now (coeff .entry)) (now (inter .entry)) (now (residual .entry)))) kind (now (body .entry)) (length (now (out .entry)))) ⌝ }
 {
-    if out.len() < list_room(kind) {
+    if out.len() < scale_trace_block::list_room(kind) {
         return Stepped {
             answer: StepAnswer::NoRoom,
             state,
@@ -146,41 +112,13 @@ fn put_refusal(answer: StepAnswer, offset: u64, out: &mut [u8], at: usize) -> us
     match answer {
         StepAnswer::Done => at,
         StepAnswer::Refused(why) => {
-            let line = feed::refusal_line(why, offset);
+            let line = feed_lines::refusal_line(why, offset);
             let bytes = line.bytes;
             let end = line.end;
             text::put_bytes(&bytes[..end], out, at)
         }
         StepAnswer::NoRoom => at,
     }
-}
-
-// A sum that stops before it would wrap.
-fn capped_sum(a: usize, b: usize) -> usize
-    ensures { λ r. ⌜ r ≡ min (a + b) 18446744073709551615 ⌝ }
-{
-    if b < usize::MAX - a {
-        a + b
-    } else {
-        usize::MAX
-    }
-}
-
-// How many bytes the listing of a whole feed may take, by its kinds; more than any buffer has where that passes 64 bits.
-pub fn listing_room(input: &[u8]) -> usize
-    ensures { λ r. ⌜ r ≡ min (listingRoom (now (input .entry))) 18446744073709551615 ⌝ }
-{
-    let mut room = 0;
-    let mut at = 0;
-    while at < input.len() {
-        let kind = input[at];
-        if feed_records::is_unknown(format::kind_of(kind)) {
-            return capped_sum(room, 40);
-        }
-        room = capped_sum(room, list_room(kind));
-        at = least(at + 1 + feed::record_length(kind), input.len());
-    }
-    capped_sum(room, 40)
 }
 
 // The listing of a whole feed, where there is room for it.
@@ -192,13 +130,13 @@ fn run_within(input: &[u8], out: &mut [u8]) -> usize
     let mut coeff = [0i32; 1024];
     let mut inter = [0i32; 1024];
     let mut residual = [0i32; 1024];
-    let mut state = feed::start();
+    let mut state = feed_state::start();
     let mut end = 0;
     while (state.offset as usize) < input.len() {
         let at = state.offset as usize;
         let kind = input[at];
         let from = at + 1;
-        let stop = least(from + feed::record_length(kind), input.len());
+        let stop = feed_format::least(from + feed_format::record_length(kind), input.len());
         let taken = take_record(
             state,
             kind,
@@ -227,7 +165,7 @@ fn run_within(input: &[u8], out: &mut [u8]) -> usize
 pub fn run(input: &[u8], out: &mut [u8]) -> Ran
     ensures { λ r. ⌜ Lists r (now (out .entry)) (now (out .exit)) (now (input .entry)) ⌝ }
 {
-    if out.len() < listing_room(input) {
+    if out.len() < scale_trace_block::listing_room(input) {
         return Ran::NoRoom;
     }
     Ran::Text(run_within(input, out))

@@ -1,4 +1,4 @@
--- Laws of the lines of a block; each file builds only on those above it.
+-- Laws of the lines of a block and of their room; each file builds only on those above it.
 pub mod RuleLaws
-pub mod SupplyLaws
 pub mod LineLaws
+pub mod RoomLaws

@@ -14,8 +14,8 @@ use Rattle.h265.specs.ScalingFactor.{ScalingList}
 use Rattle.text.specs.Text.{space, unsignedText, Wrote, WroteUpTo}
 use Rattle.text.proofs.WroteLaws.{Left, wrote-more, left-start, left-more, left-done}
 use Rattle.text.proofs.NumberLaws.{unsigned-length}
-use Rattle.feed_block.specs.declared.Mode.{Mode}
-use Rattle.scale_trace_block.specs.Block.{BlockSource, blockSource, blockFactor, ruleText, lineText, linesFrom, blockLines}
+use Rattle.feed_format.specs.declared.Mode.{Mode}
+use Rattle.scale_trace_rules.specs.Block.{BlockSource, blockSource, blockFactor, ruleText, lineText, linesFrom, blockLines}
 
 -- ---- one line
 pub within : {l t m : List ℕ} {i j k : ℕ} → Wrote l i t m j → length t ≤ k → WroteUpTo l i t m j (i + k)

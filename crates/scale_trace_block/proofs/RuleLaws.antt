@@ -1,11 +1,10 @@
 -- Laws of the rule that supplies m, and of m as the lookup of `scaling` gives it.
---   factor-none                                       m without a list in force
 --   source-none, -skip, -four, -eight, -dc, -repeat   each answer of `source_of`, from the tests that lead to it
 --   factor-flat, -skip, -listed                       m, from the tests of `factor_of`
 --   position-16, position-32                          the position that the code works out
 --   coeff-accepted, -factor, -refused                 the lookup refuses nothing that a line asks for, and gives m
 use mathlib.Core.Path.{_≡_, refl, ap, _∙_}
-use mathlib.Core.Bool.{Bool, true, false, not, cond}
+use mathlib.Core.Bool.{Bool, true, false, not}
 use mathlib.Core.List.{List}
 use Prim.Native.Nat.{ℕ, _+_, _*_, _/_, _%_, _<_, _≤_}
 use native.Mathlib.Omega.{arith}
@@ -13,8 +12,8 @@ use borrow.Author.Tests.{eq-eqb, ne-eqb, lt-leb, not-true, not-false}
 use lib.Dec.{T}
 use lib.ListN.{length}
 use Rattle.h265.specs.Range.{isSize, log2Size}
-use Rattle.h265.specs.ScalingFactor.{ScalingList, repeatedPosition, factorSource, factorBy, scalingFactor}
-use Rattle.h265.specs.ScalingFactor.ScalingList.{flat, listed}
+use Rattle.h265.specs.ScalingFactor.{repeatedPosition, factorSource, factorBy, scalingFactor}
+use Rattle.h265.specs.ScalingFactor.ScalingList.{listed}
 use Rattle.h265.proofs.RangeLaws.{size-cases}
 use Rattle.refusal.specs.declared.Refusal.{Refusal}
 use Rattle.refusal.specs.Condition.{sizeRefused, listRefused}
@@ -22,23 +21,17 @@ use Rattle.refusal.specs.Outcome.{Outcome, accepted, refused}
 use Rattle.refusal.proofs.RefusalLaws.{number-least}
 use Rattle.scaling.specs.Factor.{scalingCoeff}
 use Rattle.scaling_values.proofs.FactorLaws.{position-inside}
-use Rattle.feed_block.specs.declared.Mode.{Mode}
-use Rattle.feed_block.specs.Block.{listIgnored, listFor, listIn}
+use Rattle.feed_format.specs.Format.{listIgnored}
+use Rattle.feed_format.specs.declared.Mode.{Mode}
+use Rattle.feed_rules.specs.Block.{listFor, listIn}
+use Rattle.scale_trace_rules.proofs.SupplyLaws.{factor-none}
 use Rattle.scale_trace_block.specs.declared.Source.{Source}
 use Rattle.scale_trace_block.specs.declared.Source.the-variants.{None, Four, Eight, Dc, Repeat, Skip}
-use Rattle.scale_trace_block.specs.Block.{blockSource, blockFactor}
-use Rattle.scale_trace_block.specs.Block.BlockSource.{rule, skip}
+use Rattle.scale_trace_rules.specs.Block.{blockSource, blockFactor}
+use Rattle.scale_trace_rules.specs.Block.BlockSource.{rule}
 use Rattle.scale_trace_block.specs.Work.{LinePrecondition, sourceIs, positionOf, SourceAt}
 
 -- ---- the rule
-pub factor-none : (mode : Mode) (n i : ℕ) → _≡_ {A = ℕ} 16 (blockFactor flat mode n i)
-unfolding blockFactor listFor scalingFactor factorSource factorBy
-factor-none mode n i = by-test (listIgnored mode n)
-  where
-    by-test : (t : Bool) → _≡_ {A = ℕ} 16 (factorBy (cond t flat flat) (factorSource (cond t flat flat) n i))
-    by-test true = refl
-    by-test false = refl
-
 pub source-none : {x : Bool} (mode : Mode) (n i : ℕ) → not x ≡ true → SourceAt x mode n i None
 unfolding blockSource factorSource
 source-none {x} mode n i z = rw (not-true x z) (record { is = λ es d. refl; low = omega arith })

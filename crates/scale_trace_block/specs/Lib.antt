@@ -1,3 +1,1 @@
-pub mod Block
-pub mod Supply
 pub mod Work

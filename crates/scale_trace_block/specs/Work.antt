@@ -11,12 +11,12 @@ use Prim.Native.Nat.{ℕ, _*_, _<_}
 use lib.Dec.{T}
 use Rattle.h265.specs.Range.{isSize}
 use Rattle.h265.specs.ScalingFactor.FactorSource.{none, four, eight, dc, repeated}
-use Rattle.feed_block.specs.declared.Mode.{Mode}
-use Rattle.feed_block.specs.Block.{listIn}
+use Rattle.feed_format.specs.declared.Mode.{Mode}
+use Rattle.feed_rules.specs.Block.{listIn}
 use Rattle.scale_trace_block.specs.declared.Source.{Source}
 use Rattle.scale_trace_block.specs.declared.Source.the-variants.{None, Four, Eight, Dc, Repeat, Skip}
-use Rattle.scale_trace_block.specs.Block.{BlockSource, blockSource}
-use Rattle.scale_trace_block.specs.Block.BlockSource.{rule, skip}
+use Rattle.scale_trace_rules.specs.Block.{BlockSource, blockSource}
+use Rattle.scale_trace_rules.specs.Block.BlockSource.{rule, skip}
 
 abbrev pub sourceIs : Source → BlockSource
 sourceIs None = rule none

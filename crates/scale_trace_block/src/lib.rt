@@ -1,9 +1,13 @@
-// The listing of one block: for each index the m that scaling uses, and the rule that supplies it.
+// The listing of one block: for each index the m that scaling uses, and the rule that supplies it; and the room that a listing may take.
 // Internal: callers meet each `requires`.
-mod lines;
+mod line_text;
+mod room;
 mod rule;
 
-pub use lines::put_lines;
+pub use line_text::put_lines;
+pub use room::list_room;
+pub use room::listing_room;
+pub use room::size_of;
 
 // The rule that supplies m, with the position in the list where the rule has one.
 pub enum Source {

@@ -4,12 +4,11 @@ ghost use Prim.Native.Nat.{_*_, _<_};
 ghost use lib.Dec.{T};
 ghost use lib.ListN.{length};
 ghost use Rattle.h265.specs.Range.{isSize};
-ghost use Rattle.feed_block.specs.Block.{listIn};
-ghost use Rattle.scale_trace_block.specs.Block.{blockFactor};
+ghost use Rattle.feed_rules.specs.Block.{listIn};
+ghost use Rattle.scale_trace_rules.specs.Block.{blockFactor};
 ghost use Rattle.scale_trace_block.specs.Work.{LinePrecondition, SourceAt};
 use crate::Source;
-use feed_block::Mode;
-use feed_block::block;
+use feed_format::Mode;
 use scaling::FactorAnswer;
 
 // The rule at an index.
@@ -20,7 +19,7 @@ pub(crate) fn source_of(listed: bool, mode: Mode, n: usize, index: usize) -> Sou
     if !listed {
         return Source::None;
     }
-    if block::list_ignored(mode, n) {
+    if feed_format::list_ignored(mode, n) {
         return Source::Skip;
     }
     if n == 4 {
@@ -53,7 +52,7 @@ pub(crate) fn factor_of(
     if !listed {
         return 16;
     }
-    if block::list_ignored(mode, n) {
+    if feed_format::list_ignored(mode, n) {
         return 16;
     }
     match scaling::scaling_coeff(entries, dc, n, index) {

@@ -1,4 +1,4 @@
--- The lookup of m. Document 01, "Scaling", and rows 1, 5 and 8 of its table.
+-- The lookup of m. docs/RULES.md, "Scaling", and rows 1, 5 and 8 of its table.
 --   scalingCoeff entries d n i   the answer at index i of a block of size n, for a list with DC number d
 use mathlib.Core.Bool.{cond}
 use mathlib.Core.List.{List}

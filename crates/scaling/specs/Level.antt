@@ -1,4 +1,4 @@
--- One level. Document 01, "Scaling", and rows 1 and 2 of its table; document 02, R-6.
+-- One level. docs/RULES.md, "Scaling", and rows 1 and 2 of its table; change request R-6.
 --   scaledLevel   the answer for a level of a block: size n, QP′ as given, depth b, flag x
 --                 its coefficient, whether the level was limited, and whether after that the result was
 use mathlib.Core.Bool.{Bool, cond}

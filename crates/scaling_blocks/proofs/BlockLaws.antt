@@ -1,9 +1,12 @@
 -- Laws of a call on a block, of every width and with or without a list: what its numbers answer, what is known below the
 -- refusals, and what the working functions' lists are in clause 8.6's terms.
+--   refused-params, passed-params, passed-is, never-refused   what the ladder without its numbers says of the one with them
 --   block-refused        a call whose numbers are refused hands back that refusal and the output as lent
 --   Ready, block-ready   what holds once the numbers are there
+--   ladder-ready         the same by the ladder without its numbers
 --   ready-regular, ready-listed   the numbers are regular, and listable where R = 15
 --   narrow-ends, narrow-listable, narrow-shift   of a 16-bit output: the range's ends fit 16 bits, R = 15, and t > 0
+--   block-residuals, block-coefficients   a block with a list by one flag
 --   flat-writes, listed-writes, flat-skips, listed-skips   what was written and counted is what the definition says
 use mathlib.Core.Path.{_≡_, refl, sym, ap, subst, _∙_}
 use mathlib.Core.Bool.{Bool, true, false, _&&_}
@@ -26,29 +29,30 @@ use Rattle.h265.specs.ScalingFactor.ScalingList.{flat, listed}
 use Rattle.h265.specs.Scaling.{scaledAt}
 use Rattle.h265.specs.Limited.{limitedAt, countOf, limitedCount}
 use Rattle.h265.specs.TransformSkip.{tsShift, tsResidual, skippedAt}
-use Rattle.h265.proofs.RangeLaws.{transformRange-least, transformRange-depth}
+use Rattle.h265.proofs.RangeLaws.{transformRange-least, transformRange-depth, size-square}
 use Rattle.refusal.specs.declared.Refusal.{Refusal}
 use Rattle.refusal.specs.declared.Refusal.the-variants.{SizeInvalid, DepthInvalid, WidthTooNarrow, ListLengthInvalid, InputTooShort, OutputTooShort}
 use Rattle.refusal.specs.Condition.{sizeRefused, depthRefused, widthRefused, listRefused, blockRefused}
-use Rattle.refusal.specs.Outcome.{accepted, refused}
-use Rattle.refusal.proofs.ConditionLaws.{size-accepted, width-accepted}
+use Rattle.refusal.specs.Outcome.{Outcome, accepted, refused}
+use Rattle.refusal.proofs.ConditionLaws.{size-accepted, width-accepted, block-room, list-whole}
+use Rattle.refusal.proofs.RefusalLaws.{number-least}
 use Rattle.parameters.specs.declared.TransformSkipParams.{TransformSkipParams}
 use Rattle.parameters.specs.Answers.{noTransformSkip}
-use Rattle.parameters.specs.Parameters.{dequantOf, transformSkipOf, KnownSize}
+use Rattle.parameters.specs.Parameters.{dequantOf, transformSkipOf, transformSkipParams, KnownSize}
 use Rattle.parameters.proofs.ParametersLaws.{known-accepted}
-use Rattle.scaling_blocks.specs.Blocks.{blockLadder, blockParams, blockWritten, dequantized, transformSkipped, entriesOf, CountWritten, CountWrites, leftAsLent, counted}
+use Rattle.scaling_blocks.specs.Blocks.{scalingLadder, blockAnswer, notRefused, blockParams, blockWritten, dequantized, transformSkipped, listedBlockAt, entriesOf, CountWritten, CountWrites, leftAsLent, counted}
 use Rattle.scaling_blocks.specs.declared.CountAnswer.the-variants.{Limited, Refused}
 use Rattle.scaling_values.specs.Factor.{WholeList}
 use Rattle.scaling_values.specs.Level.{Ends}
 use Rattle.scaling_values.specs.Flat.{Regular}
-use Rattle.scaling_values.specs.Listed.{Listable, Listed}
+use Rattle.scaling_values.specs.Listed.{Listable}
+use Rattle.scaling_values.specs.Long.{Listed}
 use Rattle.scaling_values.specs.Skip.{Skippable}
 use Rattle.scaling_values.specs.Work.{flatAt, listedAt, flatLimitedAt, listedLimitedAt, flatResidualAt, listedResidualAt, Counted, Room}
 use Rattle.refusal.proofs.LadderLaws.{Rung, Passed, first-accepted, first-passed, first-refused, with-value}
 use Rattle.refusal.proofs.LadderLaws.Rung.{rung}
-use Rattle.scaling_values.proofs.FactorLaws.{size-square}
 use Rattle.scaling_values.proofs.FlatLaws.{dequantOf-regular}
-use Rattle.scaling_values.proofs.ListedLaws.{dequantOf-listed}
+use Rattle.scaling_values.proofs.LongLaws.{dequantOf-listed}
 use Rattle.scaling_values.proofs.CountLaws.{count-cong}
 use Rattle.scaling_values.proofs.LevelLaws.{dequantOf-manageable, flatLevel-eq, listedLevel-eq, listedLimited-eq}
 
@@ -62,11 +66,44 @@ rungs narrow n b x entries levels places =
     ∷ rung (blockRefused n places) OutputTooShort
     ∷ []
 
+-- ---- the ladder without its numbers
+abbrev refusedBy : Refusal → Outcome (Unit {0})
+refusedBy e = refused tt e
+
+module _ (narrow : Bool) (n : ℕ) (q : ℤ) (b : ℕ) (x : Bool) (entries levels places : ℕ) where
+  pub refused-params : (e : Refusal) → refusedBy e ≡ blockAnswer narrow n b x entries levels places
+      → refused noTransformSkip e ≡ blockParams narrow n q b x entries levels places
+  unfolding blockParams scalingLadder
+  refused-params e h =
+      first-refused tt tt (refused noTransformSkip) (accepted (transformSkipOf (log2Size n) q b x)) (λ w. refused noTransformSkip e ≡ w) e
+      (λ f k. with-value noTransformSkip e f k) (rungs narrow n b x entries levels places) h
+
+  pub passed-is : notRefused ≡ blockAnswer narrow n b x entries levels places → accepted (transformSkipOf (log2Size n) q b x) ≡ blockParams narrow n q b x entries levels places
+  unfolding blockParams scalingLadder
+  passed-is h =
+      sym (first-passed (refused noTransformSkip) (accepted (transformSkipOf (log2Size n) q b x)) (rungs narrow n b x entries levels places) (first-accepted tt tt tt (rungs narrow n b x entries levels places) h .0))
+
+  params-is : sizeRefused n ≡ false → depthRefused b ≡ false → transformSkipParams n q b x ≡ accepted (transformSkipOf (log2Size n) q b x)
+  unfolding transformSkipParams
+  params-is s d = rw (s, d)
+
+  pub passed-params : notRefused ≡ blockAnswer narrow n b x entries levels places → transformSkipParams n q b x ≡ blockParams narrow n q b x entries levels places
+  unfolding scalingLadder
+  passed-params h =
+      let s = first-accepted tt tt tt (rungs narrow n b x entries levels places) h .0 in
+      params-is (s .0) (s .1 .0) ∙ passed-is h
+
+  -- a call that is not refused has its numbers
+  pub never-refused : (e : Refusal) → notRefused ≡ blockAnswer narrow n b x entries levels places
+      → refused noTransformSkip e ≡ transformSkipParams n q b x → ⊥
+  never-refused e h k =
+      omega (arith, number-least e, ap (λ (o : Outcome TransformSkipParams). o .number) (k ∙ passed-params h ∙ sym (passed-is h)))
+
 -- ---- refused
 pub block-refused : (narrow : Bool) (list : ScalingList) (n : ℕ) (q : ℤ) (b : ℕ) (x : Bool) (levels out : List ℤ) (at : ℕ → ℤ) (e : Refusal)
     → refused noTransformSkip e ≡ blockParams narrow n q b x (entriesOf list) (length levels) (length out)
     → CountWrites (Refused e) out (blockWritten narrow list n q b x levels out at)
-unfolding blockParams blockWritten blockLadder
+unfolding blockParams blockWritten scalingLadder
 block-refused narrow list n q b x levels out at e h =
     first-refused noTransformSkip (transformSkipOf (log2Size n) q b x) _ _ (λ w. CountWrites (Refused e) out w) e
     (λ f k. record { answered = with-value 0 e f k; out = refl }) (rungs narrow n b x (entriesOf list) (length levels) (length out)) h
@@ -84,14 +121,6 @@ transformSkipOf-skippable l q b x k =
       add = refl;
     }
 
-block-room : (n len : ℕ) → blockRefused n len ≡ false → n * n ≤ len
-unfolding blockRefused
-block-room n len e = ltb-false len (n * n) e
-
-list-whole : (len : ℕ) → listRefused len ≡ false → len ≡ 64
-unfolding listRefused
-list-whole len e = eqb-true len 64 (not-false (eqb len 64) e)
-
 pub record Ready (narrow : Bool) (n : ℕ) (q : ℤ) (b : ℕ) (x : Bool) (entries levels places : ℕ) (p : TransformSkipParams) : Type 0 where
   pub passed : Passed (rungs narrow n b x entries levels places)
   pub is : p ≡ transformSkipOf (log2Size n) q b x
@@ -103,7 +132,7 @@ pub record Ready (narrow : Bool) (n : ℕ) (q : ℤ) (b : ℕ) (x : Bool) (entri
 
 pub block-ready : (narrow : Bool) (n : ℕ) (q : ℤ) (b : ℕ) (x : Bool) (entries levels places : ℕ) (p : TransformSkipParams)
     → accepted p ≡ blockParams narrow n q b x entries levels places → Ready narrow n q b x entries levels places p
-unfolding blockParams blockLadder
+unfolding blockParams scalingLadder
 block-ready narrow n q b x entries levels places p h =
     let a = first-accepted noTransformSkip (transformSkipOf (log2Size n) q b x) p (rungs narrow n b x entries levels places) h in
     let s = a .0 in
@@ -118,6 +147,12 @@ block-ready narrow n q b x entries levels places p h =
       whole = record { size = size; whole = list-whole entries (s .1 .1 .1 .0) };
       square = size-square n size;
     }
+
+-- the same by the ladder without its numbers
+pub ladder-ready : (narrow : Bool) (n : ℕ) (q : ℤ) (b : ℕ) (x : Bool) (entries levels places : ℕ)
+    → notRefused ≡ blockAnswer narrow n b x entries levels places → Ready narrow n q b x entries levels places (transformSkipOf (log2Size n) q b x)
+ladder-ready narrow n q b x entries levels places h =
+    block-ready narrow n q b x entries levels places (transformSkipOf (log2Size n) q b x) (passed-is narrow n q b x entries levels places h)
 
 pub ready-regular : {narrow : Bool} {n : ℕ} {q : ℤ} {b : ℕ} {x : Bool} {entries levels places : ℕ} {p : TransformSkipParams}
     → Ready narrow n q b x entries levels places p → Regular (p .dequant)
@@ -191,7 +226,7 @@ module _ (narrow : Bool) (n : ℕ) (q : ℤ) (b : ℕ) (x : Bool) (levels out af
       → Counted (by p) (told p) (n * n) out after m → ((i : ℕ) → by (transformSkipOf (log2Size n) q b x) i ≡ at i)
       → ((i : ℕ) → told (transformSkipOf (log2Size n) q b x) i ≡ limitedAt list n b x q levels i)
       → CountWrites (Limited m) after (blockWritten narrow list n q b x levels out at)
-  unfolding blockWritten blockLadder limitedCount
+  unfolding blockWritten scalingLadder limitedCount
   written list by told at r c k l =
       subst (λ (w : CountWritten). CountWrites (Limited m) after w)
       (sym (first-passed (leftAsLent out) (counted (limitedCount list n b x q levels) (overwrite (n * n) at out)) (rungs narrow n b x (entriesOf list) (length levels) (length out)) (r .passed)))
@@ -231,3 +266,15 @@ module _ (narrow : Bool) (n : ℕ) (q : ℤ) (b : ℕ) (x : Bool) (levels out af
   listed-skips es d r c =
       written (listed es d) (λ s. listedResidualAt s (listed es d) n levels) (λ s. listedLimitedAt (s .dequant) (listed es d) n levels) (skippedAt (listed es d) n b x q levels) r c
       (λ i. ap (tsResidual (tsShift (transformRange b x) b (log2Size n))) (listed-at (listed es d) n q b x levels i)) (listed-limited-at (listed es d) n q b x levels)
+
+-- the same by one flag, at the numbers that are asked for
+module _ {p r : TransformSkipParams} (e : p ≡ r) (list : ScalingList) (n : ℕ) (levels : List ℤ) {out after : List ℤ} {m : ℕ} where
+  pub block-residuals : Counted (listedResidualAt p list n levels) (listedLimitedAt (p .dequant) list n levels) (n * n) out after m
+      → Counted (listedBlockAt true r list n levels) (listedLimitedAt (r .dequant) list n levels) (n * n) out after m
+  unfolding listedBlockAt
+  block-residuals c = subst (λ (q : TransformSkipParams). Counted (listedResidualAt q list n levels) (listedLimitedAt (q .dequant) list n levels) (n * n) out after m) e c
+
+  pub block-coefficients : Counted (listedAt (p .dequant) list n levels) (listedLimitedAt (p .dequant) list n levels) (n * n) out after m
+      → Counted (listedBlockAt false r list n levels) (listedLimitedAt (r .dequant) list n levels) (n * n) out after m
+  unfolding listedBlockAt
+  block-coefficients c = subst (λ (q : TransformSkipParams). Counted (listedAt (q .dequant) list n levels) (listedLimitedAt (q .dequant) list n levels) (n * n) out after m) e c

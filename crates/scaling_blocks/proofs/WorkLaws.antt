@@ -3,21 +3,24 @@
 --   flatAt-within, listedAt-within         it is at most 2^22 in size
 --   direct-counted                         what is written and counted by entries that are the list's m is the block's
 --   row-position                           the position of an index of a row
+--   shared-row                             a row that is not the first of those that share their entries has the quotient of the row above
 --   stored-rest                            a place that a loop has not come to is as lent
---   fills-none, -more, -to, -then, -first  a loop that lays entries out, one after the other, and the DC number last
+--   fills-none, -more, -copy, -to, -then, -first  a loop that lays entries out, one after the other, and the DC number last
 --   coefficients-of, residuals-of          coefficients where they stand, and residuals in their place
 --   skip-counted                           the same with the count of the coefficients
 --   stored-as, cast-fits, cast-as          what a store, and a store after a cast, leave: the number itself
 use mathlib.Core.Path.{_≡_, refl, sym, ap, ap₂, subst, _∙_}
 use mathlib.Core.Bool.{Bool}
 use mathlib.Core.List.{List}
-use Prim.Native.Nat.{ℕ, _+_, _-_, _*_, _/_, _^_, _≤_, _<_}
+use Prim.Native.Nat.{ℕ, _+_, _-_, _*_, _/_, _%_, _^_, _≤_, _<_}
+use native.Mathlib.Nat.{mod-lt}
 use native.Mathlib.Decide.{decLt}
 use native.Mathlib.Omega.{arith}
 use lib.Arith.{digits-div, digits-mod}
 use lib.Dec.{T, leb}
 use lib.IntN.{ℤ, pos}
 use lib.ListN.{length, getD, set, length-set}
+use lib.Pow.{pow-pos, split, high}
 use lib.Seq.{getD-set-same, getD-set-other}
 use mir.Syntax.{Width}
 use mir.Val.{SFits, toZ, ofZ, hbits}
@@ -68,6 +71,18 @@ row-position n r row c s h =
     rw (s .repeats)
     (sym (ap₂ (λ (a : ℕ) (b : ℕ). a / 2 ^ (log2Size n - 3) * 8 + b / 2 ^ (log2Size n - 3)) (digits-div row h) (digits-mod row h)))
 
+-- rows that share their entries have the same quotient
+pub shared-row : (row r : ℕ) → (row / 2 ^ r * 2 ^ r ≡ row → ⊥) → (row - 1) / 2 ^ r ≡ row / 2 ^ r
+shared-row row r h =
+    let e = split row r in
+    let l : row % 2 ^ r < 2 ^ r = mod-lt row (pow-pos r) in
+    let o : row - 1 ≡ row / 2 ^ r * 2 ^ r + (row % 2 ^ r - 1) = elim (decLt 0 (row % 2 ^ r)) [
+      | yes a ↦ omega (arith, e, a)
+      | no a ↦ absurd (h (omega (arith, e, a)))
+    ]
+    in
+    ap (λ (k : ℕ). k / 2 ^ r) o ∙ high (row / 2 ^ r) r {lo = row % 2 ^ r - 1} (omega (arith, l, pow-pos r))
+
 -- ---- entries laid out
 pub fills-none : {f : ℕ → ℕ} {i j : ℕ} {xs : List ℕ} → i ≡ j → Fills f i j xs xs
 fills-none q = record { same = refl; more = λ h k a. h k (omega (arith, q)) }
@@ -81,6 +96,17 @@ module _ {f : ℕ → ℕ} {i j : ℕ} {xs ys : List ℕ} (s : Fills f i j xs ys
         more = λ h m a. elim (decLt m j) [
           | yes l ↦ getD-set-other ys j m v 0 (λ w. let x : ⊥ = omega arith in x) ∙ s .more h m l
           | no l ↦ let w : m ≡ j = omega (arith, q) in rw w (getD-set-same ys j v 0 (omega (arith, b, s .same)) ∙ e)
+        ];
+      }
+
+  -- the next entry is one that is there
+  pub fills-copy : (k a : ℕ) → k ≡ j + 1 → j < length xs → a < j → f a ≡ f j → Fills f i k xs (set ys j (getD ys a 0))
+  fills-copy k a q b l e =
+      record {
+        same = length-set ys j (getD ys a 0) ∙ s .same;
+        more = λ h m n. elim (decLt m j) [
+          | yes o ↦ getD-set-other ys j m (getD ys a 0) 0 (λ w. let x : ⊥ = omega arith in x) ∙ s .more h m o
+          | no o ↦ let w : m ≡ j = omega (arith, q) in rw w (getD-set-same ys j (getD ys a 0) 0 (omega (arith, b, s .same)) ∙ s .more h a l ∙ e)
         ];
       }
 

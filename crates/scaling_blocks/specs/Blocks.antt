@@ -1,13 +1,15 @@
--- Whole blocks, refused calls included. Document 01, "Scaling", "Transform skip", and rows 1, 2, 3, 5, 6, 7 of its table;
--- document 02, R-6.
+-- Whole blocks, refused calls included. docs/RULES.md, "Scaling", "Transform skip", and rows 1, 2, 3, 5, 6, 7 of its table;
+-- change request R-6.
 -- Letters: n size, q QP′ as given, b depth, x extended precision.
---   blockLadder           what `stop` makes of the lowest refusal that applies, else `done`
+--   scalingLadder           what `stop` makes of the lowest refusal that applies, else `done`
+--   blockAnswer           the ladder alone; notRefused: it refuses nothing
 --   countOutcome          the answer of a call: its value is how many coefficients were limited, 0 on refusal
 --   CountWritten          what a call hands back: its outcome with that count, and its output buffer afterwards
 --   leftAsLent, counted   refused, with the output as lent; accepted
 --   dequantized           scaling: the coefficients stand in the first n² places of the output
 --   transformSkipped      transform skip: the residuals stand there; the coefficients that were limited count, before the skip shift
 --   CountWrites r after w a call's answer r and output `after` are what w says
+--   listedBlockAt skip    the residual at an index of a block with a list, or its coefficient
 --   blockParams           the numbers by which a call works, below the same ladder
 use mathlib.Core.Path.{_≡_}
 use mathlib.Core.Bool.{Bool, true, false, _&&_, cond}
@@ -29,6 +31,7 @@ use Rattle.refusal.specs.Outcome.{Outcome, accepted, refused}
 use Rattle.parameters.specs.declared.TransformSkipParams.{TransformSkipParams}
 use Rattle.parameters.specs.Answers.{noTransformSkip}
 use Rattle.parameters.specs.Parameters.{transformSkipOf}
+use Rattle.scaling_values.specs.Work.{listedAt, listedResidualAt}
 use Rattle.scaling_blocks.specs.declared.CountAnswer.{CountAnswer}
 use Rattle.scaling_blocks.specs.declared.CountAnswer.the-variants.{Limited, Refused}
 
@@ -44,14 +47,21 @@ abbrev pub entriesOf : ScalingList → ℕ
 entriesOf flat = 64
 entriesOf (listed entries d) = length entries
 
-unfoldable pub blockLadder : {A : Type 0} → (Refusal → A) → A → Bool → ℕ → ℕ → Bool → ℕ → ℕ → ℕ → A
-blockLadder stop done narrow n b x entries levels places =
+unfoldable pub scalingLadder : {A : Type 0} → (Refusal → A) → A → Bool → ℕ → ℕ → Bool → ℕ → ℕ → ℕ → A
+scalingLadder stop done narrow n b x entries levels places =
     cond (sizeRefused n) (stop SizeInvalid)
     (cond (depthRefused b) (stop DepthInvalid)
     (cond (narrow && widthRefused b x) (stop WidthTooNarrow)
     (cond (listRefused entries) (stop ListLengthInvalid)
     (cond (blockRefused n levels) (stop InputTooShort)
     (cond (blockRefused n places) (stop OutputTooShort) done)))))
+
+-- the ladder alone
+abbrev pub blockAnswer : Bool → ℕ → ℕ → Bool → ℕ → ℕ → ℕ → Outcome (Unit {0})
+blockAnswer narrow n b x entries levels places = scalingLadder (refused tt) (accepted tt) narrow n b x entries levels places
+
+abbrev pub notRefused : Outcome (Unit {0})
+notRefused = accepted tt
 
 abbrev pub countOutcome : CountAnswer → Outcome ℕ
 countOutcome (Limited k) = accepted k
@@ -74,7 +84,7 @@ pub record CountWrites (r : CountAnswer) (after : List ℤ) (w : CountWritten) :
 -- refused: the output as lent; else element i of the first n² is `at i`, and the others are as lent
 unfoldable pub blockWritten : Bool → ScalingList → ℕ → ℤ → ℕ → Bool → List ℤ → List ℤ → (ℕ → ℤ) → CountWritten
 blockWritten narrow list n q b x levels out at =
-    blockLadder (leftAsLent out)
+    scalingLadder (leftAsLent out)
     (counted (limitedCount list n b x q levels) (overwrite (n * n) at out))
     narrow n b x (entriesOf list) (length levels) (length out)
 
@@ -86,4 +96,7 @@ transformSkipped narrow list n q b x levels out = blockWritten narrow list n q b
 
 unfoldable pub blockParams : Bool → ℕ → ℤ → ℕ → Bool → ℕ → ℕ → ℕ → Outcome TransformSkipParams
 blockParams narrow n q b x entries levels places =
-    blockLadder (refused noTransformSkip) (accepted (transformSkipOf (log2Size n) q b x)) narrow n b x entries levels places
+    scalingLadder (refused noTransformSkip) (accepted (transformSkipOf (log2Size n) q b x)) narrow n b x entries levels places
+
+unfoldable pub listedBlockAt : Bool → TransformSkipParams → ScalingList → ℕ → List ℤ → ℕ → ℤ
+listedBlockAt skip p list n levels = cond skip (listedResidualAt p list n levels) (listedAt (p .dequant) list n levels)

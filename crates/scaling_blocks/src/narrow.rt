@@ -6,15 +6,20 @@ ghost use lib.IntN.{pos};
 ghost use lib.Signed.{_≤ℤ_};
 ghost use mir.Syntax.{w16};
 ghost use Rattle.integers.specs.Lists.{overwrite};
+ghost use Rattle.h265.specs.Range.{log2Size};
 ghost use Rattle.h265.specs.ScalingFactor.ScalingList.{listed};
+ghost use Rattle.parameters.specs.Parameters.{dequantOf, transformSkipOf};
 ghost use Rattle.scaling_values.specs.Factor.{WholeList};
 ghost use Rattle.scaling_values.specs.Level.{Manageable};
 ghost use Rattle.scaling_values.specs.Flat.{shortAt, shortLimitedAt, Short, ShortFits};
 ghost use Rattle.scaling_values.specs.Listed.{compactAt, compactLimitedAt, Listable, Compact};
 ghost use Rattle.scaling_values.specs.Skip.{Skippable};
 ghost use Rattle.scaling_values.specs.Work.{listedAt, listedLimitedAt, residualAt, Counted, Room};
+ghost use Rattle.scaling_blocks.specs.Blocks.{bits16, notRefused, blockAnswer, listedBlockAt};
 use crate::spread;
 use parameters::DequantParams;
+use parameters::QpPrime;
+use parameters::TransformSkipAnswer;
 use parameters::TransformSkipParams;
 use scaling_values::FlatParams;
 use scaling_values::ListedParams;
@@ -103,5 +108,36 @@ pub fn skip_block(count: usize, by: TransformSkipParams, out: &mut [i16])
     while i < count {
         out[i] = skip::skipped(out[i] as i32, by.tr_add, by.tr_shift) as i16;
         i += 1;
+    }
+}
+
+// A block that is not refused, with a list: its coefficients, or their residuals, and how many coefficients were limited. It works its numbers out
+// itself, so that they stay in registers, and both calls of it share one copy of the loops.
+pub fn listed_block(
+    skip: bool,
+    levels: &[i32],
+    n: usize,
+    qp_prime: QpPrime,
+    bit_depth: u8,
+    extended_precision: bool,
+    list: &[u8],
+    dc: u8,
+    out: &mut [i16],
+) -> u16
+    requires { ⌜ notRefused ≡ blockAnswer bits16 n «bit_depth» «extended_precision» (length (now list)) (length (now levels)) (length (now out)) ⌝ }
+    ensures { λ r. ⌜ Counted (listedBlockAt skip (transformSkipOf (log2Size n) («qp_prime» .0) «bit_depth» «extended_precision») (listed (now (list .entry)) dc) n (now (levels .entry))) (listedLimitedAt (dequantOf (log2Size n) («qp_prime» .0) «bit_depth» «extended_precision») (listed (now (list .entry)) dc) n (now (levels .entry))) (n * n) (now (out .entry)) (now (out .exit)) r ⌝ }
+{
+    let found = parameters::transform_skip_params(n, qp_prime, bit_depth, extended_precision);
+    match found {
+        TransformSkipAnswer::Params(by) => {
+            let dequant = by.dequant;
+            let limited = scale_listed(levels, n, dequant, list, dc, out);
+            if skip {
+                skip_block(n * n, by, out);
+                return limited;
+            }
+            limited
+        }
+        TransformSkipAnswer::Refused(why) => 0,
     }
 }

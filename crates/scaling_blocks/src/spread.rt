@@ -6,9 +6,10 @@ ghost use Rattle.h265.specs.ScalingFactor.{scalingFactor};
 ghost use Rattle.h265.specs.ScalingFactor.ScalingList.{listed};
 ghost use Rattle.scaling_values.specs.Factor.{WholeList};
 ghost use Rattle.scaling_values.specs.Work.{spreadAt, Rows, Fills};
+ghost use Rattle.scaling_blocks.specs.Spread.{Copied};
 use crate::repeats;
 
-// The first of the rows that share their entries.
+// A row by the list.
 fn spread_row(list: &[u8], row: usize, n: usize, repeats: u32, entries: &mut [u8])
     requires { ⌜ n * n ≤ length (now entries) ⌝ }
     requires { ⌜ length (now list) ≡ 64 ⌝ }
@@ -25,6 +26,37 @@ fn spread_row(list: &[u8], row: usize, n: usize, repeats: u32, entries: &mut [u8
     }
 }
 
+// A row that has the entries of the row above it, copied: the compiler copies several at once, which it does not by the list.
+fn copy_row(row: usize, n: usize, entries: &mut [u8])
+    requires { ⌜ n * n ≤ length (now entries) ⌝ }
+    requires { ⌜ (1 ≤ row) × (row < n) ⌝ }
+    requires { ⌜ n ≤ 32 ⌝ }
+    ensures { λ r. ⌜ Copied n row n (now (entries .entry)) (now (entries .exit)) ⌝ }
+{
+    let at = row * n;
+    let above = at - n;
+    let mut c = 0;
+    while c < n {
+        entries[at + c] = entries[above + c];
+        c += 1;
+    }
+}
+
+// One row after those above it: the first of the rows that share their entries is laid out by the list.
+fn next_row(list: &[u8], row: usize, n: usize, repeats: u32, entries: &mut [u8])
+    requires { ⌜ n * n ≤ length (now entries) ⌝ }
+    requires { ⌜ length (now list) ≡ 64 ⌝ }
+    requires { ⌜ Rows n repeats ⌝ }
+    requires { ⌜ row < n ⌝ }
+    ensures { λ r. ⌜ Fills (spreadAt (now (list .entry)) n) (row * n) (row * n + n) (now (entries .entry)) (now (entries .exit)) ⌝ }
+{
+    if (row >> repeats) << repeats == row {
+        spread_row(list, row, n, repeats, entries);
+        return;
+    }
+    copy_row(row, n, entries);
+}
+
 // Its rows.
 fn spread_rows(list: &[u8], n: usize, repeats: u32, entries: &mut [u8])
     requires { ⌜ n * n ≤ length (now entries) ⌝ }
@@ -34,7 +66,7 @@ fn spread_rows(list: &[u8], n: usize, repeats: u32, entries: &mut [u8])
 {
     let mut row = 0;
     while row < n {
-        spread_row(list, row, n, repeats, entries);
+        next_row(list, row, n, repeats, entries);
         row += 1;
     }
 }

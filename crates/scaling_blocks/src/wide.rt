@@ -3,21 +3,28 @@ ghost use mathlib.Core.Path.{_≡_};
 ghost use Prim.Native.Nat.{_*_, _≤_};
 ghost use lib.ListN.{length};
 ghost use Rattle.integers.specs.Lists.{overwrite};
+ghost use Rattle.h265.specs.Range.{log2Size};
 ghost use Rattle.h265.specs.ScalingFactor.ScalingList.{listed};
+ghost use Rattle.parameters.specs.Parameters.{dequantOf, transformSkipOf};
 ghost use Rattle.scaling_values.specs.Factor.{WholeList};
 ghost use Rattle.scaling_values.specs.Level.{Manageable};
 ghost use Rattle.scaling_values.specs.Flat.{shortAt, shortLimitedAt, Short};
-ghost use Rattle.scaling_values.specs.Listed.{compactAt, compactLimitedAt, Listable, Listed, Compact};
+ghost use Rattle.scaling_values.specs.Listed.{compactAt, compactLimitedAt, Listable, Compact};
+ghost use Rattle.scaling_values.specs.Long.{longAt, longLimitedAt, Longable, Listed, Long};
 ghost use Rattle.scaling_values.specs.Skip.{Skippable};
-ghost use Rattle.scaling_values.specs.Work.{directAt, directLimitedAt, listedAt, listedLimitedAt, residualAt, Counted, Room, Coefficients};
+ghost use Rattle.scaling_values.specs.Work.{listedAt, listedLimitedAt, residualAt, Counted, Room, Coefficients};
+ghost use Rattle.scaling_blocks.specs.Blocks.{bits32, notRefused, blockAnswer, listedBlockAt};
 use crate::spread;
 use parameters::DequantParams;
+use parameters::QpPrime;
+use parameters::TransformSkipAnswer;
 use parameters::TransformSkipParams;
 use scaling_values::FlatParams;
 use scaling_values::ListedParams;
+use scaling_values::LongParams;
 use scaling_values::flat;
-use scaling_values::level;
 use scaling_values::listed;
+use scaling_values::long;
 use scaling_values::skip;
 
 // The coefficients of a block without a list, and how many were limited.
@@ -40,26 +47,20 @@ pub fn scale_flat(levels: &[i32], count: usize, by: FlatParams, out: &mut [i32])
 }
 
 // The coefficients of a block with a list whose entries stand at the indices themselves, and how many were limited.
-fn scale_long(
-    levels: &[i32],
-    count: usize,
-    by: DequantParams,
-    entries: &[u8],
-    out: &mut [i32],
-) -> u16
-    requires { ⌜ Manageable by ⌝ }
+fn scale_long(levels: &[i32], count: usize, by: LongParams, entries: &[u8], out: &mut [i32]) -> u16
+    requires { ⌜ Long by ⌝ }
     requires { ⌜ Room count (length (now levels)) (length (now out)) ⌝ }
     requires { ⌜ count ≤ length (now entries) ⌝ }
     requires { ⌜ count ≤ 1024 ⌝ }
-    ensures { λ r. ⌜ Counted (directAt by (now (entries .entry)) (now (levels .entry))) (directLimitedAt by (now (entries .entry)) (now (levels .entry))) count (now (out .entry)) (now (out .exit)) r ⌝ }
+    ensures { λ r. ⌜ Counted (longAt by (now (entries .entry)) (now (levels .entry))) (longLimitedAt by (now (entries .entry)) (now (levels .entry))) count (now (out .entry)) (now (out .exit)) r ⌝ }
 {
     let mut limited: u32 = 0;
     let mut i = 0;
     while i < count {
-        let scaled = level::scaled_listed(levels[i], entries[i], by);
+        let scaled = long::scaled_long(levels[i], entries[i], by);
         let value = scaled.value;
         out[i] = value;
-        limited += level::limited_once(scaled);
+        limited += scaled.limited;
         i += 1;
     }
     limited as u16
@@ -103,14 +104,16 @@ fn listed_long(
     requires { ⌜ Manageable by ⌝ }
     requires { ⌜ Room (n * n) (length (now levels)) (length (now out)) ⌝ }
     requires { ⌜ WholeList (length (now list)) n ⌝ }
+    requires { ⌜ Longable by ⌝ }
     ensures { λ r. ⌜ Counted (listedAt by (listed (now (list .entry)) dc) n (now (levels .entry))) (listedLimitedAt by (listed (now (list .entry)) dc) n (now (levels .entry))) (n * n) (now (out .entry)) (now (out .exit)) r ⌝ }
 {
+    let long = long::long_params(by);
     if n <= 8 {
-        return scale_long(levels, n * n, by, list, out);
+        return scale_long(levels, n * n, long, list, out);
     }
     let mut entries = [0u8; 1024];
     spread::spread(list, n, dc, &mut entries);
-    scale_long(levels, n * n, by, &entries, out)
+    scale_long(levels, n * n, long, &entries, out)
 }
 
 // The same where R = 15.
@@ -169,5 +172,36 @@ pub fn skip_block(count: usize, by: TransformSkipParams, out: &mut [i32])
     while i < count {
         out[i] = skip::skipped(out[i], by.tr_add, by.tr_shift);
         i += 1;
+    }
+}
+
+// A block that is not refused, with a list: its coefficients, or their residuals, and how many coefficients were limited. It works its numbers out
+// itself, so that they stay in registers, and both calls of it share one copy of the loops.
+pub fn listed_block(
+    skip: bool,
+    levels: &[i32],
+    n: usize,
+    qp_prime: QpPrime,
+    bit_depth: u8,
+    extended_precision: bool,
+    list: &[u8],
+    dc: u8,
+    out: &mut [i32],
+) -> u16
+    requires { ⌜ notRefused ≡ blockAnswer bits32 n «bit_depth» «extended_precision» (length (now list)) (length (now levels)) (length (now out)) ⌝ }
+    ensures { λ r. ⌜ Counted (listedBlockAt skip (transformSkipOf (log2Size n) («qp_prime» .0) «bit_depth» «extended_precision») (listed (now (list .entry)) dc) n (now (levels .entry))) (listedLimitedAt (dequantOf (log2Size n) («qp_prime» .0) «bit_depth» «extended_precision») (listed (now (list .entry)) dc) n (now (levels .entry))) (n * n) (now (out .entry)) (now (out .exit)) r ⌝ }
+{
+    let found = parameters::transform_skip_params(n, qp_prime, bit_depth, extended_precision);
+    match found {
+        TransformSkipAnswer::Params(by) => {
+            let dequant = by.dequant;
+            let limited = scale_listed(levels, n, dequant, list, dc, out);
+            if skip {
+                skip_block(n * n, by, out);
+                return limited;
+            }
+            limited
+        }
+        TransformSkipAnswer::Refused(why) => 0,
     }
 }

@@ -9,8 +9,8 @@ use native.Mathlib.Omega.{arith}
 use lib.ListN.{length, getD, set, drop, length-set, drop-of-length-le}
 use lib.Seq.{drop-cons, paste, paste-zero, paste-suc, length-paste}
 use Rattle.refusal.specs.declared.Refusal.{Refusal}
-use Rattle.scaling_lists.specs.Syntax.{Reading, andThen, deltaCode, entriesFrom}
-use Rattle.scaling_lists.specs.Syntax.Reading.{got, stop}
+use Rattle.scaling_lists_codes.specs.Syntax.{Reading, andThen, deltaCode, entriesFrom}
+use Rattle.scaling_lists_codes.specs.Syntax.Reading.{got, stop}
 
 pub record Copied (from to₀ : List ℕ) (base : ℕ) (to : List ℕ) (i : ℕ) : Type 0 where
   pub is : to ≡ paste to₀ base from i

@@ -12,8 +12,8 @@ use Rattle.refusal.specs.declared.Refusal.the-variants.{ReferenceMissing}
 use Rattle.bits.specs.Bits.{isThere, bitAt, bitsNumber}
 use Rattle.bits.specs.ExpGolomb.{leadingZeros, codeOf, unsignedCode, signedNumber}
 use Rattle.diagonal.specs.Scan.{inside, diagonal, diagonals, upRight}
-use Rattle.scaling_lists.specs.Syntax.{FactorList, Defaults, matrixStep, sizeId, matrixId, listNumber, defaultFor, outsideOf, added, nextCoef, deltaCode, entriesFrom, dcCode, positions, codedEntries, codedList, referenceCode, referred, takenOver, listBy, listCode, listsFrom, scalingListData}
-use Rattle.scaling_lists.specs.Syntax.Reading.{got, stop}
+use Rattle.scaling_lists_codes.specs.Syntax.{FactorList, Defaults, matrixStep, sizeId, matrixId, listNumber, defaultFor, outsideOf, added, nextCoef, deltaCode, entriesFrom, dcCode, positions, codedEntries, codedList, referenceCode, referred, takenOver, listBy, listCode, listsFrom, scalingListData}
+use Rattle.scaling_lists_codes.specs.Syntax.Reading.{got, stop}
 
 -- 10 × sizeId + matrixId
 pub order-holds : tabulate 20 (λ j. 10 * sizeId j + matrixId j)

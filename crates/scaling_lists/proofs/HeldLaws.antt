@@ -14,9 +14,10 @@ use lib.Seq.{ext-getD, getD-take, getD-append-add, getD-set-same, getD-set-other
 use Rattle.integers.specs.Lists.{tabulate}
 use Rattle.integers.proofs.ListsLaws.{tabulate-length, tabulate-getD, tabulate-cong, tabulate-suc}
 use Rattle.refusal.specs.declared.Refusal.{Refusal}
-use Rattle.scaling_lists.specs.Syntax.{Reading, FactorList, Defaults, defaults, andThen, listCode}
-use Rattle.scaling_lists.specs.Syntax.Reading.{got, stop}
-use Rattle.scaling_lists.specs.Work.{listEntries, defaultsIn, heldAt, held, oneMore}
+use Rattle.scaling_lists_codes.specs.Syntax.{Reading, FactorList, Defaults, defaults, andThen, listCode}
+use Rattle.scaling_lists_codes.specs.Syntax.Reading.{got, stop}
+use Rattle.scaling_lists_taken.specs.Held.{listEntries, defaultsIn, heldAt, held}
+use Rattle.scaling_lists.specs.Work.{oneMore}
 
 module _ (d : List ℕ) (at : ℕ) (s : List ℕ) (n i : ℕ) (hd : at ≤ length d) (hs : n ≤ length s) where
   head : i < at + n → getD (paste d at s n) i 0 ≡ getD (take at d ++ take n s) i 0

@@ -1,7 +1,5 @@
 -- Laws of the syntax and of the loops that read it.
-pub mod ValueLaws
 pub mod EntriesLaws
-pub mod NumberLaws
 pub mod ListLaws
 pub mod HeldLaws
 pub mod ReaderLaws

@@ -16,12 +16,13 @@ use Rattle.integers.specs.Lists.{tabulate, tabulateFrom, overwrite}
 use Rattle.integers.proofs.ListsLaws.{tabulate-length, tabulate-getD}
 use Rattle.refusal.specs.declared.Refusal.{Refusal}
 use Rattle.refusal.specs.Condition.{listRefused}
-use Rattle.refusal.proofs.ConditionLaws.{neither}
+use Rattle.integers.proofs.TestLaws.{neither}
 use Rattle.scaling_lists.specs.declared.ReadAnswer.the-variants.{Read, Refused}
-use Rattle.scaling_lists.specs.Syntax.{Reading, FactorList, Defaults, none, andThen, listCode, listsFrom, scalingListData}
-use Rattle.scaling_lists.specs.Syntax.Reading.{got, stop}
+use Rattle.scaling_lists_codes.specs.Syntax.{Reading, FactorList, Defaults, none, andThen, listCode, listsFrom, scalingListData}
+use Rattle.scaling_lists_codes.specs.Syntax.Reading.{got, stop}
 use Rattle.scaling_lists.specs.Answers.{entryAt, dcAt, ListsRead, written, Reads, lengthsRefused, roomRefused}
-use Rattle.scaling_lists.specs.Work.{heldAt, held, oneMore}
+use Rattle.scaling_lists_taken.specs.Held.{heldAt, held}
+use Rattle.scaling_lists.specs.Work.{oneMore}
 
 pub record Going (lent : Defaults) (bytes lists dcs : List ℕ) (at j : ℕ) : Type 0 where
   pub within : j ≤ 20

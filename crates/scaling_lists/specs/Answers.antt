@@ -19,8 +19,8 @@ use Rattle.refusal.specs.Condition.{listRefused}
 use Rattle.refusal.specs.Outcome.{Outcome, accepted, refused}
 use Rattle.scaling_lists.specs.declared.ReadAnswer.{ReadAnswer}
 use Rattle.scaling_lists.specs.declared.ReadAnswer.the-variants.{Read, Refused}
-use Rattle.scaling_lists.specs.Syntax.{Reading, FactorList, Defaults, none, scalingListData}
-use Rattle.scaling_lists.specs.Syntax.Reading.{got, stop}
+use Rattle.scaling_lists_codes.specs.Syntax.{Reading, FactorList, Defaults, none, scalingListData}
+use Rattle.scaling_lists_codes.specs.Syntax.Reading.{got, stop}
 
 abbrev pub readOutcome : ReadAnswer → Outcome ℕ
 readOutcome (Read bits) = accepted bits

@@ -1,11 +1,11 @@
 // A list coded in full.
 ghost use mathlib.Core.Path.{_≡_};
 ghost use Prim.Native.Nat.{_+_, _≤_};
-ghost use Rattle.scaling_lists.specs.Syntax.{positions, blank, entriesFrom, codedEntries, codedList};
-ghost use Rattle.scaling_lists.specs.Work.{filled, listed, partEnd};
-use crate::Part;
+ghost use Rattle.scaling_lists_codes.specs.Syntax.{positions, blank, entriesFrom, codedEntries, codedList};
+ghost use Rattle.scaling_lists_codes.specs.Parts.{partEnd};
+ghost use Rattle.scaling_lists.specs.Work.{filled, listed};
 use crate::lists;
-use crate::values;
+use scaling_lists_codes::Part;
 
 // The entries of a coded list, in the order of the size's positions.
 fn scanned(bytes: &[u8], size_id: usize, next: u8, at: usize, entries: &mut [u8]) -> Part
@@ -47,7 +47,7 @@ pub(crate) fn coded_list(bytes: &[u8], size_id: usize, at: usize, entries: &mut 
     if size_id <= 1 {
         return coded_entries(bytes, size_id, 16, 8, at, entries);
     }
-    let read = values::dc_code(bytes, at);
+    let read = scaling_lists_codes::dc_code(bytes, at);
     match read {
         Part::Value(dc, behind) => coded_entries(bytes, size_id, dc, dc, behind, entries),
         Part::Refused(why) => Part::Refused(why),

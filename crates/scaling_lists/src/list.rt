@@ -1,13 +1,15 @@
 // One list, and its place among those read.
 ghost use mathlib.Core.Path.{_≡_};
 ghost use Prim.Native.Nat.{_+_, _≤_};
-ghost use Rattle.scaling_lists.specs.Syntax.{blank, listCode};
-ghost use Rattle.scaling_lists.specs.Work.{listed, partEnd, defaultsIn, held, grown, oneMore, Lent};
-use crate::Part;
+ghost use Rattle.scaling_lists_codes.specs.Syntax.{blank, listCode};
+ghost use Rattle.scaling_lists_codes.specs.Parts.{partEnd};
+ghost use Rattle.scaling_lists_taken.specs.Held.{defaultsIn, held};
+ghost use Rattle.scaling_lists.specs.Work.{listed, grown, oneMore, Lent};
 use crate::coded;
 use crate::lists;
 use crate::taken;
 use refusal::Refusal;
+use scaling_lists_codes::Part;
 
 // List j, from its flag on. `entries` is lent as zeros.
 fn read_list<'a>(

@@ -3,10 +3,10 @@ ghost use mathlib.Core.Path.{_≡_};
 ghost use Prim.Native.Nat.{_+_, _*_, _≤_};
 ghost use lib.ListN.{length};
 ghost use lib.Seq.{paste};
-ghost use Rattle.scaling_lists.specs.Syntax.{entriesFrom};
-ghost use Rattle.scaling_lists.specs.Work.{Positions, filled, partEnd};
-use crate::Part;
-use crate::values;
+ghost use Rattle.scaling_lists_codes.specs.Syntax.{entriesFrom};
+ghost use Rattle.scaling_lists_codes.specs.Parts.{partEnd};
+ghost use Rattle.scaling_lists.specs.Work.{Positions, filled};
+use scaling_lists_codes::Part;
 
 // All of `from`, put into `to` from an index on.
 pub(crate) fn put(from: &[u8], to: &mut [u8], base: usize)
@@ -35,7 +35,7 @@ pub(crate) fn entries_from(
     let mut at = start;
     let mut i: usize = 0;
     while i < scan.len() {
-        let read = values::delta_code(bytes, next, at);
+        let read = scaling_lists_codes::delta_code(bytes, next, at);
         match read {
             Part::Refused(why) => {
                 return Part::Refused(why);

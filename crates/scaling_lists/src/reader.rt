@@ -2,14 +2,15 @@
 ghost use mathlib.Core.Path.{_≡_};
 ghost use Prim.Native.Nat.{_≤_};
 ghost use lib.ListN.{length};
-ghost use Rattle.scaling_lists.specs.Syntax.{defaults, scalingListData};
+ghost use Rattle.scaling_lists_codes.specs.Syntax.{defaults, scalingListData};
 ghost use Rattle.scaling_lists.specs.Answers.{lengthsRefused, roomRefused, written, listsRead, Reads};
-ghost use Rattle.scaling_lists.specs.Work.{defaultsIn, heldUpTo, Lent};
-use crate::Part;
+ghost use Rattle.scaling_lists_taken.specs.Held.{defaultsIn};
+ghost use Rattle.scaling_lists.specs.Work.{heldUpTo, Lent};
 use crate::ReadAnswer;
 use crate::list;
 use crate::lists;
 use refusal::Refusal;
+use scaling_lists_codes::Part;
 
 // The 20 lists, one behind the other.
 fn read_all(bytes: &[u8], lent: &[u8], lists: &mut [u8], dcs: &mut [u8]) -> ReadAnswer

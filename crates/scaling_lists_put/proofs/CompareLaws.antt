@@ -13,8 +13,8 @@ use borrow.Author.Tests.{ne-eqb, eqb-true, eqb-false}
 use lib.Dec.{eqb, ltb}
 use lib.ListN.{length, getD}
 use Rattle.integers.proofs.ListsLaws.{tabulate-getD}
-use Rattle.scaling_lists.specs.Syntax.{Defaults, none, matrixStep, sizeId, matrixId, defaultFor}
-use Rattle.scaling_lists.specs.Work.{heldAt, held}
+use Rattle.scaling_lists_codes.specs.Syntax.{Defaults, none, matrixStep, sizeId, matrixId, defaultFor}
+use Rattle.scaling_lists_taken.specs.Held.{heldAt, held}
 use Rattle.scaling_lists.proofs.ListLaws.{fill-whole}
 use Rattle.scaling_lists_written.specs.Same.{every, hasDc, usedCount, entry, sameList, listAt}
 use Rattle.scaling_lists_written.specs.Written.{defaultList}

@@ -17,7 +17,7 @@ use lib.Seq.{drop-cons}
 use Rattle.text.specs.Text.{Wrote, WroteUpTo}
 use Rattle.text.proofs.WroteLaws.{Left, left-more, left-done, wrote-one, wrote-more}
 use Rattle.bits_written.specs.Codes.{unsignedBits, codeNumber, signedBits}
-use Rattle.scaling_lists.specs.Syntax.{FactorList, Defaults, sizeId, matrixId, positions}
+use Rattle.scaling_lists_codes.specs.Syntax.{FactorList, Defaults, sizeId, matrixId, positions}
 use Rattle.scaling_lists_written.specs.Same.{hasDc, sameList, listAt}
 use Rattle.scaling_lists_written.specs.Written.{difference, deltaFrom, deltaBits, fullBits, defaultList, earlier, nearest, formOf, formBits, listBits, writtenUpTo}
 

@@ -7,7 +7,7 @@ use mathlib.Core.List.{List}
 use Prim.Native.Nat.{ℕ, _+_, _≤_}
 use lib.ListN.{length, getD}
 use Rattle.integers.specs.Lists.{tabulate}
-use Rattle.scaling_lists.specs.Syntax.{FactorList}
+use Rattle.scaling_lists_codes.specs.Syntax.{FactorList}
 
 abbrev pub listFrom : List ℕ → ℕ → ℕ → FactorList
 listFrom bytes at dc = record { entries = tabulate 64 (λ i. getD bytes (at + i) 0); dc = dc }

@@ -17,8 +17,8 @@ use Rattle.refusal.specs.Outcome.{accepted}
 use Rattle.bits.specs.Bits.{bitAt}
 use Rattle.bits_written.specs.Bytes.{byteCount, byteOf, Begins}
 use Rattle.bits_written.proofs.BytesLaws.{begins-bytes}
-use Rattle.scaling_lists.specs.Syntax.{FactorList, Defaults, sizeId}
-use Rattle.scaling_lists.specs.Work.{held}
+use Rattle.scaling_lists_codes.specs.Syntax.{FactorList, Defaults, sizeId}
+use Rattle.scaling_lists_taken.specs.Held.{held}
 use Rattle.scaling_lists_written.specs.Same.{every, hasDc, usedCount, entry, Proper, listAt, Writable}
 use Rattle.scaling_lists_written.specs.Written.{writtenLists, Whole}
 use Rattle.scaling_lists_written.proofs.SameLaws.{both, every-at, used-few}

@@ -11,15 +11,15 @@ use borrow.Author.Tests.{ltb-false}
 use lib.Dec.{eqb, ltb}
 use lib.ListN.{length, getD}
 use Rattle.integers.proofs.ListsLaws.{tabulate-getD}
-use Rattle.refusal.proofs.ConditionLaws.{neither}
-use Rattle.scaling_lists.specs.Syntax.{FactorList, sizeId}
+use Rattle.scaling_lists_codes.specs.Syntax.{FactorList, sizeId}
 use Rattle.scaling_lists.specs.Answers.{lengthsRefused as defaultsRefused}
-use Rattle.scaling_lists.specs.Work.{held}
+use Rattle.scaling_lists_taken.specs.Held.{held}
 use Rattle.scaling_lists.proofs.ReaderLaws.{lengths-accepted as defaults-accepted}
 use Rattle.scaling_lists_written.specs.Same.{every, hasDc, usedCount, entry, listAt}
 use Rattle.scaling_lists_written.proofs.SameLaws.{every-cong, every-fails}
 use Rattle.scaling_lists_put.specs.Lists.{listFrom, Lent}
 use Rattle.scaling_lists_put.proofs.CompareLaws.{held-list}
+use Rattle.integers.proofs.TestLaws.{neither}
 use Rattle.scaling_lists_writer.specs.Answers.{lengthsRefused, nonzero, valuesRefused}
 
 module _ (lists dcs : List ℕ) (j n : ℕ) (h : j < 20) (is : n ≡ usedCount (sizeId j)) (few : n ≤ 64) where

@@ -18,9 +18,9 @@ use Rattle.refusal.specs.declared.Refusal.{Refusal}
 use Rattle.refusal.specs.declared.Refusal.the-variants.{ListLengthInvalid, OutputTooShort, ListValueInvalid}
 use Rattle.refusal.specs.Outcome.{Outcome, accepted, refused}
 use Rattle.bits_written.specs.Bytes.{byteCount, byteOf}
-use Rattle.scaling_lists.specs.Syntax.{FactorList, Defaults, sizeId}
+use Rattle.scaling_lists_codes.specs.Syntax.{FactorList, Defaults, sizeId}
 use Rattle.scaling_lists.specs.Answers.{lengthsRefused as defaultsRefused}
-use Rattle.scaling_lists.specs.Work.{held}
+use Rattle.scaling_lists_taken.specs.Held.{held}
 use Rattle.scaling_lists_written.specs.Same.{every, hasDc, usedCount, entry, listAt}
 use Rattle.scaling_lists_written.specs.Written.{writtenLists}
 use Rattle.scaling_lists_writer.specs.declared.WriteAnswer.{WriteAnswer}

@@ -11,8 +11,8 @@ use mathlib.Core.Logic.{_↔_}
 use Prim.Native.Nat.{ℕ, _≤_, _<_}
 use lib.ListN.{length, getD}
 use Rattle.bits_written.specs.Bytes.{byteCount}
-use Rattle.scaling_lists.specs.Syntax.{Defaults}
-use Rattle.scaling_lists.specs.Work.{held}
+use Rattle.scaling_lists_codes.specs.Syntax.{Defaults}
+use Rattle.scaling_lists_taken.specs.Held.{held}
 use Rattle.scaling_lists_written.specs.Same.{usedLists}
 use Rattle.scaling_lists_written.specs.Written.{writtenLists}
 use Rattle.scaling_lists_written.specs.Statements.{ReadBack}

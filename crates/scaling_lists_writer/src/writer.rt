@@ -1,7 +1,7 @@
 // All lists: into a local buffer of bits, and handed out as bytes only once it is known that they have room.
 ghost use mathlib.Core.Path.{_≡_};
-ghost use Rattle.scaling_lists.specs.Syntax.{defaults};
-ghost use Rattle.scaling_lists.specs.Work.{held};
+ghost use Rattle.scaling_lists_codes.specs.Syntax.{defaults};
+ghost use Rattle.scaling_lists_taken.specs.Held.{held};
 ghost use Rattle.scaling_lists_written.specs.Written.{writtenLists};
 ghost use Rattle.scaling_lists_put.specs.Lists.{Lent};
 ghost use Rattle.scaling_lists_writer.specs.Answers.{lengthsRefused, written, listsWritten, Writes};

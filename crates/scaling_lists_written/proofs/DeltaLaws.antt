@@ -22,8 +22,8 @@ use Rattle.bits_written.specs.Codes.{codeNumber, signedBits}
 use Rattle.bits_written.specs.Bytes.{Begins}
 use Rattle.bits_written.proofs.BytesLaws.{begins-first, begins-second}
 use Rattle.bits_written.proofs.CodesLaws.{unsigned-read, codeNumber-signed}
-use Rattle.scaling_lists.specs.Syntax.{outsideOf, added, nextCoef, deltaCode, entriesFrom, dcCode}
-use Rattle.scaling_lists.specs.Syntax.Reading.{got}
+use Rattle.scaling_lists_codes.specs.Syntax.{outsideOf, added, nextCoef, deltaCode, entriesFrom, dcCode}
+use Rattle.scaling_lists_codes.specs.Syntax.Reading.{got}
 use Rattle.scaling_lists_written.specs.Written.{difference, deltaFrom, deltaBits}
 
 -- ---- differences

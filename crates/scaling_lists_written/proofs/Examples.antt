@@ -17,8 +17,8 @@ use Rattle.bits.specs.ExpGolomb.{leadingZeros, codeOf, unsignedCode, signedNumb
 use Rattle.bits_written.specs.Codes.{bitsOf, zerosOf, unsignedBits, codeNumber, signedBits}
 use Rattle.bits_written.specs.Bytes.{bitsValue, byteCount, byteOf, bytesOf}
 use Rattle.diagonal.specs.Scan.{inside, diagonal, diagonals, upRight}
-use Rattle.scaling_lists.specs.Syntax.{FactorList, Defaults, matrixStep, sizeId, matrixId, listNumber, defaultFor, outsideOf, added, nextCoef, deltaCode, entriesFrom, dcCode, positions, codedEntries, codedList, referenceCode, referred, takenOver, listBy, listCode, listsFrom, scalingListData}
-use Rattle.scaling_lists.specs.Syntax.Reading.{got}
+use Rattle.scaling_lists_codes.specs.Syntax.{FactorList, Defaults, matrixStep, sizeId, matrixId, listNumber, defaultFor, outsideOf, added, nextCoef, deltaCode, entriesFrom, dcCode, positions, codedEntries, codedList, referenceCode, referred, takenOver, listBy, listCode, listsFrom, scalingListData}
+use Rattle.scaling_lists_codes.specs.Syntax.Reading.{got}
 use Rattle.scaling_lists_written.specs.Same.{every, hasDc, usedCount, sameList}
 use Rattle.scaling_lists_written.specs.Written.{difference, deltaFrom, deltaBits, fullBits, earlier, nearest, formOf, formBits, listBits, writtenUpTo, writtenLists}
 

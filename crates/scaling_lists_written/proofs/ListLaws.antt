@@ -23,8 +23,8 @@ use Rattle.bits_written.specs.Bytes.{Begins}
 use Rattle.bits_written.proofs.BytesLaws.{begins-first, begins-second, begins-there, begins-bit, begins-rest}
 use Rattle.bits_written.proofs.CodesLaws.{unsigned-read}
 use Rattle.diagonal.specs.Scan.{inside, diagonal, diagonals, upRight}
-use Rattle.scaling_lists.specs.Syntax.{FactorList, Defaults, andThen, matrixStep, sizeId, matrixId, listNumber, defaultFor, positions, blank, codedEntries, dcCode, codedList, referenceCode, referred, takenOver, none, listBy, listCode}
-use Rattle.scaling_lists.specs.Syntax.Reading.{got}
+use Rattle.scaling_lists_codes.specs.Syntax.{FactorList, Defaults, andThen, matrixStep, sizeId, matrixId, listNumber, defaultFor, positions, blank, codedEntries, dcCode, codedList, referenceCode, referred, takenOver, none, listBy, listCode}
+use Rattle.scaling_lists_codes.specs.Syntax.Reading.{got}
 use Rattle.scaling_lists.proofs.ListLaws.{allBelow, below-both}
 use Rattle.scaling_lists_written.specs.Same.{hasDc, usedCount, entry, sameList, usedList, Proper, listAt}
 use Rattle.scaling_lists_written.specs.Written.{difference, deltaBits, fullBits, defaultList, earlier, nearest, formOf, formBits, listBits, readList, Whole}

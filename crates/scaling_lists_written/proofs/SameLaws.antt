@@ -20,7 +20,7 @@ use lib.ListN.{length}
 use lib.Seq.{ext-getD}
 use Rattle.integers.specs.Lists.{tabulate}
 use Rattle.integers.proofs.ListsLaws.{tabulate-length, tabulate-getD, tabulate-cong}
-use Rattle.scaling_lists.specs.Syntax.{FactorList}
+use Rattle.scaling_lists_codes.specs.Syntax.{FactorList}
 use Rattle.scaling_lists_written.specs.Same.{every, hasDc, usedCount, entry, sameList, usedList}
 
 -- ---- tests of all numbers below a bound

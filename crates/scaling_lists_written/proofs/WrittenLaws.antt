@@ -17,8 +17,8 @@ use Rattle.bits_written.specs.Bytes.{bytesOf, Binary, Begins}
 use Rattle.bits_written.proofs.BytesLaws.{binary-none, binary-more, binary-append, begins-first, begins-second, begins-own}
 use Rattle.bits_written.proofs.CodesLaws.{unsigned-binary}
 use Rattle.diagonal.specs.Scan.{inside, diagonal, diagonals, upRight}
-use Rattle.scaling_lists.specs.Syntax.{FactorList, Defaults, none, sizeId, matrixId, positions, listsFrom, scalingListData}
-use Rattle.scaling_lists.specs.Syntax.Reading.{got}
+use Rattle.scaling_lists_codes.specs.Syntax.{FactorList, Defaults, none, sizeId, matrixId, positions, listsFrom, scalingListData}
+use Rattle.scaling_lists_codes.specs.Syntax.Reading.{got}
 use Rattle.scaling_lists_written.specs.Same.{hasDc, usedCount, entry, usedList, listAt, usedLists, Writable}
 use Rattle.scaling_lists_written.specs.Written.{Form, difference, deltaFrom, deltaBits, fullBits, defaultList, earlier, nearest, formOf, formBits, listBits, writtenUpTo, writtenLists, readList, readLists, Whole}
 use Rattle.scaling_lists_written.specs.Written.Form.{taken, full}

@@ -17,7 +17,7 @@ use Prim.Native.Nat.{ℕ, zero, suc, _≤_, _<_}
 use lib.Dec.{eqb, ltb}
 use lib.ListN.{getD}
 use Rattle.integers.specs.Lists.{tabulate}
-use Rattle.scaling_lists.specs.Syntax.{FactorList, none, sizeId}
+use Rattle.scaling_lists_codes.specs.Syntax.{FactorList, none, sizeId}
 
 unfoldable pub every : ℕ → (ℕ → Bool) → Bool
 every zero p = true

@@ -8,8 +8,8 @@ use mathlib.Core.Logic.{_↔_}
 use Prim.Native.Nat.{ℕ}
 use lib.ListN.{length}
 use Rattle.bits_written.specs.Bytes.{Begins}
-use Rattle.scaling_lists.specs.Syntax.{FactorList, Defaults, scalingListData}
-use Rattle.scaling_lists.specs.Syntax.Reading.{got}
+use Rattle.scaling_lists_codes.specs.Syntax.{FactorList, Defaults, scalingListData}
+use Rattle.scaling_lists_codes.specs.Syntax.Reading.{got}
 use Rattle.scaling_lists_written.specs.Same.{usedLists, Writable}
 use Rattle.scaling_lists_written.specs.Written.{writtenLists, readLists, Whole}
 

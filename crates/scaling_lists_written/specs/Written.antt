@@ -26,7 +26,7 @@ use lib.ListN.{length, getD}
 use Rattle.integers.specs.Lists.{tabulate}
 use Rattle.integers.specs.Search.{firstWhere}
 use Rattle.bits_written.specs.Codes.{unsignedBits, signedBits}
-use Rattle.scaling_lists.specs.Syntax.{FactorList, Defaults, defaultFor, positions, sizeId, matrixId}
+use Rattle.scaling_lists_codes.specs.Syntax.{FactorList, Defaults, defaultFor, positions, sizeId, matrixId}
 use Rattle.scaling_lists_written.specs.Same.{hasDc, sameList, usedList, listAt}
 
 -- ---- a list in full

@@ -1,7 +1,5 @@
 -- Laws of sizes, and of m by the rule that supplies it.
---   size-square                    n² is at most 1024
 --   size-large                     a size above 8 is at least 16
---   size-last                      a size that is not 4, 8 or 16 is 32
 --   factor-four, factor-eight      at sizes 4 and 8 m is the entry at the index
 --   factor-dc, factor-repeated     at sizes 16 and 32: index 0, and the others
 --   factor-small                   both in one
@@ -23,15 +21,6 @@ use Rattle.h265.specs.ScalingFactor.ScalingList.{listed}
 use Rattle.h265.proofs.RangeLaws.{size-cases}
 
 -- ---- sizes
-pub size-square : (n : ℕ) → T (isSize n) → n * n ≤ 1024
-size-square n t = size-cases (λ m. m * m ≤ 1024) (lit≤ tt) (lit≤ tt) (lit≤ tt) (lit≤ tt) n t
-
--- what is neither 4, 8 nor 16
-pub size-last : (n : ℕ) → T (isSize n) → (n ≡ 4 → ⊥) → (n ≡ 8 → ⊥) → (n ≡ 16 → ⊥) → n ≡ 32
-size-last n t a b c =
-    size-cases (λ m. (m ≡ 4 → ⊥) → (m ≡ 8 → ⊥) → (m ≡ 16 → ⊥) → m ≡ 32)
-    (λ a b c. absurd (a refl)) (λ a b c. absurd (b refl)) (λ a b c. absurd (c refl)) (λ a b c. refl) n t a b c
-
 -- what is above 8
 pub size-large : (n : ℕ) → T (isSize n) → 8 < n → 16 ≤ n
 size-large n t h =

@@ -31,6 +31,7 @@ use Rattle.integers.proofs.OrderLaws.{shr-shift}
 use Rattle.integers.proofs.BoundLaws.{within-pos, within-eq, within-neg}
 use Rattle.integers.proofs.MachineLaws.{ltZ-true, ltZ-false}
 use Rattle.integers.proofs.ListsLaws.{overwrite-cong}
+use Rattle.integers.proofs.TestLaws.{allBelow, allBelow-at}
 use Rattle.h265.specs.Range.{transformRange, coeffMin, coeffMax, clipCoeff, outsideRange}
 use Rattle.h265.specs.Quantization.{clipQpPrime, levelScale, scaleOfQp}
 use Rattle.h265.specs.Scaling.{bdShift}
@@ -224,24 +225,9 @@ module _ {p : DequantParams} {k : FlatParams} (g : Regular p) (h : FlatFor p k) 
       }
 
 -- ---- every block
--- a test of every number below n
-unfoldable pub allBelow : (ℕ → Bool) → ℕ → Bool
-allBelow f zero = true
-allBelow f (suc n) = f n && allBelow f n
-
-pub all-below : (f : ℕ → Bool) (n k : ℕ) → T (allBelow f n) → k < n → T (f k)
-unfolding allBelow
-all-below f zero k t h = absurd (let e : ⊥ = omega arith in e)
-all-below f (suc n) k t h =
-    let s = and-yes (f n) (allBelow f n) t in
-    elim (decLt k n) [
-      | yes a ↦ all-below f n k (s .1) a
-      | no a ↦ subst (λ (j : ℕ). T (f j)) (let e : n ≡ k = omega arith in e) (s .0)
-    ]
-
 scale-positive : (q : ℕ) → q ≤ 99 → 1 ≤ scaleOfQp q
 unfolding allBelow scaleOfQp levelScale
-scale-positive q h = ltb→lt 0 (scaleOfQp q) (all-below (λ k. ltb 0 (scaleOfQp k)) 100 q tt (omega arith))
+scale-positive q h = ltb→lt 0 (scaleOfQp q) (allBelow-at 100 (λ k. ltb 0 (scaleOfQp k)) tt q (omega arith))
 
 pub dequantOf-regular : (l : ℕ) (q : ℤ) (b : ℕ) (x : Bool) → KnownSize l b → Regular (dequantOf l q b x)
 unfolding dequantOf bdShift

@@ -6,4 +6,5 @@ pub mod DivisionLaws
 pub mod ThresholdLaws
 pub mod FlatLaws
 pub mod ListedLaws
+pub mod LongLaws
 pub mod SkipLaws

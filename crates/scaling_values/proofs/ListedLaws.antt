@@ -7,7 +7,8 @@
 --   limited-below, -above, -between whether level or result was limited, by where the result lies
 --   loweredBy-for, raisedBy-for     the numbers of a block
 --   compact-counted            what is written and counted by them is the block's
---   dequantOf-listed           the numbers of every block are listable where R = 15
+--   factor-is, scale-is        what m is multiplied by in every block
+--   dequantOf-listable         the numbers of every block are listable where R = 15
 use mathlib.Core.Path.{_≡_, refl, sym, ap, ap₂, subst, _∙_}
 use mathlib.Core.Bool.{Bool, true, false, _||_, cond}
 use mathlib.Core.List.{List}
@@ -35,6 +36,7 @@ use Rattle.integers.proofs.BoundLaws.{within-pos, within-eq}
 use Rattle.integers.proofs.MachineLaws.{round-trip, ltZ-true, ltZ-false}
 use Rattle.integers.proofs.ListsLaws.{overwrite-cong}
 use Rattle.integers.proofs.ClipLaws.{clip3-within}
+use Rattle.integers.proofs.TestLaws.{allBelow, allBelow-at}
 use Rattle.h265.specs.Range.{transformRange, coeffMin, coeffMax}
 use Rattle.h265.specs.Quantization.{qpBdOffset, clipQpPrime, levelScale, scaleOfQp}
 use Rattle.h265.specs.Scaling.{bdShift}
@@ -44,14 +46,14 @@ use Rattle.parameters.specs.declared.DequantParams.{DequantParams}
 use Rattle.parameters.specs.Parameters.{dequantOf, KnownSize}
 use Rattle.scaling_values.specs.declared.ListedParams.{ListedParams}
 use Rattle.scaling_values.specs.Level.{levelBy, listedLevel, outsideBy, resultBy, listedResult, listedLimited}
-use Rattle.scaling_values.specs.Listed.{compactResult, compactLevel, compactLimited, compactAt, compactLimitedAt, scaleBy, zerosBy, oddBy, loweredBy, raisedBy, Listable, Listed, Compact, ListedFor}
+use Rattle.scaling_values.specs.Listed.{compactResult, compactLevel, compactLimited, compactAt, compactLimitedAt, scaleBy, zerosBy, oddBy, loweredBy, raisedBy, Listable, Compact, ListedFor}
 use Rattle.scaling_values.specs.Work.{directAt, directLimitedAt, Counted}
 use Rattle.scaling_values.proofs.CountLaws.{count-cong}
 use Rattle.scaling_values.proofs.LevelLaws.{clip3-fits}
-use Rattle.scaling_values.proofs.FlatLaws.{shrZ-shrZ, allBelow, all-below}
+use Rattle.scaling_values.proofs.FlatLaws.{shrZ-shrZ}
 use Rattle.scaling_values.proofs.ThresholdLaws.{coeffMax-pos}
 
-ltZ-iff : {a x b y : ℤ} → ((a ≤ℤ x) ↔ (b ≤ℤ y)) → ltZ x a ≡ ltZ y b
+pub ltZ-iff : {a x b y : ℤ} → ((a ≤ℤ x) ↔ (b ≤ℤ y)) → ltZ x a ≡ ltZ y b
 ltZ-iff {a} {x} {b} {y} e = by-tests (ltZ x a) (ltZ y b) refl refl
   where
     by-tests : (p q : Bool) → ltZ x a ≡ p → ltZ y b ≡ q → p ≡ q
@@ -61,16 +63,16 @@ ltZ-iff {a} {x} {b} {y} e = by-tests (ltZ x a) (ltZ y b) refl refl
     by-tests false false h k = refl
 
 -- ---- a shift to the left
-pub shl-fits : (z : ℤ) (n : ℕ) → SFits w16 (pow2 n *ℤ z) → toZ w32 ((ofZ w32 z * 2 ^ n) % 4294967296) ≡ pow2 n *ℤ z
+pub shl-fits : (z : ℤ) (n : ℕ) → SFits w32 (pow2 n *ℤ z) → toZ w32 ((ofZ w32 z * 2 ^ n) % 4294967296) ≡ pow2 n *ℤ z
 shl-fits (pos a) n f =
     let e = mul-comm a (2 ^ n) in
-    let h : 2 ^ n * a < 32768 = f .sfits in
+    let h : 2 ^ n * a < 2147483648 = f .sfits in
     ap (toZ w32) (ap (λ (k : ℕ). k % 4294967296) e ∙ mod-eq-of-lt (omega (arith, h))) ∙ toZ-pos w32 (omega (arith, h))
 shl-fits (negsuc a) n f = by-size (2 ^ n * suc a - 1) (omega (arith, mul-le-mul-left (suc a) (pow-pos n), mul-comm (2 ^ n) (suc a)))
   where
     by-size : (j : ℕ) → suc j ≡ 2 ^ n * suc a → toZ w32 (((4294967296 - suc a) * 2 ^ n) % 4294967296) ≡ negℤ (pos (2 ^ n * suc a))
     by-size j e =
-        let h : j < 32768 = subst (λ (k : ℕ). SFits w16 (negℤ (pos k))) (sym e) f .sfits in
+        let h : j < 2147483648 = subst (λ (k : ℕ). SFits w32 (negℤ (pos k))) (sym e) f .sfits in
         let d : (4294967296 - suc a) * 2 ^ n ≡ 4294967296 * (2 ^ n - 1) + (4294967296 - suc j) =
         mul-comm (4294967296 - suc a) (2 ^ n) ∙ mul-sub (2 ^ n) 4294967296 (suc a) ∙ omega (arith, e, h, pow-pos n)
         in
@@ -87,7 +89,7 @@ scaled-rest s h r k =
     (le-out (pow2 s *ℤ r) (pow2 s *ℤ r +ℤ pos h) (omega (arith, parts-add (pow2 s *ℤ r) (pos h))))
     (lt-out (pow2 s *ℤ r +ℤ pos h) (pow2 s *ℤ r +ℤ pow2 s) (omega (arith, parts-add (pow2 s *ℤ r) (pos h), parts-add (pow2 s *ℤ r) (pow2 s), k))))
 
-scaled-back : (s : ℕ) (r : ℤ) → shiftRight (pow2 s *ℤ r) s ≡ r
+pub scaled-back : (s : ℕ) (r : ℤ) → shiftRight (pow2 s *ℤ r) s ≡ r
 unfolding shiftRight
 scaled-back s r =
     sym
@@ -106,7 +108,7 @@ product-is c o t m =
     ∙ ap (λ (x : ℤ). x *ℤ pos (m * o)) (*ℤ-comm c (pos t))
     ∙ *ℤ-assoc (pos t) c (pos (m * o))
 
-lowered-by : (c : ℤ) (o t d m : ℕ) → 1 ≤ d
+pub lowered-by : (c : ℤ) (o t d m : ℕ) → 1 ≤ d
     → shiftRight (c *ℤ (pos (o * 2 ^ t) *ℤ pos m) +ℤ pow2 (t + d - 1)) (t + d) ≡ shiftRight (c *ℤ (pos m *ℤ pos o) +ℤ pow2 (d - 1)) d
 lowered-by c o t d m h =
     let e : t + d - 1 ≡ t + (d - 1) = omega arith in
@@ -114,7 +116,7 @@ lowered-by c o t d m h =
     ∙ ap (λ (x : ℤ). shiftRight x (t + d)) (sym (*ℤ-+ℤ (pow2 t) (c *ℤ (pos m *ℤ pos o)) (pow2 (d - 1))))
     ∙ scaled-more t d (c *ℤ (pos m *ℤ pos o) +ℤ pow2 (d - 1))
 
-raised-by : (c : ℤ) (o s u m : ℕ) → 1 ≤ s
+pub raised-by : (c : ℤ) (o s u m : ℕ) → 1 ≤ s
     → shiftRight (c *ℤ (pos (o * 2 ^ (s + u)) *ℤ pos m) +ℤ pow2 (s - 1)) s ≡ pow2 u *ℤ (c *ℤ (pos m *ℤ pos o))
 raised-by c o s u m h =
     ap (λ (x : ℤ). shiftRight (x +ℤ pow2 (s - 1)) s)
@@ -153,7 +155,7 @@ module _ {p : DequantParams} (g : Listable p) (m : ℕ) (level : ℤ) where
 -- 2^15 is a multiple of every power of two that is shifted up
 end-is : (u : ℕ) → u < 16 → pow2 u *ℤ shiftRight (negsuc 32767) u ≡ negsuc 32767
 unfolding shiftRight allBelow
-end-is u h = ap (λ (k : ℕ). negℤ (pos k)) (eqb→eq (2 ^ u * suc (32767 / 2 ^ u)) 32768 (all-below (λ k. eqb (2 ^ k * suc (32767 / 2 ^ k)) 32768) 16 u tt h))
+end-is u h = ap (λ (k : ℕ). negℤ (pos k)) (eqb→eq (2 ^ u * suc (32767 / 2 ^ u)) 32768 (allBelow-at 16 (λ k. eqb (2 ^ k * suc (32767 / 2 ^ k)) 32768) tt u h))
 
 module _ {p : DequantParams} (g : Listable p) where
   pub loweredBy-for : zerosBy p < p .shift → ListedFor p (loweredBy (pos (oddBy p)) (p .shift - zerosBy p))
@@ -235,11 +237,11 @@ unfolding compactLevel
 compact-between k m level a b = rw (a, b)
 
 -- what was limited, by where the result lies
-or-true : (x : Bool) → (x || true) ≡ true
+pub or-true : (x : Bool) → (x || true) ≡ true
 or-true true = refl
 or-true false = refl
 
-or-false : (x : Bool) → (x || false) ≡ x
+pub or-false : (x : Bool) → (x || false) ≡ x
 or-false true = refl
 or-false false = refl
 
@@ -286,23 +288,23 @@ module _ {p : DequantParams} {k : ListedParams} (h : ListedFor p k) (entries : L
       }
 
 -- ---- every block
-abbrev zerosOf : ℕ → ℕ
+abbrev pub zerosOf : ℕ → ℕ
 zerosOf s = trailingZeros 32 s
 
 module _ (q : ℕ) (h : q ≤ 99) where
-  scale-odd : scaleOfQp q / 2 ^ zerosOf (scaleOfQp q) < 64
+  pub scale-odd : scaleOfQp q / 2 ^ zerosOf (scaleOfQp q) < 64
   unfolding allBelow scaleOfQp levelScale trailingZeros
-  scale-odd = ltb→lt (scaleOfQp q / 2 ^ zerosOf (scaleOfQp q)) 64 (all-below (λ k. ltb (scaleOfQp k / 2 ^ zerosOf (scaleOfQp k)) 64) 100 q tt (omega arith))
+  scale-odd = ltb→lt (scaleOfQp q / 2 ^ zerosOf (scaleOfQp q)) 64 (allBelow-at 100 (λ k. ltb (scaleOfQp k / 2 ^ zerosOf (scaleOfQp k)) 64) tt q (omega arith))
 
-  scale-whole : scaleOfQp q / 2 ^ zerosOf (scaleOfQp q) * 2 ^ zerosOf (scaleOfQp q) ≡ scaleOfQp q
+  pub scale-whole : scaleOfQp q / 2 ^ zerosOf (scaleOfQp q) * 2 ^ zerosOf (scaleOfQp q) ≡ scaleOfQp q
   unfolding allBelow scaleOfQp levelScale trailingZeros
   scale-whole =
       eqb→eq (scaleOfQp q / 2 ^ zerosOf (scaleOfQp q) * 2 ^ zerosOf (scaleOfQp q)) (scaleOfQp q)
-      (all-below (λ k. eqb (scaleOfQp k / 2 ^ zerosOf (scaleOfQp k) * 2 ^ zerosOf (scaleOfQp k)) (scaleOfQp k)) 100 q tt (omega arith))
+      (allBelow-at 100 (λ k. eqb (scaleOfQp k / 2 ^ zerosOf (scaleOfQp k) * 2 ^ zerosOf (scaleOfQp k)) (scaleOfQp k)) tt q (omega arith))
 
   scale-zeros : zerosOf (scaleOfQp q) < q / 6 + 7
   unfolding allBelow scaleOfQp levelScale trailingZeros
-  scale-zeros = ltb→lt (zerosOf (scaleOfQp q)) (q / 6 + 7) (all-below (λ k. ltb (zerosOf (scaleOfQp k)) (k / 6 + 7)) 100 q tt (omega arith))
+  scale-zeros = ltb→lt (zerosOf (scaleOfQp q)) (q / 6 + 7) (allBelow-at 100 (λ k. ltb (zerosOf (scaleOfQp k)) (k / 6 + 7)) tt q (omega arith))
 
 range-is : (r : ℕ) → 15 ≤ r → coeffMax r ≡ pos 32767 → r ≡ 15
 range-is r h e =
@@ -312,49 +314,46 @@ range-is r h e =
       | no a ↦ absurd (let x : ⊥ = omega (arith, m, pow-mono {i = 16} {j = r} (omega (arith, a))) in x)
     ]
 
-qp-depth : (b : ℕ) (q : ℤ) → natAbs (clipQpPrime b q) ≤ 51 + 6 * (b - 8)
+pub qp-depth : (b : ℕ) (q : ℤ) → natAbs (clipQpPrime b q) ≤ 51 + 6 * (b - 8)
 unfolding clipQpPrime qpBdOffset
 qp-depth b q =
     clip3-within {b = 51 + 6 * (b - 8)} (pos 0) (pos (51 + 6 * (b - 8))) q (le-out (pos 0) (pos (51 + 6 * (b - 8))) (omega arith)) (within-pos (omega arith)) (within-pos (omega arith)) .within
 
-module _ (l : ℕ) (q : ℤ) (b : ℕ) (x : Bool) (k : KnownSize l b) (e : coeffMax (transformRange b x) ≡ pos 32767) where
+module _ (l : ℕ) (q : ℤ) (b : ℕ) (x : Bool) (k : KnownSize l b) where
   abbrev qp : ℕ
   qp = natAbs (clipQpPrime b q)
 
   abbrev params : DequantParams
   params = dequantOf l q b x
 
-  range-15 : transformRange b x ≡ 15
-  range-15 = range-is (transformRange b x) (transformRange-least b x) e
-
-  factor-is : shiftRight (params .factor) 4 ≡ pos (scaleOfQp qp)
+  pub factor-is : shiftRight (params .factor) 4 ≡ pos (scaleOfQp qp)
   unfolding dequantOf shiftRight
   factor-is = ap pos (omega arith)
 
-  scale-is : scaleBy params ≡ scaleOfQp qp
+  pub scale-is : scaleBy params ≡ scaleOfQp qp
   unfolding scaleBy
   scale-is = ap natAbs factor-is
 
   abbrev at-most : qp ≤ 99
   at-most = clipQpPrime-bound b q (k .shallow)
 
-  dequantOf-listable : Listable params
-  unfolding dequantOf bdShift coeffMin
-  dequantOf-listable =
-      record {
-        factor = factor-is ∙ ap pos (sym scale-is);
-        size = rw scale-is (scaleOfQp-bound qp at-most);
-        odd = subst (λ (s : ℕ). s / 2 ^ zerosOf s < 64) (sym scale-is) (scale-odd qp at-most);
-        whole = subst (λ (s : ℕ). s / 2 ^ zerosOf s * 2 ^ zerosOf s ≡ s) (sym scale-is) (scale-whole qp at-most);
-        power = subst (λ (s : ℕ). zerosOf s < b + l + 10 - transformRange b x + 10) (sym scale-is) (omega (arith, k, range-15, qp-depth b q, scale-zeros qp at-most));
-        small = subst (λ (s : ℕ). zerosOf s < 32) (sym scale-is) (omega (arith, k, qp-depth b q, scale-zeros qp at-most));
-        add = refl;
-        low = omega (arith, k, range-15);
-        high = omega (arith, k, range-15);
-        least = ap coeffMin range-15;
-        most = e;
-      }
+  module _ (e : coeffMax (transformRange b x) ≡ pos 32767) where
+    range-15 : transformRange b x ≡ 15
+    range-15 = range-is (transformRange b x) (transformRange-least b x) e
 
-pub dequantOf-listed : (l : ℕ) (q : ℤ) (b : ℕ) (x : Bool) → KnownSize l b → Listed (dequantOf l q b x)
-unfolding dequantOf
-dequantOf-listed l q b x k = record { short = λ e. dequantOf-listable l q b x k e }
+    pub dequantOf-listable : Listable params
+    unfolding dequantOf bdShift coeffMin
+    dequantOf-listable =
+        record {
+          factor = factor-is ∙ ap pos (sym scale-is);
+          size = rw scale-is (scaleOfQp-bound qp at-most);
+          odd = subst (λ (s : ℕ). s / 2 ^ zerosOf s < 64) (sym scale-is) (scale-odd qp at-most);
+          whole = subst (λ (s : ℕ). s / 2 ^ zerosOf s * 2 ^ zerosOf s ≡ s) (sym scale-is) (scale-whole qp at-most);
+          power = subst (λ (s : ℕ). zerosOf s < b + l + 10 - transformRange b x + 10) (sym scale-is) (omega (arith, k, range-15, qp-depth b q, scale-zeros qp at-most));
+          small = subst (λ (s : ℕ). zerosOf s < 32) (sym scale-is) (omega (arith, k, qp-depth b q, scale-zeros qp at-most));
+          add = refl;
+          low = omega (arith, k, range-15);
+          high = omega (arith, k, range-15);
+          least = ap coeffMin range-15;
+          most = e;
+        }

@@ -6,7 +6,6 @@
 --   scaleBy, zerosBy, oddBy   what m is multiplied by, the power of two in it, and what is left of it
 --   loweredBy, raisedBy       the numbers of a block where the shift is the larger power of two, and where it is not
 --   Listable p                what holds of the numbers of every block where R = 15
---   Listed p                  p is listable if its range is that one
 --   Compact k                 32 bits hold every product and sum, and `low` and `top` are the range's ends without what is shifted up
 --   ListedFor p k             k has the numbers of p
 --   CompactScaled k m level r what the function of one level hands back
@@ -72,9 +71,6 @@ pub record Listable (p : DequantParams) : Type 0 where
   pub high : p .shift ≤ 16
   pub least : p .«clip_min» ≡ negsuc 32767
   pub most : p .«clip_max» ≡ pos 32767
-
-pub record Listed (p : DequantParams) : Type 0 where
-  pub short : p .«clip_max» ≡ pos 32767 → Listable p
 
 pub record Compact (k : ListedParams) : Type 0 where
   pub base : Within 63 (k .base)

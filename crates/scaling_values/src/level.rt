@@ -63,16 +63,3 @@ pub fn scaled_listed(level: i32, m: u8, by: DequantParams) -> ScaledLevel
 {
     scaled(level, integers::shift_right(by.factor, 4) * (m as i64), by)
 }
-
-// 1 where level or result was limited.
-pub fn limited_once(scaled: ScaledLevel) -> u32
-    ensures { λ r. ⌜ r ≡ cond (scaled .«level_limited» || scaled .«result_limited») 1 0 ⌝ }
-{
-    if scaled.level_limited {
-        return 1;
-    }
-    if scaled.result_limited {
-        return 1;
-    }
-    0
-}

@@ -3,6 +3,7 @@
 pub mod flat;
 pub mod level;
 pub mod listed;
+pub mod long;
 pub mod skip;
 
 // The coefficient of a level, whether the level was limited, and whether the result was.
@@ -39,4 +40,23 @@ pub struct ListedParams {
     pub up: u32,
     pub low: i32,
     pub top: i32,
+}
+
+// The same at every range. A product with its rounding is held in two parts, of which the one that counts in 128s tells by `low` and `top` what is
+// limited; `least` and `most` are the range's ends.
+pub struct LongParams {
+    pub base: i32,
+    pub add: i32,
+    pub down: u32,
+    pub up: u32,
+    pub low: i32,
+    pub top: i32,
+    pub least: i32,
+    pub most: i32,
+}
+
+// A number as 128 times `over` and `rest`, which is from 0 to 127.
+pub struct Parts {
+    pub over: i32,
+    pub rest: i32,
 }

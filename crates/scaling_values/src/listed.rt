@@ -6,6 +6,7 @@ ghost use Prim.Native.Nat.{_/_, _%_, _^_, _≤_, _<_};
 ghost use lib.IntN.{pos, negsuc};
 ghost use lib.Signed.{ltZ};
 ghost use Rattle.integers.specs.Clip.{clip3};
+ghost use Rattle.integers.specs.Shift.{shiftRight};
 ghost use Rattle.scaling_values.specs.Level.{Manageable};
 ghost use Rattle.scaling_values.specs.Listed.{compactResult, scaleBy, loweredBy, raisedBy, Listable, ListedFor, Compact, CompactScaled};
 use crate::FlatLevel;
@@ -39,16 +40,17 @@ fn outside(level: i32) -> u32
 }
 
 // What m is multiplied by.
-fn scale_of(by: DequantParams) -> u32
+pub(crate) fn scale_of(by: DequantParams) -> u32
     requires { ⌜ Manageable by ⌝ }
-    requires { ⌜ Listable by ⌝ }
+    requires { ⌜ shiftRight (by .factor) 4 ≡ pos (scaleBy by) ⌝ }
+    requires { ⌜ scaleBy by ≤ 4718592 ⌝ }
     ensures { λ r. ⌜ r ≡ scaleBy by ⌝ }
 {
     integers::shift_right(by.factor, 4) as u32
 }
 
 // Its odd part. The remainder changes nothing: it tells the compiler that 16 bits hold the product with m.
-fn odd_of(scale: u32, zeros: u32) -> i32
+pub(crate) fn odd_of(scale: u32, zeros: u32) -> i32
     requires { ⌜ zeros < 32 ⌝ }
     ensures { λ r. ⌜ r ≡ pos (scale / 2 ^ zeros % 64) ⌝ }
 {

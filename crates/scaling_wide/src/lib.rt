@@ -4,6 +4,7 @@ ghost use Rattle.h265.specs.ScalingFactor.ScalingList.{flat, listed};
 ghost use Rattle.scaling_blocks.specs.Blocks.{bits32, dequantized, transformSkipped, CountWrites};
 use parameters::QpPrime;
 use parameters::TransformSkipAnswer;
+use refusal::Answer;
 use scaling_blocks::CountAnswer;
 use scaling_blocks::refuse;
 use scaling_blocks::wide;
@@ -52,23 +53,29 @@ pub fn dequantize_scaled_into_scalar_i32(
 ) -> CountAnswer
     ensures { λ r. ⌜ CountWrites r (now (out .exit)) (dequantized bits32 (listed (now (list .entry)) dc) n («qp_prime» .0) «bit_depth» «extended_precision» (now (levels .entry)) (now (out .entry))) ⌝ }
 {
-    let found = refuse::block_params(
+    let checked = refuse::block_refused(
         false,
         n,
-        qp_prime,
         bit_depth,
         extended_precision,
         list.len(),
         levels.len(),
         out.len(),
     );
-    match found {
-        TransformSkipAnswer::Params(by) => {
-            let dequant = by.dequant;
-            CountAnswer::Limited(wide::scale_listed(levels, n, dequant, list, dc, out))
-        }
-        TransformSkipAnswer::Refused(why) => CountAnswer::Refused(why),
+    if let Answer::Refused(why) = checked {
+        return CountAnswer::Refused(why);
     }
+    CountAnswer::Limited(wide::listed_block(
+        false,
+        levels,
+        n,
+        qp_prime,
+        bit_depth,
+        extended_precision,
+        list,
+        dc,
+        out,
+    ))
 }
 
 // The residuals of a block without a list, and how many of its coefficients were limited.
@@ -117,24 +124,27 @@ pub fn dequantize_transform_skip_scaled_into_scalar_i32(
 ) -> CountAnswer
     ensures { λ r. ⌜ CountWrites r (now (out .exit)) (transformSkipped bits32 (listed (now (list .entry)) dc) n («qp_prime» .0) «bit_depth» «extended_precision» (now (levels .entry)) (now (out .entry))) ⌝ }
 {
-    let found = refuse::block_params(
+    let checked = refuse::block_refused(
         false,
         n,
-        qp_prime,
         bit_depth,
         extended_precision,
         list.len(),
         levels.len(),
         out.len(),
     );
-    match found {
-        TransformSkipAnswer::Params(by) => {
-            let count = n * n;
-            let dequant = by.dequant;
-            let limited = wide::scale_listed(levels, n, dequant, list, dc, out);
-            wide::skip_block(count, by, out);
-            CountAnswer::Limited(limited)
-        }
-        TransformSkipAnswer::Refused(why) => CountAnswer::Refused(why),
+    if let Answer::Refused(why) = checked {
+        return CountAnswer::Refused(why);
     }
+    CountAnswer::Limited(wide::listed_block(
+        true,
+        levels,
+        n,
+        qp_prime,
+        bit_depth,
+        extended_precision,
+        list,
+        dc,
+        out,
+    ))
 }

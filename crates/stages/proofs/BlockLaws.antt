@@ -40,7 +40,7 @@ use Rattle.transform_1d.specs.Rows.{Placed, Filled}
 use Rattle.transform_1d.proofs.RowsLaws.{row-unique, filled-cong, filled-overwrite, zeros-getD}
 use Rattle.transform_1d.proofs.MatrixLaws.{transformLine-within, Laid}
 use Rattle.coefficients.specs.Rows.{RowsUsed}
-use Rattle.stages.specs.Passes.{shiftedResidual, PassAsk, columnValue, rowValue}
+use Rattle.stages.specs.Passes.{shiftedResidual, PassNeeds, columnValue, rowValue}
 use Rattle.stages.proofs.FinishLaws.{clip-fits}
 
 pub transformLine-short : (t : ℕ → ℕ → ℤ) (n k : ℕ) (y : ℕ → ℤ) (m : ℕ) → k ≤ n → ((i : ℕ) → k ≤ i → i < n → y i ≡ pos 0)
@@ -140,7 +140,7 @@ module _ {t : ℕ → ℕ → ℤ} {n : ℕ} {xs : List ℤ} (T : Laid t n xs) {
   abbrev read : ℕ → ℕ → ℤ
   read = columnsRead nx (blockAt n coeff)
 
-  pub source-pass : {d : ℕ} → n * n ≤ d → PassAsk n xs a nx ((ny + 3) / 4) d
+  pub source-pass : {d : ℕ} → n * n ≤ d → PassNeeds n xs a nx ((ny + 3) / 4) d
   source-pass h =
       record { few = omega (arith, src .used .most, T .fours); table = T .long; small = T .small; source = src .long; lines = src .columns; room = h }
 
@@ -176,7 +176,7 @@ module _ {t : ℕ → ℕ → ℤ} {n : ℕ} {xs : List ℤ} (T : Laid t n xs) {
               ∙ zeros-getD (n * n) (c * n + place m) ∙ sym (intermediate-past t n nx (blockAt n coeff) m c (omega arith))
         ]
 
-    pub pass-two : {o : ℕ} → n * n ≤ o → PassAsk n xs d n g o
+    pub pass-two : {o : ℕ} → n * n ≤ o → PassNeeds n xs d n g o
     pass-two h =
         record {
           few = G .few;

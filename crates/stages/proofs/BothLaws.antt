@@ -32,7 +32,7 @@ use Rattle.transform_1d.proofs.MatrixLaws.{transformLine-within}
 use Rattle.coefficients.specs.Rows.{RowsUsed}
 use Rattle.tiles.specs.Tile.{lineValue}
 use Rattle.tiles.proofs.TileLaws.{lineValue-stageTwo, lineValue-intermediate}
-use Rattle.stages.specs.Passes.{shiftedResidual, BlockAsk}
+use Rattle.stages.specs.Passes.{shiftedResidual, BlockNeeds}
 use Rattle.stages.proofs.FinishLaws.{clip-fits}
 use Rattle.stages.proofs.BlockLaws.{intermediate-past, roundShift-fits, clipCoeff-within}
 

@@ -1,6 +1,6 @@
 -- Laws of one stage: lines over columns, stored as rows.
---   passAsk-line       a pass meets what each of its lines asks
---   passAsk-row        each row ends inside the block
+--   passNeeds-line       a pass meets what each of its lines asks
+--   passNeeds-row        each row ends inside the block
 --   lineSums-halves    the sums of a line have room
 --   filled-line        one line more
 --   outputs-fit        what fits for a line fits for the outputs of its sums
@@ -13,15 +13,15 @@ use lib.Arith.{digits-lt}
 use lib.IntN.{ℤ}
 use mir.Syntax.{w16}
 use mir.Val.{SFits}
-use Rattle.transform_1d.specs.Lanes.{laneOutput, lineSum, LineAsk, LineSums}
+use Rattle.transform_1d.specs.Lanes.{laneOutput, lineSum, LineNeeds, LineSums}
 use Rattle.transform_1d.specs.Rows.{Placed, Filled}
 use Rattle.transform_1d.proofs.RowsLaws.{placed-cong, filled-suc}
-use Rattle.stages.specs.Passes.{Halves, PassAsk}
+use Rattle.stages.specs.Passes.{Halves, PassNeeds}
 use Rattle.coefficients.proofs.RowsLaws.{row-inside}
 
-module _ {n : ℕ} {t x : List ℤ} {count groups d : ℕ} (a : PassAsk n t x count groups d) where
-  pub passAsk-line : (c : ℕ) → c < count → LineAsk n t x c n groups
-  passAsk-line c h =
+module _ {n : ℕ} {t x : List ℤ} {count groups d : ℕ} (a : PassNeeds n t x count groups d) where
+  pub passNeeds-line : (c : ℕ) → c < count → LineNeeds n t x c n groups
+  passNeeds-line c h =
       record {
         few = a .few;
         table = omega (arith, a .few, a .table);
@@ -29,8 +29,8 @@ module _ {n : ℕ} {t x : List ℤ} {count groups d : ℕ} (a : PassAsk n t x co
         reads = λ k l. omega (arith, a .source, add-comm c (k * n), digits-lt {q = k} {m = n} {r = c} {c = n} (omega (arith, a .few)) (omega (arith, a .lines)));
       }
 
-  pub passAsk-row : (c : ℕ) → c < count → c * n + n ≤ d
-  passAsk-row c h = omega (arith, a .room, row-inside n c n (omega (arith, a .lines)) (omega arith))
+  pub passNeeds-row : (c : ℕ) → c < count → c * n + n ≤ d
+  passNeeds-row c h = omega (arith, a .room, row-inside n c n (omega (arith, a .lines)) (omega arith))
 
 pub lineSums-halves : {t x : List ℤ} {base stride groups : ℕ} {z : List ℤ} → LineSums t x base stride groups z → Halves z
 lineSums-halves s = record { at = s .bound }

@@ -1,8 +1,8 @@
 -- Laws that take blocks of each size and kind to the plain residual.
 --   size-bounds, size-rest     a size is 4 to 32; one that is not 4, 8 or 16 is 32
---   blockAsk-size              what a block asks, by another name of its size or of its column count
+--   blockNeeds-size              what a block asks, by another name of its size or of its column count
 --   result-size                a block's result, by another name of its size
---   plainAsk-block             what the plain range asks covers what a block asks
+--   plainNeeds-block             what the plain range asks covers what a block asks
 --   result-dct, result-dst     a block's result is the residual of its kind
 --   first-inside, first-fits, times-64   the first coefficient, and 64 times it
 --   dc-residual, dc-result  one coefficient alone: every output is the same
@@ -29,36 +29,17 @@ use Rattle.h265.specs.Transform.{transformLine, blockAt, rowOrder, columnsRead,
 use Rattle.transform_1d.specs.declared.Kind.{Kind}
 use Rattle.transform_1d.specs.declared.Kind.the-variants.{Dct, Dst}
 use Rattle.transform_1d.specs.MatrixOf.{matrixOf}
-use Rattle.stages.specs.Plain.{PlainAsk}
+use Rattle.stages.specs.Plain.{PlainNeeds}
 use Rattle.coefficients.specs.Rows.{RowsUsed}
-use Rattle.stages.specs.Passes.{shiftedResidual, BlockAsk}
+use Rattle.stages.specs.Passes.{shiftedResidual, BlockNeeds}
 use Rattle.stages.proofs.BlockLaws.{transformLine-short, intermediate-past}
 
 -- ---- sizes
--- a fact of each of the four sizes is a fact of every size
-size-cases : (Q : ℕ → Type 0) → Q 4 → Q 8 → Q 16 → Q 32 → (n : ℕ) → T (isSize n) → Q n
-size-cases Q a b c d n t = by-tests (eqb n 4) (eqb n 8) (eqb n 16) (eqb n 32) (eqb→eq n 4) (eqb→eq n 8) (eqb→eq n 16) (eqb→eq n 32) t
-  where
-    by-tests : (w x y z : Bool) → (T w → n ≡ 4) → (T x → n ≡ 8) → (T y → n ≡ 16) → (T z → n ≡ 32) → T (w || (x || (y || z))) → Q n
-    by-tests true x y z e f g h s = subst Q (sym (e tt)) a
-    by-tests false true y z e f g h s = subst Q (sym (f tt)) b
-    by-tests false false true z e f g h s = subst Q (sym (g tt)) c
-    by-tests false false false true e f g h s = subst Q (sym (h tt)) d
-    by-tests false false false false e f g h s = absurd s
+pub blockNeeds-size : {n k s nx len : ℕ} {coeff : List ℤ} → n ≡ k → BlockNeeds n s nx coeff len → BlockNeeds k s nx coeff len
+blockNeeds-size {s = s} {nx} {len} {coeff} e a = subst (λ (i : ℕ). BlockNeeds i s nx coeff len) e a
 
-pub size-bounds : (n : ℕ) → T (isSize n) → (4 ≤ n) × (n ≤ 32)
-size-bounds = size-cases (λ n. (4 ≤ n) × (n ≤ 32)) (omega arith) (omega arith) (omega arith) (omega arith)
-
-pub size-rest : (n : ℕ) → T (isSize n) → (n ≡ 4 → ⊥) → (n ≡ 8 → ⊥) → (n ≡ 16 → ⊥) → n ≡ 32
-size-rest =
-    size-cases (λ n. (n ≡ 4 → ⊥) → (n ≡ 8 → ⊥) → (n ≡ 16 → ⊥) → n ≡ 32)
-    (λ f g h. absurd (f refl)) (λ f g h. absurd (g refl)) (λ f g h. absurd (h refl)) (λ f g h. refl)
-
-pub blockAsk-size : {n k s nx len : ℕ} {coeff : List ℤ} → n ≡ k → BlockAsk n s nx coeff len → BlockAsk k s nx coeff len
-blockAsk-size {s = s} {nx} {len} {coeff} e a = subst (λ (i : ℕ). BlockAsk i s nx coeff len) e a
-
-pub blockAsk-columns : {n s nx k len : ℕ} {coeff : List ℤ} → nx ≡ k → BlockAsk n s nx coeff len → BlockAsk n s k coeff len
-blockAsk-columns {n} {s} {len = len} {coeff} e a = subst (λ (i : ℕ). BlockAsk n s i coeff len) e a
+pub blockNeeds-columns : {n s nx k len : ℕ} {coeff : List ℤ} → nx ≡ k → BlockNeeds n s nx coeff len → BlockNeeds n s k coeff len
+blockNeeds-columns {n} {s} {len = len} {coeff} e a = subst (λ (i : ℕ). BlockNeeds n s i coeff len) e a
 
 -- what a block of a size gives
 abbrev pub Result : ℕ → ℕ → ℕ → List ℤ → List ℤ → List ℤ → Type 0
@@ -71,8 +52,8 @@ pub result-columns : (n s : ℕ) {nx k : ℕ} (coeff out r : List ℤ) → nx �
 result-columns n s coeff out r e h = subst (λ (i : ℕ). Result n s i coeff out r) (sym e) h
 
 -- ---- kinds
-pub plainAsk-block : {kind : Kind} {n b nx : ℕ} {coeff : List ℤ} {len : ℕ} → PlainAsk kind n b nx coeff len → BlockAsk n (20 - b) nx coeff len
-plainAsk-block a =
+pub plainNeeds-block : {kind : Kind} {n b nx : ℕ} {coeff : List ℤ} {len : ℕ} → PlainNeeds kind n b nx coeff len → BlockNeeds n (20 - b) nx coeff len
+plainNeeds-block a =
     record { least = omega (arith, a .most); most = omega (arith, a .least); columns = a .columns; long = a .long; room = a .room; fits = a .fits }
 
 abbrev pub Plain : Kind → ℕ → ℕ → ℕ → List ℤ → List ℤ → List ℤ → Type 0
@@ -89,17 +70,17 @@ result-dst n b nx coeff out r e f h =
     subst (λ (k : Kind). Plain k n b nx coeff out r) (sym e) (subst (λ (i : ℕ). Plain Dst i b nx coeff out r) (sym f) h)
 
 -- ---- one coefficient
-pub first-inside : {n s : ℕ} {coeff : List ℤ} {len : ℕ} → 0 < n → BlockAsk n s 1 coeff len → 0 < length coeff
+pub first-inside : {n s : ℕ} {coeff : List ℤ} {len : ℕ} → 0 < n → BlockNeeds n s 1 coeff len → 0 < length coeff
 first-inside {n} h a = omega (arith, a .long, mul-le-mul h h)
 
-pub first-fits : {n s : ℕ} {coeff : List ℤ} {len : ℕ} → 0 < n → BlockAsk n s 1 coeff len → SFits w16 (getD coeff 0 (pos 0))
+pub first-fits : {n s : ℕ} {coeff : List ℤ} {len : ℕ} → 0 < n → BlockNeeds n s 1 coeff len → SFits w16 (getD coeff 0 (pos 0))
 first-fits {n} {coeff = coeff} h a =
     subst (λ (i : ℕ). SFits w16 (getD coeff i (pos 0))) (add-zero (0 * n) ∙ zero-mul n) (a .fits 0 0 h (omega arith))
 
 pub times-64 : {x : ℤ} → SFits w16 x → Within 2097152 (pos 64 *ℤ x)
 times-64 f = within-lit-mul 64 (within-sfits f)
 
-line-first : (n : ℕ) (y : ℕ → ℤ) (m : ℕ) → 0 < n → ((k : ℕ) → 0 < k → k < n → y k ≡ pos 0) → transformLine (transMatrix n) n y m ≡ pos 64 *ℤ y 0
+pub line-first : (n : ℕ) (y : ℕ → ℤ) (m : ℕ) → 0 < n → ((k : ℕ) → 0 < k → k < n → y k ≡ pos 0) → transformLine (transMatrix n) n y m ≡ pos 64 *ℤ y 0
 unfolding transformLine sum transMatrix transMatrix32
 line-first n y m h z =
     transformLine-short (transMatrix n) n 1 y m h (λ k a b. z k a b)

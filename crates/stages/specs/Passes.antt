@@ -1,11 +1,11 @@
 -- What passes over a block ask of each other and give. Letters as in h265's Transform; s is the shift of stage two.
 --   shiftedResidual   the residual by a matrix, for a shift
---   BlockAsk          what a block of size n asks
+--   BlockNeeds          what a block of size n asks
 --   Halves            both sums of each lane leave room for their sum
---   PassAsk           what a pass over lines of n points asks: it reads columns of x and writes rows of d
+--   PassNeeds           what a pass over lines of n points asks: it reads columns of x and writes rows of d
 --   columnValue       the intermediate at row m and column c, from a line over column c
 --   rowValue          the residual at row m and column j, from a line over row m
---   BothAsk           what both stages ask of a block's first q rows, of which columns from q on are not read
+--   BothNeeds           what both stages ask of a block's first q rows, of which columns from q on are not read
 --   BothGives         what they give: residuals as rows of one list, or limited to 16 bits of another
 use mathlib.Core.Path.{_≡_}
 use mathlib.Core.Bool.{Bool, true, false}
@@ -26,7 +26,7 @@ use Rattle.transform_1d.specs.Rows.{Filled}
 unfoldable pub shiftedResidual : (ℕ → ℕ → ℤ) → ℕ → ℕ → ℕ → List ℤ → ℕ → ℕ → ℤ
 shiftedResidual t n s nx xs m j = stageTwo t n s (intermediate t n 15 (columnsRead nx (blockAt n xs))) m j
 
-pub record BlockAsk (n s nx : ℕ) (coeff : List ℤ) (outLength : ℕ) : Type 0 where
+pub record BlockNeeds (n s nx : ℕ) (coeff : List ℤ) (outLength : ℕ) : Type 0 where
   pub least : 0 < s
   pub most : s ≤ 12
   pub columns : nx ≤ n
@@ -37,7 +37,7 @@ pub record BlockAsk (n s nx : ℕ) (coeff : List ℤ) (outLength : ℕ) : Type 0
 pub record Halves (z : List ℤ) : Type 0 where
   pub at : (p : ℕ) → p < 32 → Within (2 ^ 26) (getD z p (pos 0))
 
-pub record PassAsk (n : ℕ) (t x : List ℤ) (count groups d : ℕ) : Type 0 where
+pub record PassNeeds (n : ℕ) (t x : List ℤ) (count groups d : ℕ) : Type 0 where
   pub few : 4 * groups ≤ n
   pub table : 16 * n ≤ length t
   pub small : SmallEntries t
@@ -51,7 +51,7 @@ columnValue t x n groups c m = clipCoeff 15 (roundShift (lineSum t x c n groups 
 abbrev pub rowValue : List ℤ → List ℤ → ℕ → ℕ → ℕ → ℕ → ℕ → ℤ
 rowValue t x n groups s m j = roundShift (lineSum t x m n groups j) s
 
-pub record BothAsk (q n s nx : ℕ) (xs : List ℤ) (wide : Bool) (outLength thinLength : ℕ) : Type 0 where
+pub record BothNeeds (q n s nx : ℕ) (xs : List ℤ) (wide : Bool) (outLength thinLength : ℕ) : Type 0 where
   pub long : length xs ≡ q * n
   pub least : 0 < s
   pub most : s ≤ 12

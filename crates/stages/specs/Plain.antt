@@ -1,5 +1,5 @@
--- What the plain range asks: R = 15, so that coefficients and intermediate values fit 16 bits. Document 01, "Inverse transforms".
---   PlainAsk   size, kind, depth, column count and lengths are right, and each coefficient of the columns read fits 16 bits
+-- What the plain range asks: R = 15, so that coefficients and intermediate values fit 16 bits. docs/RULES.md, "Inverse transforms".
+--   PlainNeeds   size, kind, depth, column count and lengths are right, and each coefficient of the columns read fits 16 bits
 use mathlib.Core.Path.{_≡_}
 use mathlib.Core.List.{List}
 use Prim.Native.Nat.{ℕ, _+_, _*_, _<_, _≤_}
@@ -12,7 +12,7 @@ use Rattle.h265.specs.Range.{isSize}
 use Rattle.transform_1d.specs.declared.Kind.{Kind}
 use Rattle.transform_1d.specs.declared.Kind.the-variants.{Dst}
 
-pub record PlainAsk (kind : Kind) (n b nx : ℕ) (coeff : List ℤ) (outLength : ℕ) : Type 0 where
+pub record PlainNeeds (kind : Kind) (n b nx : ℕ) (coeff : List ℤ) (outLength : ℕ) : Type 0 where
   pub size : T (isSize n)
   pub dst : kind ≡ Dst → n ≡ 4
   pub least : 8 ≤ b

@@ -7,7 +7,7 @@ ghost use Rattle.integers.specs.Lists.{overwrite};
 ghost use Rattle.h265.specs.Matrix.{transMatrix, dstMatrix};
 ghost use Rattle.h265.specs.Transform.{rowOrder};
 ghost use Rattle.coefficients.specs.Rows.{RowsUsed};
-ghost use Rattle.stages.specs.Passes.{shiftedResidual, BlockAsk};
+ghost use Rattle.stages.specs.Passes.{shiftedResidual, BlockNeeds};
 use crate::both::both_8;
 use crate::both::both_8q;
 use crate::both::both_16;
@@ -26,7 +26,7 @@ use transform_1d::lanes_dst;
 
 // The 4-point DCT in both directions.
 pub fn dct_4(coeff: &[i32], nx: usize, s: u32, out: &mut [i32])
-    requires { ⌜ BlockAsk 4 s nx (now coeff) (length (now out)) ⌝ }
+    requires { ⌜ BlockNeeds 4 s nx (now coeff) (length (now out)) ⌝ }
     ensures { λ _. ⌜ now (out .exit) ≡ overwrite (4 * 4) (rowOrder 4 (shiftedResidual (transMatrix 4) 4 s nx (now (coeff .entry)))) (now (out .entry)) ⌝ }
 {
     let t = lanes_4();
@@ -39,7 +39,7 @@ pub fn dct_4(coeff: &[i32], nx: usize, s: u32, out: &mut [i32])
 
 // The 4-point DST in both directions.
 pub fn dst_4(coeff: &[i32], nx: usize, s: u32, out: &mut [i32])
-    requires { ⌜ BlockAsk 4 s nx (now coeff) (length (now out)) ⌝ }
+    requires { ⌜ BlockNeeds 4 s nx (now coeff) (length (now out)) ⌝ }
     ensures { λ _. ⌜ now (out .exit) ≡ overwrite (4 * 4) (rowOrder 4 (shiftedResidual dstMatrix 4 s nx (now (coeff .entry)))) (now (out .entry)) ⌝ }
 {
     let t = lanes_dst();
@@ -52,7 +52,7 @@ pub fn dst_4(coeff: &[i32], nx: usize, s: u32, out: &mut [i32])
 
 // A block of size 8.
 fn wide_8(coeff: &[i32], nx: usize, s: u32, out: &mut [i32])
-    requires { ⌜ BlockAsk 8 s nx (now coeff) (length (now out)) ⌝ }
+    requires { ⌜ BlockNeeds 8 s nx (now coeff) (length (now out)) ⌝ }
     ensures { λ _. ⌜ now (out .exit) ≡ overwrite (8 * 8) (rowOrder 8 (shiftedResidual (transMatrix 8) 8 s nx (now (coeff .entry)))) (now (out .entry)) ⌝ }
 {
     let mut a = [0i16; 64];
@@ -63,7 +63,7 @@ fn wide_8(coeff: &[i32], nx: usize, s: u32, out: &mut [i32])
 
 // A block of size 8 whose rows and columns from 4 on are zero.
 fn wide_8q(coeff: &[i32], nx: usize, s: u32, out: &mut [i32])
-    requires { ⌜ BlockAsk 8 s nx (now coeff) (length (now out)) × (nx ≤ 4) × RowsUsed (now coeff) 8 nx 4 ⌝ }
+    requires { ⌜ BlockNeeds 8 s nx (now coeff) (length (now out)) × (nx ≤ 4) × RowsUsed (now coeff) 8 nx 4 ⌝ }
     ensures { λ _. ⌜ now (out .exit) ≡ overwrite (8 * 8) (rowOrder 8 (shiftedResidual (transMatrix 8) 8 s nx (now (coeff .entry)))) (now (out .entry)) ⌝ }
 {
     let mut a = [0i16; 32];
@@ -74,7 +74,7 @@ fn wide_8q(coeff: &[i32], nx: usize, s: u32, out: &mut [i32])
 
 // The 8-point DCT in both directions.
 pub fn dct_8(coeff: &[i32], nx: usize, s: u32, out: &mut [i32])
-    requires { ⌜ BlockAsk 8 s nx (now coeff) (length (now out)) ⌝ }
+    requires { ⌜ BlockNeeds 8 s nx (now coeff) (length (now out)) ⌝ }
     ensures { λ _. ⌜ now (out .exit) ≡ overwrite (8 * 8) (rowOrder 8 (shiftedResidual (transMatrix 8) 8 s nx (now (coeff .entry)))) (now (out .entry)) ⌝ }
 {
     if nx <= 4 {
@@ -88,7 +88,7 @@ pub fn dct_8(coeff: &[i32], nx: usize, s: u32, out: &mut [i32])
 
 // A block of size 16.
 fn wide_16(coeff: &[i32], nx: usize, s: u32, out: &mut [i32])
-    requires { ⌜ BlockAsk 16 s nx (now coeff) (length (now out)) ⌝ }
+    requires { ⌜ BlockNeeds 16 s nx (now coeff) (length (now out)) ⌝ }
     ensures { λ _. ⌜ now (out .exit) ≡ overwrite (16 * 16) (rowOrder 16 (shiftedResidual (transMatrix 16) 16 s nx (now (coeff .entry)))) (now (out .entry)) ⌝ }
 {
     let mut a = [0i16; 256];
@@ -99,7 +99,7 @@ fn wide_16(coeff: &[i32], nx: usize, s: u32, out: &mut [i32])
 
 // A block of size 16 whose rows and columns from 4 on are zero.
 fn wide_16q(coeff: &[i32], nx: usize, s: u32, out: &mut [i32])
-    requires { ⌜ BlockAsk 16 s nx (now coeff) (length (now out)) × (nx ≤ 4) × RowsUsed (now coeff) 16 nx 4 ⌝ }
+    requires { ⌜ BlockNeeds 16 s nx (now coeff) (length (now out)) × (nx ≤ 4) × RowsUsed (now coeff) 16 nx 4 ⌝ }
     ensures { λ _. ⌜ now (out .exit) ≡ overwrite (16 * 16) (rowOrder 16 (shiftedResidual (transMatrix 16) 16 s nx (now (coeff .entry)))) (now (out .entry)) ⌝ }
 {
     let mut a = [0i16; 64];
@@ -110,7 +110,7 @@ fn wide_16q(coeff: &[i32], nx: usize, s: u32, out: &mut [i32])
 
 // The 16-point DCT in both directions.
 pub fn dct_16(coeff: &[i32], nx: usize, s: u32, out: &mut [i32])
-    requires { ⌜ BlockAsk 16 s nx (now coeff) (length (now out)) ⌝ }
+    requires { ⌜ BlockNeeds 16 s nx (now coeff) (length (now out)) ⌝ }
     ensures { λ _. ⌜ now (out .exit) ≡ overwrite (16 * 16) (rowOrder 16 (shiftedResidual (transMatrix 16) 16 s nx (now (coeff .entry)))) (now (out .entry)) ⌝ }
 {
     if nx <= 4 {
@@ -124,7 +124,7 @@ pub fn dct_16(coeff: &[i32], nx: usize, s: u32, out: &mut [i32])
 
 // A block of size 32.
 fn wide_32(coeff: &[i32], nx: usize, s: u32, out: &mut [i32])
-    requires { ⌜ BlockAsk 32 s nx (now coeff) (length (now out)) ⌝ }
+    requires { ⌜ BlockNeeds 32 s nx (now coeff) (length (now out)) ⌝ }
     ensures { λ _. ⌜ now (out .exit) ≡ overwrite (32 * 32) (rowOrder 32 (shiftedResidual (transMatrix 32) 32 s nx (now (coeff .entry)))) (now (out .entry)) ⌝ }
 {
     let mut a = [0i16; 1024];
@@ -135,7 +135,7 @@ fn wide_32(coeff: &[i32], nx: usize, s: u32, out: &mut [i32])
 
 // A block of size 32 whose rows and columns from 8 on are zero.
 fn wide_32q(coeff: &[i32], nx: usize, s: u32, out: &mut [i32])
-    requires { ⌜ BlockAsk 32 s nx (now coeff) (length (now out)) × (nx ≤ 8) × RowsUsed (now coeff) 32 nx 8 ⌝ }
+    requires { ⌜ BlockNeeds 32 s nx (now coeff) (length (now out)) × (nx ≤ 8) × RowsUsed (now coeff) 32 nx 8 ⌝ }
     ensures { λ _. ⌜ now (out .exit) ≡ overwrite (32 * 32) (rowOrder 32 (shiftedResidual (transMatrix 32) 32 s nx (now (coeff .entry)))) (now (out .entry)) ⌝ }
 {
     let mut a = [0i16; 256];
@@ -146,7 +146,7 @@ fn wide_32q(coeff: &[i32], nx: usize, s: u32, out: &mut [i32])
 
 // The 32-point DCT in both directions.
 pub fn dct_32(coeff: &[i32], nx: usize, s: u32, out: &mut [i32])
-    requires { ⌜ BlockAsk 32 s nx (now coeff) (length (now out)) ⌝ }
+    requires { ⌜ BlockNeeds 32 s nx (now coeff) (length (now out)) ⌝ }
     ensures { λ _. ⌜ now (out .exit) ≡ overwrite (32 * 32) (rowOrder 32 (shiftedResidual (transMatrix 32) 32 s nx (now (coeff .entry)))) (now (out .entry)) ⌝ }
 {
     if nx <= 8 {
@@ -160,7 +160,7 @@ pub fn dct_32(coeff: &[i32], nx: usize, s: u32, out: &mut [i32])
 
 // A DCT's block whose only coefficient is the first: row 0 of every DCT's matrix is 64, so that all outputs are equal.
 pub fn dc_fill(coeff: &[i32], n: usize, s: u32, out: &mut [i32])
-    requires { ⌜ (0 < n) × (n ≤ 32) × BlockAsk n s 1 (now coeff) (length (now out)) × RowsUsed (now coeff) n 1 1 ⌝ }
+    requires { ⌜ (0 < n) × (n ≤ 32) × BlockNeeds n s 1 (now coeff) (length (now out)) × RowsUsed (now coeff) n 1 1 ⌝ }
     ensures { λ _. ⌜ now (out .exit) ≡ overwrite (n * n) (rowOrder n (shiftedResidual (transMatrix n) n s 1 (now (coeff .entry)))) (now (out .entry)) ⌝ }
 {
     let g = clipped(64 * coeff[0]);

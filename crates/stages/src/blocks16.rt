@@ -7,7 +7,7 @@ ghost use Rattle.integers.specs.Lists.{overwrite};
 ghost use Rattle.h265.specs.Matrix.{transMatrix, dstMatrix};
 ghost use Rattle.h265.specs.Transform.{rowOrder};
 ghost use Rattle.coefficients.specs.Rows.{RowsUsed};
-ghost use Rattle.stages.specs.Passes.{shiftedResidual, BlockAsk};
+ghost use Rattle.stages.specs.Passes.{shiftedResidual, BlockNeeds};
 use crate::both::both_8;
 use crate::both::both_8q;
 use crate::both::both_16;
@@ -26,7 +26,7 @@ use transform_1d::lanes_dst;
 
 // The 4-point DCT in both directions, 16 bits wide.
 pub fn dct16_4(coeff: &[i16], nx: usize, s: u32, out: &mut [i16])
-    requires { ⌜ BlockAsk 4 s nx (now coeff) (length (now out)) × (11 ≤ s) ⌝ }
+    requires { ⌜ BlockNeeds 4 s nx (now coeff) (length (now out)) × (11 ≤ s) ⌝ }
     ensures { λ _. ⌜ now (out .exit) ≡ overwrite (4 * 4) (rowOrder 4 (shiftedResidual (transMatrix 4) 4 s nx (now (coeff .entry)))) (now (out .entry)) ⌝ }
 {
     let t = lanes_4();
@@ -37,7 +37,7 @@ pub fn dct16_4(coeff: &[i16], nx: usize, s: u32, out: &mut [i16])
 
 // The 4-point DST in both directions, 16 bits wide.
 pub fn dst16_4(coeff: &[i16], nx: usize, s: u32, out: &mut [i16])
-    requires { ⌜ BlockAsk 4 s nx (now coeff) (length (now out)) × (11 ≤ s) ⌝ }
+    requires { ⌜ BlockNeeds 4 s nx (now coeff) (length (now out)) × (11 ≤ s) ⌝ }
     ensures { λ _. ⌜ now (out .exit) ≡ overwrite (4 * 4) (rowOrder 4 (shiftedResidual dstMatrix 4 s nx (now (coeff .entry)))) (now (out .entry)) ⌝ }
 {
     let t = lanes_dst();
@@ -48,7 +48,7 @@ pub fn dst16_4(coeff: &[i16], nx: usize, s: u32, out: &mut [i16])
 
 // A block of size 8.
 fn thin_8(coeff: &[i16], nx: usize, s: u32, out: &mut [i16])
-    requires { ⌜ BlockAsk 8 s nx (now coeff) (length (now out)) × (11 ≤ s) ⌝ }
+    requires { ⌜ BlockNeeds 8 s nx (now coeff) (length (now out)) × (11 ≤ s) ⌝ }
     ensures { λ _. ⌜ now (out .exit) ≡ overwrite (8 * 8) (rowOrder 8 (shiftedResidual (transMatrix 8) 8 s nx (now (coeff .entry)))) (now (out .entry)) ⌝ }
 {
     let mut a = [0i16; 64];
@@ -59,7 +59,7 @@ fn thin_8(coeff: &[i16], nx: usize, s: u32, out: &mut [i16])
 
 // A block of size 8 whose rows and columns from 4 on are zero.
 fn thin_8q(coeff: &[i16], nx: usize, s: u32, out: &mut [i16])
-    requires { ⌜ BlockAsk 8 s nx (now coeff) (length (now out)) × (11 ≤ s) × (nx ≤ 4) × RowsUsed (now coeff) 8 nx 4 ⌝ }
+    requires { ⌜ BlockNeeds 8 s nx (now coeff) (length (now out)) × (11 ≤ s) × (nx ≤ 4) × RowsUsed (now coeff) 8 nx 4 ⌝ }
     ensures { λ _. ⌜ now (out .exit) ≡ overwrite (8 * 8) (rowOrder 8 (shiftedResidual (transMatrix 8) 8 s nx (now (coeff .entry)))) (now (out .entry)) ⌝ }
 {
     let mut a = [0i16; 32];
@@ -70,7 +70,7 @@ fn thin_8q(coeff: &[i16], nx: usize, s: u32, out: &mut [i16])
 
 // The 8-point DCT in both directions.
 pub fn dct16_8(coeff: &[i16], nx: usize, s: u32, out: &mut [i16])
-    requires { ⌜ BlockAsk 8 s nx (now coeff) (length (now out)) × (11 ≤ s) ⌝ }
+    requires { ⌜ BlockNeeds 8 s nx (now coeff) (length (now out)) × (11 ≤ s) ⌝ }
     ensures { λ _. ⌜ now (out .exit) ≡ overwrite (8 * 8) (rowOrder 8 (shiftedResidual (transMatrix 8) 8 s nx (now (coeff .entry)))) (now (out .entry)) ⌝ }
 {
     if nx <= 4 {
@@ -84,7 +84,7 @@ pub fn dct16_8(coeff: &[i16], nx: usize, s: u32, out: &mut [i16])
 
 // A block of size 16.
 fn thin_16(coeff: &[i16], nx: usize, s: u32, out: &mut [i16])
-    requires { ⌜ BlockAsk 16 s nx (now coeff) (length (now out)) × (11 ≤ s) ⌝ }
+    requires { ⌜ BlockNeeds 16 s nx (now coeff) (length (now out)) × (11 ≤ s) ⌝ }
     ensures { λ _. ⌜ now (out .exit) ≡ overwrite (16 * 16) (rowOrder 16 (shiftedResidual (transMatrix 16) 16 s nx (now (coeff .entry)))) (now (out .entry)) ⌝ }
 {
     let mut a = [0i16; 256];
@@ -95,7 +95,7 @@ fn thin_16(coeff: &[i16], nx: usize, s: u32, out: &mut [i16])
 
 // A block of size 16 whose rows and columns from 4 on are zero.
 fn thin_16q(coeff: &[i16], nx: usize, s: u32, out: &mut [i16])
-    requires { ⌜ BlockAsk 16 s nx (now coeff) (length (now out)) × (11 ≤ s) × (nx ≤ 4) × RowsUsed (now coeff) 16 nx 4 ⌝ }
+    requires { ⌜ BlockNeeds 16 s nx (now coeff) (length (now out)) × (11 ≤ s) × (nx ≤ 4) × RowsUsed (now coeff) 16 nx 4 ⌝ }
     ensures { λ _. ⌜ now (out .exit) ≡ overwrite (16 * 16) (rowOrder 16 (shiftedResidual (transMatrix 16) 16 s nx (now (coeff .entry)))) (now (out .entry)) ⌝ }
 {
     let mut a = [0i16; 64];
@@ -106,7 +106,7 @@ fn thin_16q(coeff: &[i16], nx: usize, s: u32, out: &mut [i16])
 
 // The 16-point DCT in both directions.
 pub fn dct16_16(coeff: &[i16], nx: usize, s: u32, out: &mut [i16])
-    requires { ⌜ BlockAsk 16 s nx (now coeff) (length (now out)) × (11 ≤ s) ⌝ }
+    requires { ⌜ BlockNeeds 16 s nx (now coeff) (length (now out)) × (11 ≤ s) ⌝ }
     ensures { λ _. ⌜ now (out .exit) ≡ overwrite (16 * 16) (rowOrder 16 (shiftedResidual (transMatrix 16) 16 s nx (now (coeff .entry)))) (now (out .entry)) ⌝ }
 {
     if nx <= 4 {
@@ -120,7 +120,7 @@ pub fn dct16_16(coeff: &[i16], nx: usize, s: u32, out: &mut [i16])
 
 // A block of size 32.
 fn thin_32(coeff: &[i16], nx: usize, s: u32, out: &mut [i16])
-    requires { ⌜ BlockAsk 32 s nx (now coeff) (length (now out)) × (11 ≤ s) ⌝ }
+    requires { ⌜ BlockNeeds 32 s nx (now coeff) (length (now out)) × (11 ≤ s) ⌝ }
     ensures { λ _. ⌜ now (out .exit) ≡ overwrite (32 * 32) (rowOrder 32 (shiftedResidual (transMatrix 32) 32 s nx (now (coeff .entry)))) (now (out .entry)) ⌝ }
 {
     let mut a = [0i16; 1024];
@@ -131,7 +131,7 @@ fn thin_32(coeff: &[i16], nx: usize, s: u32, out: &mut [i16])
 
 // A block of size 32 whose rows and columns from 8 on are zero.
 fn thin_32q(coeff: &[i16], nx: usize, s: u32, out: &mut [i16])
-    requires { ⌜ BlockAsk 32 s nx (now coeff) (length (now out)) × (11 ≤ s) × (nx ≤ 8) × RowsUsed (now coeff) 32 nx 8 ⌝ }
+    requires { ⌜ BlockNeeds 32 s nx (now coeff) (length (now out)) × (11 ≤ s) × (nx ≤ 8) × RowsUsed (now coeff) 32 nx 8 ⌝ }
     ensures { λ _. ⌜ now (out .exit) ≡ overwrite (32 * 32) (rowOrder 32 (shiftedResidual (transMatrix 32) 32 s nx (now (coeff .entry)))) (now (out .entry)) ⌝ }
 {
     let mut a = [0i16; 256];
@@ -142,7 +142,7 @@ fn thin_32q(coeff: &[i16], nx: usize, s: u32, out: &mut [i16])
 
 // The 32-point DCT in both directions.
 pub fn dct16_32(coeff: &[i16], nx: usize, s: u32, out: &mut [i16])
-    requires { ⌜ BlockAsk 32 s nx (now coeff) (length (now out)) × (11 ≤ s) ⌝ }
+    requires { ⌜ BlockNeeds 32 s nx (now coeff) (length (now out)) × (11 ≤ s) ⌝ }
     ensures { λ _. ⌜ now (out .exit) ≡ overwrite (32 * 32) (rowOrder 32 (shiftedResidual (transMatrix 32) 32 s nx (now (coeff .entry)))) (now (out .entry)) ⌝ }
 {
     if nx <= 8 {
@@ -156,7 +156,7 @@ pub fn dct16_32(coeff: &[i16], nx: usize, s: u32, out: &mut [i16])
 
 // The same as `dc_fill`, 16 bits wide.
 pub fn dc_fill16(coeff: &[i16], n: usize, s: u32, out: &mut [i16])
-    requires { ⌜ (0 < n) × (n ≤ 32) × BlockAsk n s 1 (now coeff) (length (now out)) × (11 ≤ s) × RowsUsed (now coeff) n 1 1 ⌝ }
+    requires { ⌜ (0 < n) × (n ≤ 32) × BlockNeeds n s 1 (now coeff) (length (now out)) × (11 ≤ s) × RowsUsed (now coeff) n 1 1 ⌝ }
     ensures { λ _. ⌜ now (out .exit) ≡ overwrite (n * n) (rowOrder n (shiftedResidual (transMatrix n) n s 1 (now (coeff .entry)))) (now (out .entry)) ⌝ }
 {
     let g = clipped(64 * (coeff[0] as i32));

@@ -2,11 +2,11 @@
 // where its values fit, 16.
 ghost use mathlib.Core.Path.{_≡_};
 ghost use lib.ListN.{length};
-ghost use Rattle.stages.specs.Passes.{BothAsk, BothGives};
+ghost use Rattle.stages.specs.Passes.{BothNeeds, BothGives};
 
 // Both stages of 8 points.
 pub fn both_8(a: &[i16; 64], nx: usize, s: u32, wide: bool, out: &mut [i32], thin: &mut [i16])
-    requires { ⌜ BothAsk 8 8 s nx (now a) wide (length (now out)) (length (now thin)) ⌝ }
+    requires { ⌜ BothNeeds 8 8 s nx (now a) wide (length (now out)) (length (now thin)) ⌝ }
     ensures { λ _. ⌜ BothGives 8 s nx (now (a .entry)) wide (now (out .entry)) (now (out .exit)) (now (thin .entry)) (now (thin .exit)) ⌝ }
 {
     let mut d = [0i16; 64];
@@ -17,7 +17,7 @@ pub fn both_8(a: &[i16; 64], nx: usize, s: u32, wide: bool, out: &mut [i32], thi
 
 // The same where rows and columns from 4 on are zero.
 pub fn both_8q(a: &[i16; 32], nx: usize, s: u32, wide: bool, out: &mut [i32], thin: &mut [i16])
-    requires { ⌜ BothAsk 4 8 s nx (now a) wide (length (now out)) (length (now thin)) ⌝ }
+    requires { ⌜ BothNeeds 4 8 s nx (now a) wide (length (now out)) (length (now thin)) ⌝ }
     ensures { λ _. ⌜ BothGives 8 s nx (now (a .entry)) wide (now (out .entry)) (now (out .exit)) (now (thin .entry)) (now (thin .exit)) ⌝ }
 {
     let mut d = [0i16; 32];
@@ -28,7 +28,7 @@ pub fn both_8q(a: &[i16; 32], nx: usize, s: u32, wide: bool, out: &mut [i32], th
 
 // Both stages of 16 points.
 pub fn both_16(a: &[i16; 256], nx: usize, s: u32, wide: bool, out: &mut [i32], thin: &mut [i16])
-    requires { ⌜ BothAsk 16 16 s nx (now a) wide (length (now out)) (length (now thin)) ⌝ }
+    requires { ⌜ BothNeeds 16 16 s nx (now a) wide (length (now out)) (length (now thin)) ⌝ }
     ensures { λ _. ⌜ BothGives 16 s nx (now (a .entry)) wide (now (out .entry)) (now (out .exit)) (now (thin .entry)) (now (thin .exit)) ⌝ }
 {
     let mut d = [0i16; 256];
@@ -39,7 +39,7 @@ pub fn both_16(a: &[i16; 256], nx: usize, s: u32, wide: bool, out: &mut [i32], t
 
 // The same where rows and columns from 4 on are zero.
 pub fn both_16q(a: &[i16; 64], nx: usize, s: u32, wide: bool, out: &mut [i32], thin: &mut [i16])
-    requires { ⌜ BothAsk 4 16 s nx (now a) wide (length (now out)) (length (now thin)) ⌝ }
+    requires { ⌜ BothNeeds 4 16 s nx (now a) wide (length (now out)) (length (now thin)) ⌝ }
     ensures { λ _. ⌜ BothGives 16 s nx (now (a .entry)) wide (now (out .entry)) (now (out .exit)) (now (thin .entry)) (now (thin .exit)) ⌝ }
 {
     let mut d = [0i16; 64];
@@ -50,7 +50,7 @@ pub fn both_16q(a: &[i16; 64], nx: usize, s: u32, wide: bool, out: &mut [i32], t
 
 // Both stages of 32 points.
 pub fn both_32(a: &[i16; 1024], nx: usize, s: u32, wide: bool, out: &mut [i32], thin: &mut [i16])
-    requires { ⌜ BothAsk 32 32 s nx (now a) wide (length (now out)) (length (now thin)) ⌝ }
+    requires { ⌜ BothNeeds 32 32 s nx (now a) wide (length (now out)) (length (now thin)) ⌝ }
     ensures { λ _. ⌜ BothGives 32 s nx (now (a .entry)) wide (now (out .entry)) (now (out .exit)) (now (thin .entry)) (now (thin .exit)) ⌝ }
 {
     let mut d = [0i16; 1024];
@@ -61,7 +61,7 @@ pub fn both_32(a: &[i16; 1024], nx: usize, s: u32, wide: bool, out: &mut [i32], 
 
 // The same where rows and columns from 8 on are zero.
 pub fn both_32q(a: &[i16; 256], nx: usize, s: u32, wide: bool, out: &mut [i32], thin: &mut [i16])
-    requires { ⌜ BothAsk 8 32 s nx (now a) wide (length (now out)) (length (now thin)) ⌝ }
+    requires { ⌜ BothNeeds 8 32 s nx (now a) wide (length (now out)) (length (now thin)) ⌝ }
     ensures { λ _. ⌜ BothGives 32 s nx (now (a .entry)) wide (now (out .entry)) (now (out .exit)) (now (thin .entry)) (now (thin .exit)) ⌝ }
 {
     let mut d = [0i16; 256];

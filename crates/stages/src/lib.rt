@@ -9,8 +9,8 @@ ghost use Rattle.h265.specs.Range.{isSize};
 ghost use Rattle.h265.specs.Matrix.{transMatrix};
 ghost use Rattle.h265.specs.Transform.{rowOrder, residual};
 ghost use Rattle.transform_1d.specs.MatrixOf.{matrixOf};
-ghost use Rattle.stages.specs.Plain.{PlainAsk};
-ghost use Rattle.stages.specs.Passes.{shiftedResidual, BlockAsk};
+ghost use Rattle.stages.specs.Plain.{PlainNeeds};
+ghost use Rattle.stages.specs.Passes.{shiftedResidual, BlockNeeds};
 use coefficients::rows_used;
 use transform_1d::Kind;
 
@@ -25,7 +25,7 @@ use scan::rows_used16;
 
 // The DCT of a block of any size.
 fn dct_sized(coeff: &[i32], n: usize, nx: usize, s: u32, out: &mut [i32])
-    requires { ⌜ T (isSize n) × BlockAsk n s nx (now coeff) (length (now out)) ⌝ }
+    requires { ⌜ T (isSize n) × BlockNeeds n s nx (now coeff) (length (now out)) ⌝ }
     ensures { λ _. ⌜ now (out .exit) ≡ overwrite (n * n) (rowOrder n (shiftedResidual (transMatrix n) n s nx (now (coeff .entry)))) (now (out .entry)) ⌝ }
 {
     match n {
@@ -38,7 +38,7 @@ fn dct_sized(coeff: &[i32], n: usize, nx: usize, s: u32, out: &mut [i32])
 
 // The DCT of a block of any size; one coefficient alone fills it.
 fn dct_plain(coeff: &[i32], n: usize, nx: usize, s: u32, out: &mut [i32])
-    requires { ⌜ T (isSize n) × BlockAsk n s nx (now coeff) (length (now out)) ⌝ }
+    requires { ⌜ T (isSize n) × BlockNeeds n s nx (now coeff) (length (now out)) ⌝ }
     ensures { λ _. ⌜ now (out .exit) ≡ overwrite (n * n) (rowOrder n (shiftedResidual (transMatrix n) n s nx (now (coeff .entry)))) (now (out .entry)) ⌝ }
 {
     if nx == 1 {
@@ -59,7 +59,7 @@ pub fn residual_plain(
     coeff: &[i32],
     out: &mut [i32],
 )
-    requires { ⌜ PlainAsk kind n «bit_depth» nx (now coeff) (length (now out)) ⌝ }
+    requires { ⌜ PlainNeeds kind n «bit_depth» nx (now coeff) (length (now out)) ⌝ }
     ensures { λ _. ⌜ now (out .exit) ≡ overwrite (n * n) (rowOrder n (residual (matrixOf kind n) n «bit_depth» 15 nx (now (coeff .entry)))) (now (out .entry)) ⌝ }
 {
     let s = 20 - (bit_depth as u32);
@@ -71,7 +71,7 @@ pub fn residual_plain(
 
 // The DCT of a block of any size, 16 bits wide.
 fn dct_sized16(coeff: &[i16], n: usize, nx: usize, s: u32, out: &mut [i16])
-    requires { ⌜ T (isSize n) × BlockAsk n s nx (now coeff) (length (now out)) × (11 ≤ s) ⌝ }
+    requires { ⌜ T (isSize n) × BlockNeeds n s nx (now coeff) (length (now out)) × (11 ≤ s) ⌝ }
     ensures { λ _. ⌜ now (out .exit) ≡ overwrite (n * n) (rowOrder n (shiftedResidual (transMatrix n) n s nx (now (coeff .entry)))) (now (out .entry)) ⌝ }
 {
     match n {
@@ -84,7 +84,7 @@ fn dct_sized16(coeff: &[i16], n: usize, nx: usize, s: u32, out: &mut [i16])
 
 // The DCT of a block of any size, 16 bits wide; one coefficient alone fills it.
 fn dct_plain16(coeff: &[i16], n: usize, nx: usize, s: u32, out: &mut [i16])
-    requires { ⌜ T (isSize n) × BlockAsk n s nx (now coeff) (length (now out)) × (11 ≤ s) ⌝ }
+    requires { ⌜ T (isSize n) × BlockNeeds n s nx (now coeff) (length (now out)) × (11 ≤ s) ⌝ }
     ensures { λ _. ⌜ now (out .exit) ≡ overwrite (n * n) (rowOrder n (shiftedResidual (transMatrix n) n s nx (now (coeff .entry)))) (now (out .entry)) ⌝ }
 {
     if nx == 1 {
@@ -105,7 +105,7 @@ pub fn residual_plain16(
     coeff: &[i16],
     out: &mut [i16],
 )
-    requires { ⌜ PlainAsk kind n «bit_depth» nx (now coeff) (length (now out)) × («bit_depth» ≤ 9) ⌝ }
+    requires { ⌜ PlainNeeds kind n «bit_depth» nx (now coeff) (length (now out)) × («bit_depth» ≤ 9) ⌝ }
     ensures { λ _. ⌜ now (out .exit) ≡ overwrite (n * n) (rowOrder n (residual (matrixOf kind n) n «bit_depth» 15 nx (now (coeff .entry)))) (now (out .entry)) ⌝ }
 {
     let s = 20 - (bit_depth as u32);

@@ -6,7 +6,7 @@ ghost use lib.ListN.{length};
 ghost use mir.Syntax.{w16};
 ghost use mir.Val.{SFits};
 ghost use Rattle.transform_1d.specs.Rows.{Filled};
-ghost use Rattle.stages.specs.Passes.{PassAsk, columnValue, rowValue};
+ghost use Rattle.stages.specs.Passes.{PassNeeds, columnValue, rowValue};
 use crate::finish::put_clipped;
 use crate::finish::put_rounded;
 use crate::finish::put_rounded16;
@@ -14,7 +14,7 @@ use transform_1d::idct_raw_4;
 
 // Stage one at size 4: column c of x becomes row c of d, for c < nx.
 pub fn columns_4(t: &[i16], x: &[i16], nx: usize, groups: usize, d: &mut [i16])
-    requires { ⌜ PassAsk 4 (now t) (now x) nx groups (length (now d)) ⌝ }
+    requires { ⌜ PassNeeds 4 (now t) (now x) nx groups (length (now d)) ⌝ }
     ensures { λ _. ⌜ Filled 4 4 (columnValue (now (t .entry)) (now (x .entry)) 4 groups) nx (now (d .entry)) (now (d .exit)) ⌝ }
 {
     let mut c: usize = 0;
@@ -27,7 +27,7 @@ pub fn columns_4(t: &[i16], x: &[i16], nx: usize, groups: usize, d: &mut [i16])
 
 // Stage two at size 4: column m of x, which is row m of the intermediate, becomes row m of out.
 pub fn rows_4(t: &[i16], x: &[i16], groups: usize, s: u32, out: &mut [i32])
-    requires { ⌜ PassAsk 4 (now t) (now x) 4 groups (length (now out)) × (0 < s) × (s ≤ 12) ⌝ }
+    requires { ⌜ PassNeeds 4 (now t) (now x) 4 groups (length (now out)) × (0 < s) × (s ≤ 12) ⌝ }
     ensures { λ _. ⌜ Filled 4 4 (rowValue (now (t .entry)) (now (x .entry)) 4 groups s) 4 (now (out .entry)) (now (out .exit)) ⌝ }
 {
     let mut m: usize = 0;
@@ -40,7 +40,7 @@ pub fn rows_4(t: &[i16], x: &[i16], groups: usize, s: u32, out: &mut [i32])
 
 // Stage two at size 4, for values that fit 16 bits.
 pub fn rows16_4(t: &[i16], x: &[i16], groups: usize, s: u32, out: &mut [i16])
-    requires { ⌜ PassAsk 4 (now t) (now x) 4 groups (length (now out)) × (0 < s) × (s ≤ 12) × ((m j : ℕ) → m < 4 → j < 4 → SFits w16 (rowValue (now t) (now x) 4 groups s m j)) ⌝ }
+    requires { ⌜ PassNeeds 4 (now t) (now x) 4 groups (length (now out)) × (0 < s) × (s ≤ 12) × ((m j : ℕ) → m < 4 → j < 4 → SFits w16 (rowValue (now t) (now x) 4 groups s m j)) ⌝ }
     ensures { λ _. ⌜ Filled 4 4 (rowValue (now (t .entry)) (now (x .entry)) 4 groups s) 4 (now (out .entry)) (now (out .exit)) ⌝ }
 {
     let mut m: usize = 0;

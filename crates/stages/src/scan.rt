@@ -8,7 +8,7 @@ ghost use Rattle.h265.specs.Range.{clipCoeff};
 ghost use Rattle.coefficients.specs.Rows.{RowsUsed};
 ghost use Rattle.transform_1d.specs.Rows.{Placed};
 
-// Whether nx coefficients from base on are all zero, 16 bits wide.
+// `true` only where nx coefficients from base on are all zero, 16 bits wide; `false` says nothing.
 fn zero_run16(coeff: &[i16], base: usize, nx: usize) -> bool
     requires { ⌜ base + nx ≤ length (now coeff) ⌝ }
     ensures { λ r. ⌜ (r ≡ true → (c : ℕ) → c < nx → getD (now (coeff .entry)) (base + c) (pos 0) ≡ pos 0) ⌝ }

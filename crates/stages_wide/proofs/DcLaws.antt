@@ -1,6 +1,5 @@
 -- Laws of a DCT's block whose only coefficient is the first.
 --   first-inside        a block has a first place
---   line-first          a line over one value: 64 times that value
 --   dcValue             the one value of all outputs
 --   filled-dc           a block filled with that value
 use mathlib.Core.Path.{_≡_, sym, ap, _∙_}
@@ -17,22 +16,17 @@ use Rattle.h265.specs.Range.{clipCoeff}
 use Rattle.h265.specs.Transform.{transformLine, blockAt, columnsRead, stageOneSum, stageOneValue, intermediate, stageTwoSum, stageTwo}
 use Rattle.h265.proofs.TransformLaws.{columnsRead-in}
 use Rattle.transform_1d.specs.Rows.{Placed, Filled}
-use Rattle.tiles_wide.proofs.SplitLaws.{placed-run}
+use Rattle.wide_parts.proofs.SplitLaws.{placed-run}
+use Rattle.h265.proofs.RangeLaws.{clipCoeff-zero}
+use Rattle.stages.proofs.PlainLaws.{line-first}
 use Rattle.stages_wide.specs.Wide.{limitedBlock}
 use Rattle.coefficients.specs.Rows.{RowsUsed}
 use Rattle.stages_wide.specs.Parts.{limitedAt, bothStages}
-use Rattle.stages_wide.proofs.StageLaws.{clipCoeff-zero, line-short}
+use Rattle.stages_wide.proofs.StageLaws.{line-short}
 use Rattle.stages_wide.proofs.ResultLaws.{intermediate-past}
 
 pub first-inside : {n k : ℕ} → 0 < n → n * n ≤ k → 0 < k
 first-inside h l = omega (arith, l, mul-le-mul h h)
-
-line-first : (n : ℕ) (y : ℕ → ℤ) (m : ℕ) → 0 < n → ((k : ℕ) → 0 < k → k < n → y k ≡ pos 0) → transformLine (transMatrix n) n y m ≡ pos 64 *ℤ y 0
-unfolding transformLine sum transMatrix transMatrix32
-line-first n y m h z =
-    sym (line-short (transMatrix n) n 1 y m h (λ k a b. z k a b))
-    ∙ +ℤ-idl (transMatrix n 0 m *ℤ y 0)
-    ∙ ap (λ (k : ℕ). transMatrix32 k m *ℤ y 0) (zero-mul (32 / n))
 
 abbrev pub dcValue : List ℤ → ℕ → ℕ → ℤ
 dcValue coeff r s = roundShift (pos 64 *ℤ clipCoeff r (roundShift (pos 64 *ℤ limitedAt r coeff 0) 7)) s

@@ -21,8 +21,8 @@ use Rattle.h265.proofs.TransformLaws.{transformLine-cong}
 use Rattle.transform_1d.specs.Rows.{Filled}
 use Rattle.transform_1d.proofs.RowsLaws.{filled-cong}
 use Rattle.tiles.specs.Tile.{lineValue}
-use Rattle.tiles_wide.specs.Split.{Narrow}
-use Rattle.tiles_wide.proofs.SplitLaws.{clipCoeff-narrow}
+use Rattle.wide_parts.specs.Split.{Narrow}
+use Rattle.wide_parts.proofs.SplitLaws.{clipCoeff-narrow}
 use Rattle.stages_wide.specs.Wide.{limitedBlock}
 use Rattle.stages_wide.specs.Parts.{stageOf, ColumnPlaced, NarrowColumn}
 

@@ -1,10 +1,10 @@
 -- Laws of lines in 32-bit products.
 --   limitedUpTo-in, -past, -small          a value that is read, one that is not, and the size of both
 --   limited-values                         what limiting the first values into zeros leaves
---   limitedAsk-products, filled-limited    lines over limited values meet what they ask, and give what is said of the values
---   wideValues-picked, roundAsk-outputs    a line meets what it asks, and its outputs what rounding asks
+--   limitedNeeds-products, filled-limited    lines over limited values meet what they ask, and give what is said of the values
+--   wideValues-picked, roundNeeds-outputs    a line meets what it asks, and its outputs what rounding asks
 --   filled-products, picked-four           one line more; the values of a column of four
---   limitedAsk-four                        what a stage of 4 points asks
+--   limitedNeeds-four                        what a stage of 4 points asks
 --   four-rows                              what a stage of 4 points gives
 --   column-values, put-line                the values of one column meet what a line asks; its outputs, limited and put, are the intermediate's column
 use mathlib.Core.Path.{_≡_, refl, sym, ap, _∙_, subst}
@@ -21,14 +21,14 @@ use Rattle.integers.specs.Within.{Within}
 use Rattle.integers.proofs.BoundLaws.{within-eq, within-le, within-pos}
 use Rattle.h265.specs.Range.{clipCoeff}
 use Rattle.h265.specs.Transform.{transformLine, blockAt, stageOneSum, stageOneValue, intermediate}
-use Rattle.tiles_wide.proofs.SplitLaws.{placed-run}
+use Rattle.wide_parts.proofs.SplitLaws.{placed-run}
 use Rattle.stages_wide.specs.Wide.{limitedBlock}
 use Rattle.lines_wide.specs.Values.{WideValues, WideOutputs}
 use Rattle.transform_1d.specs.Rows.{Placed, Filled}
 use Rattle.transform_1d.proofs.RowsLaws.{placed-cong, filled-suc, filled-cong, zeros-getD}
 use Rattle.transform_1d.proofs.MatrixLaws.{transformLine-cong}
 use Rattle.stages_wide.specs.Parts.{limitedAt, stageOf, ColumnPlaced}
-use Rattle.stages_wide.specs.Products.{limitedUpTo, matrixValue, Picked, RoundAsk, ProductsAsk, LimitedAsk}
+use Rattle.stages_wide.specs.Products.{limitedUpTo, matrixValue, Picked, RoundNeeds, ProductsNeeds, LimitedNeeds}
 use Rattle.stages_wide.proofs.PartsLaws.{limited-within}
 use Rattle.stages_wide.proofs.StageLaws.{place-column, place-inside}
 use Rattle.stages_wide.proofs.ColumnLaws.{columnPlaced-cong}
@@ -57,8 +57,8 @@ module _ (r w m : ℕ) (xs : List ℤ) {x : List ℤ} (p : Placed 0 w (limitedAt
         | no d ↦ p .kept i (λ j h e. omega arith) ∙ zeros-getD m i ∙ sym (limitedUpTo-past r xs w i (omega arith))
       ]
 
-  pub limitedAsk-products : {n lines lead stride s sourceLength room : ℕ} → LimitedAsk n lines lead stride s r w sourceLength room → length x ≡ n * n → ProductsAsk n x lines lead stride s room
-  limitedAsk-products a e =
+  pub limitedNeeds-products : {n lines lead stride s sourceLength room : ℕ} → LimitedNeeds n lines lead stride s r w sourceLength room → length x ≡ n * n → ProductsNeeds n x lines lead stride s room
+  limitedNeeds-products a e =
       record {
         reads = λ c k i j. omega (arith, a .inside c k i j, e);
         small = λ i. within-eq (limited-values i) (limitedUpTo-small xs w i (a .rangeMost));
@@ -81,8 +81,8 @@ module _ (r w m : ℕ) (xs : List ℤ) {x : List ℤ} (p : Placed 0 w (limitedAt
 pub wideValues-picked : {n : ℕ} {at : ℕ → ℕ} {x v : List ℤ} → ((i : ℕ) → Within (2 ^ 22) (getD x i (pos 0))) → Picked n at x v → WideValues n v
 wideValues-picked {at = at} h p = record { at = λ k i. within-eq (p .same k i) (h (at k)) }
 
-pub roundAsk-outputs : {t : ℕ → ℕ → ℤ} {n : ℕ} {v z : List ℤ} {s : ℕ} → WideOutputs t n v z → 4 ≤ s → s ≤ 12 → RoundAsk n z s
-roundAsk-outputs o a b = record { long = omega (arith, o .long); room = λ j i. within-le (omega arith) (o .bound j i); least = a; most = b }
+pub roundNeeds-outputs : {t : ℕ → ℕ → ℤ} {n : ℕ} {v z : List ℤ} {s : ℕ} → WideOutputs t n v z → 4 ≤ s → s ≤ 12 → RoundNeeds n z s
+roundNeeds-outputs o a b = record { long = omega (arith, o .long); room = λ j i. within-le (omega arith) (o .bound j i); least = a; most = b }
 
 pub filled-products : {t : ℕ → ℕ → ℤ} {n : ℕ} (x : List ℤ) (lead stride s : ℕ) {c : ℕ} {v z xs ys zs : List ℤ}
     → Picked n (λ k. c * lead + k * stride) x v → WideOutputs t n v z
@@ -108,8 +108,8 @@ picked-four x c = record { long = refl; same = at }
     at (suc (suc (suc (suc k)))) h = absurd (not-suc-le-zero {n = k} (omega arith))
 
 -- ---- what stages ask
-pub limitedAsk-four : {lines s r sourceLength room : ℕ} → lines ≤ 4 → 4 ≤ s → s ≤ 12 → r ≤ 22 → 16 ≤ sourceLength → 16 ≤ room → LimitedAsk 4 lines 1 4 s r 16 sourceLength room
-limitedAsk-four h a b d e f =
+pub limitedNeeds-four : {lines s r sourceLength room : ℕ} → lines ≤ 4 → 4 ≤ s → s ≤ 12 → r ≤ 22 → 16 ≤ sourceLength → 16 ≤ room → LimitedNeeds 4 lines 1 4 s r 16 sourceLength room
+limitedNeeds-four h a b d e f =
     record {
       inside = λ c k i j. place-inside 4 1 4 c k (omega arith) (omega arith) j;
       whole = omega arith;

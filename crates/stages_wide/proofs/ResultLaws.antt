@@ -6,10 +6,10 @@
 --   filled-residual                    coefficients in the range need no limit: the residual
 --   filled-sized, filled-count         a size, and a column count, by another name
 --   filled-dct, filled-dst             a kind of transform by its matrix
---   sizeAsk-wide, sizeAsk-seven        what one stage asks
+--   sizeNeeds-wide, sizeNeeds-seven        what one stage asks
 --   columns-…, rows-…, column-…        what a size gives by its own matrix, it gives by that of the kind
---   depth-shift, stagesAsk-wide        what a depth and a range make of the shift
---   stagesAsk-size                     a size by another name, with another count
+--   depth-shift, stagesNeeds-wide        what a depth and a range make of the shift
+--   stagesNeeds-size                     a size by another name, with another count
 use mathlib.Core.Path.{_≡_, refl, sym, ap, _∙_, subst}
 use mathlib.Core.List.{List}
 use Prim.Native.Nat.{ℕ, zero, _+_, _*_, _-_, _≤_, _<_}
@@ -26,7 +26,7 @@ use Rattle.integers.proofs.SumLaws.{sum-none}
 use Rattle.h265.specs.Matrix.{transMatrix, dstMatrix}
 use Rattle.h265.specs.Range.{clipCoeff}
 use Rattle.h265.specs.Transform.{transformLine, blockAt, rowOrder, columnsRead, stageOneSum, stageOneValue, intermediate, stageTwoSum, stageTwoShift, stageTwo, residual}
-use Rattle.h265.proofs.RangeLaws.{clipCoeff-id}
+use Rattle.h265.proofs.RangeLaws.{clipCoeff-id, clipCoeff-zero}
 use Rattle.h265.proofs.TransformLaws.{columnsRead-in}
 use Rattle.transform_1d.specs.MatrixOf.{matrixOf}
 use Rattle.transform_1d.specs.Rows.{Filled}
@@ -34,9 +34,9 @@ use Rattle.transform_1d.specs.declared.Kind.{Kind}
 use Rattle.transform_1d.specs.declared.Kind.the-variants.{Dct, Dst}
 use Rattle.transform_1d.proofs.RowsLaws.{row-unique, filled-cong, filled-overwrite}
 use Rattle.transform_1d.proofs.MatrixLaws.{transformLine-cong}
-use Rattle.stages_wide.specs.Wide.{limitedBlock, WideAsk, DepthAsk, CoeffsInRange}
-use Rattle.stages_wide.specs.Parts.{stageOf, ColumnPlaced, SizeAsk, StagesAsk, bothStages}
-use Rattle.stages_wide.proofs.StageLaws.{clipCoeff-zero, stage-cong}
+use Rattle.stages_wide.specs.Wide.{limitedBlock, WideNeeds, DepthNeeds, CoeffsInRange}
+use Rattle.stages_wide.specs.Parts.{stageOf, ColumnPlaced, SizeNeeds, StagesNeeds, bothStages}
+use Rattle.stages_wide.proofs.StageLaws.{stage-cong}
 
 module _ (t u : ℕ → ℕ → ℤ) (n : ℕ) where
   pub intermediate-cong : (r : ℕ) (d e : ℕ → ℕ → ℤ) (m c : ℕ) → ((k : ℕ) → k < n → t k m ≡ u k m) → ((k : ℕ) → k < n → d k c ≡ e k c)
@@ -120,28 +120,28 @@ pub filled-dct : {kind : Kind} {n : ℕ} (s r nx : ℕ) (xs : List ℤ) {out₀ 
 unfolding matrixOf
 filled-dct {n = n} s r nx xs {out₀} {out} k p = subst (λ (κ : Kind). Filled n n (bothStages (matrixOf κ n) n s r nx xs) n out₀ out) (sym k) p
 
-pub depth-shift : {b r : ℕ} → DepthAsk b r → (4 ≤ r + 5 - b) × (r + 5 - b ≤ 12)
+pub depth-shift : {b r : ℕ} → DepthNeeds b r → (4 ≤ r + 5 - b) × (r + 5 - b ≤ 12)
 depth-shift a = (a .below, omega (arith, a .above))
 
-pub stagesAsk-wide : {kind : Kind} {n b r nx sourceLength targetLength : ℕ}
-    → WideAsk kind n r sourceLength targetLength → DepthAsk b r → nx ≤ n → StagesAsk n (r + 5 - b) r nx sourceLength targetLength
-stagesAsk-wide w d c =
+pub stagesNeeds-wide : {kind : Kind} {n b r nx sourceLength targetLength : ℕ}
+    → WideNeeds kind n r sourceLength targetLength → DepthNeeds b r → nx ≤ n → StagesNeeds n (r + 5 - b) r nx sourceLength targetLength
+stagesNeeds-wide w d c =
     record { least = depth-shift d .0; most = depth-shift d .1; rangeLeast = w .least; rangeMost = w .most; parts = omega (arith, d .most); columns = c; source = w .source; room = w .room }
 
-pub stagesAsk-size : {n m s r nx mx sourceLength targetLength : ℕ}
-    → n ≡ m → StagesAsk n s r nx sourceLength targetLength → mx ≤ n → StagesAsk m s r mx sourceLength targetLength
-stagesAsk-size {s = s} {r} {mx = mx} {sourceLength} {targetLength} e a c =
-    subst (λ (i : ℕ). StagesAsk i s r mx sourceLength targetLength) e
+pub stagesNeeds-size : {n m s r nx mx sourceLength targetLength : ℕ}
+    → n ≡ m → StagesNeeds n s r nx sourceLength targetLength → mx ≤ n → StagesNeeds m s r mx sourceLength targetLength
+stagesNeeds-size {s = s} {r} {mx = mx} {sourceLength} {targetLength} e a c =
+    subst (λ (i : ℕ). StagesNeeds i s r mx sourceLength targetLength) e
     record { least = a .least; most = a .most; rangeLeast = a .rangeLeast; rangeMost = a .rangeMost; parts = a .parts; columns = c; source = a .source; room = a .room }
 
-pub sizeAsk-wide : {kind : Kind} {n m b r sourceLength targetLength : ℕ} → n ≡ m → WideAsk kind n r sourceLength targetLength → DepthAsk b r → SizeAsk m r (r + 5 - b) sourceLength targetLength
-sizeAsk-wide {b = b} {r} {sourceLength} {targetLength} e w d =
-    subst (λ (i : ℕ). SizeAsk i r (r + 5 - b) sourceLength targetLength) e
+pub sizeNeeds-wide : {kind : Kind} {n m b r sourceLength targetLength : ℕ} → n ≡ m → WideNeeds kind n r sourceLength targetLength → DepthNeeds b r → SizeNeeds m r (r + 5 - b) sourceLength targetLength
+sizeNeeds-wide {b = b} {r} {sourceLength} {targetLength} e w d =
+    subst (λ (i : ℕ). SizeNeeds i r (r + 5 - b) sourceLength targetLength) e
     record { rangeLeast = w .least; rangeMost = w .most; parts = omega (arith, d .most); least = depth-shift d .0; most = depth-shift d .1; source = w .source; room = w .room }
 
-pub sizeAsk-seven : {kind : Kind} {n m r sourceLength targetLength : ℕ} → n ≡ m → WideAsk kind n r sourceLength targetLength → SizeAsk m r 7 sourceLength targetLength
-sizeAsk-seven {r = r} {sourceLength} {targetLength} e w =
-    subst (λ (i : ℕ). SizeAsk i r 7 sourceLength targetLength) e
+pub sizeNeeds-seven : {kind : Kind} {n m r sourceLength targetLength : ℕ} → n ≡ m → WideNeeds kind n r sourceLength targetLength → SizeNeeds m r 7 sourceLength targetLength
+sizeNeeds-seven {r = r} {sourceLength} {targetLength} e w =
+    subst (λ (i : ℕ). SizeNeeds i r 7 sourceLength targetLength) e
     record { rangeLeast = w .least; rangeMost = w .most; parts = omega (arith, w .most); least = omega arith; most = omega arith; source = w .source; room = w .room }
 
 -- ---- a size and a kind by their names: a kind above size 4 is the DCT

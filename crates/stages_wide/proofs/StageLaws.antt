@@ -1,5 +1,4 @@
 -- Laws of a stage: lines over limited values, as rows.
---   clipCoeff-zero             0 is inside every range
 --   line-short                 what a line leaves out is zero
 --   place-column, place-inside the places of a line down a column of a block, and that they are inside it
 --   filled-first               the one row of one line
@@ -22,21 +21,15 @@ use Rattle.integers.proofs.SumLaws.{sum-short}
 use Rattle.h265.specs.Matrix.{transMatrix}
 use Rattle.h265.specs.Range.{clipCoeff, coeffMin, coeffMax}
 use Rattle.h265.specs.Transform.{transformLine, blockAt}
-use Rattle.h265.proofs.RangeLaws.{clipCoeff-id}
+use Rattle.h265.proofs.RangeLaws.{clipCoeff-id, clipCoeff-zero}
 use Rattle.h265.proofs.TransformLaws.{transformLine-cong}
 use Rattle.transform_1d.specs.Rows.{Filled}
 use Rattle.transform_1d.proofs.RowsLaws.{filled-cong}
 use Rattle.tiles.specs.Tile.{lineValue}
-use Rattle.tiles_wide.specs.Split.{limitedList, PassGives}
+use Rattle.tiles_wide.specs.Pass.{limitedList, PassGives}
 use Rattle.tiles_wide.proofs.PassLaws.{limited-in, limited-past}
 use Rattle.stages_wide.specs.Wide.{limitedBlock}
 use Rattle.stages_wide.specs.Parts.{stageOf}
-
-pub clipCoeff-zero : (r : ℕ) → clipCoeff r (pos 0) ≡ pos 0
-unfolding coeffMin coeffMax
-clipCoeff-zero r =
-    clipCoeff-id r (pos 0) (le-out (negℤ (pos (2 ^ r))) (pos 0) (omega (arith, parts-neg (pos (2 ^ r)))))
-    (le-out (pos 0) (pos (2 ^ r) -ℤ pos 1) (omega (arith, parts-add (pos (2 ^ r)) (negℤ (pos 1)), pow-pos r)))
 
 pub line-short : (t : ℕ → ℕ → ℤ) (n g : ℕ) (y : ℕ → ℤ) (j : ℕ) → g ≤ n → ((k : ℕ) → g ≤ k → k < n → y k ≡ pos 0) → transformLine t g y j ≡ transformLine t n y j
 unfolding transformLine

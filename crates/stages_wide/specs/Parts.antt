@@ -3,8 +3,8 @@
 --   stageOf t n y s c m    output m of the line over column c of a block, rounded: what a stage writes to row c and column m
 --   ColumnPlaced           ys is xs with f 0, .., f (m - 1) down column c
 --   NarrowColumn n c m xs  the first m values of column c of xs, whose rows are n long, fit 16 bits
---   SizeAsk                what one stage of a block asks of its range, its shift, and the lengths of its source and its target
---   StagesAsk              the same of both stages, with the column count
+--   SizeNeeds                what one stage of a block asks of its range, its shift, and the lengths of its source and its target
+--   StagesNeeds              the same of both stages, with the column count
 --   bothStages             the residual by a matrix, for a shift, of coefficients that are limited as they are read
 use mathlib.Core.Path.{_≡_}
 use mathlib.Core.List.{List}
@@ -32,7 +32,7 @@ pub record ColumnPlaced (n c : ℕ) (f : ℕ → ℤ) (m : ℕ) (xs ys : List �
 pub record NarrowColumn (n c m : ℕ) (xs : List ℤ) : Type 0 where
   pub at : (k : ℕ) → k < m → SFits w16 (getD xs (k * n + c) (pos 0))
 
-pub record SizeAsk (n r s sourceLength targetLength : ℕ) : Type 0 where
+pub record SizeNeeds (n r s sourceLength targetLength : ℕ) : Type 0 where
   pub rangeLeast : 15 ≤ r
   pub rangeMost : r ≤ 22
   pub parts : r ≤ s + 15
@@ -41,7 +41,7 @@ pub record SizeAsk (n r s sourceLength targetLength : ℕ) : Type 0 where
   pub source : n * n ≤ sourceLength
   pub room : n * n ≤ targetLength
 
-pub record StagesAsk (n s r nx sourceLength targetLength : ℕ) : Type 0 where
+pub record StagesNeeds (n s r nx sourceLength targetLength : ℕ) : Type 0 where
   pub least : 4 ≤ s
   pub most : s ≤ 12
   pub rangeLeast : 15 ≤ r

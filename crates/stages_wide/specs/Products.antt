@@ -2,9 +2,9 @@
 --   limitedUpTo r xs w i    place i of xs, limited to the range; from place w on, zero
 --   matrixValue             output j of line c by a matrix, rounded: the line over the values at places c × lead, c × lead + stride, ..
 --   Picked n at xs r        r has n values, the k-th of them that of xs at place `at k`
---   RoundAsk w z s          the first w sums of z leave room for what rounding adds
---   ProductsAsk             what a pass over lines asks: values of at most 2^22 in size, and places inside x
---   LimitedAsk              what lines over the first w values of a list ask, limited as they are read
+--   RoundNeeds w z s          the first w sums of z leave room for what rounding adds
+--   ProductsNeeds             what a pass over lines asks: values of at most 2^22 in size, and places inside x
+--   LimitedNeeds              what lines over the first w values of a list ask, limited as they are read
 use mathlib.Core.Path.{_≡_}
 use mathlib.Core.Bool.{cond}
 use mathlib.Core.List.{List}
@@ -27,13 +27,13 @@ pub record Picked (n : ℕ) (at : ℕ → ℕ) (xs r : List ℤ) : Type 0 where
   pub long : length r ≡ n
   pub same : (k : ℕ) → k < n → getD r k (pos 0) ≡ getD xs (at k) (pos 0)
 
-pub record RoundAsk (w : ℕ) (z : List ℤ) (s : ℕ) : Type 0 where
+pub record RoundNeeds (w : ℕ) (z : List ℤ) (s : ℕ) : Type 0 where
   pub long : w ≤ length z
   pub room : (j : ℕ) → j < w → Within (480 * 2 ^ 22) (getD z j (pos 0))
   pub least : 4 ≤ s
   pub most : s ≤ 12
 
-pub record ProductsAsk (n : ℕ) (x : List ℤ) (lines lead stride s outLength : ℕ) : Type 0 where
+pub record ProductsNeeds (n : ℕ) (x : List ℤ) (lines lead stride s outLength : ℕ) : Type 0 where
   pub reads : (c k : ℕ) → c < lines → k < n → c * lead + k * stride < length x
   pub small : (i : ℕ) → Within (2 ^ 22) (getD x i (pos 0))
   pub few : lines ≤ n
@@ -42,7 +42,7 @@ pub record ProductsAsk (n : ℕ) (x : List ℤ) (lines lead stride s outLength :
   pub shiftMost : s ≤ 12
   pub room : lines * n ≤ outLength
 
-pub record LimitedAsk (n lines lead stride s r w sourceLength outLength : ℕ) : Type 0 where
+pub record LimitedNeeds (n lines lead stride s r w sourceLength outLength : ℕ) : Type 0 where
   pub inside : (c k : ℕ) → c < lines → k < n → c * lead + k * stride < n * n
   pub whole : w ≤ n * n
   pub few : lines ≤ n

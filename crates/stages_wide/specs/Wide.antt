@@ -1,9 +1,9 @@
--- Both stages for every range from 15 to 22: what the functions ask, and a block with one column replaced. Document 01, "Inverse
+-- Both stages for every range from 15 to 22: what the functions ask, and a block with one column replaced. docs/RULES.md, "Inverse
 -- transforms". Letters as in h265's Transform: n size, b depth, r range, k row, c column.
 --   columnReplaced n c f xs   xs with f 0, .., f (n - 1) down column c of its block of n rows; all else as in xs
 --   limitedBlock r n xs       what a block in row order holds at a row and a column, limited to the range
---   WideAsk                   size, kind and range are right, and both lists hold a block
---   DepthAsk                  the depth fits the range: the shift of stage two is 4 to 12
+--   WideNeeds                   size, kind and range are right, and both lists hold a block
+--   DepthNeeds                  the depth fits the range: the shift of stage two is 4 to 12
 --   CoeffsInRange             the coefficients of the columns read lie in the range
 use mathlib.Core.Path.{_≡_}
 use mathlib.Core.Bool.{_&&_, cond}
@@ -25,7 +25,7 @@ columnReplaced n c f xs = tabulate (length xs) (λ i. cond (eqb (i % n) c && ltb
 abbrev pub limitedBlock : ℕ → ℕ → List ℤ → ℕ → ℕ → ℤ
 limitedBlock r n xs k c = clipCoeff r (blockAt n xs k c)
 
-pub record WideAsk (kind : Kind) (n r : ℕ) (sourceLength targetLength : ℕ) : Type 0 where
+pub record WideNeeds (kind : Kind) (n r : ℕ) (sourceLength targetLength : ℕ) : Type 0 where
   pub size : T (isSize n)
   pub dst : kind ≡ Dst → n ≡ 4
   pub least : 15 ≤ r
@@ -33,7 +33,7 @@ pub record WideAsk (kind : Kind) (n r : ℕ) (sourceLength targetLength : ℕ) :
   pub source : n * n ≤ sourceLength
   pub room : n * n ≤ targetLength
 
-pub record DepthAsk (b r : ℕ) : Type 0 where
+pub record DepthNeeds (b r : ℕ) : Type 0 where
   pub least : 8 ≤ b
   pub most : b ≤ 16
   pub above : r ≤ b + 7

@@ -7,7 +7,7 @@ ghost use Rattle.h265.specs.Matrix.{transMatrix};
 ghost use Rattle.h265.specs.Range.{isSize};
 ghost use Rattle.transform_1d.specs.Rows.{Placed, Filled};
 ghost use Rattle.coefficients.specs.Rows.{RowsUsed};
-ghost use Rattle.stages_wide.specs.Parts.{StagesAsk, bothStages};
+ghost use Rattle.stages_wide.specs.Parts.{StagesNeeds, bothStages};
 use crate::parts::limited;
 use crate::parts::rounded;
 use crate::products::both_4;
@@ -31,7 +31,7 @@ fn fill(v: i32, w: usize, out: &mut [i32])
 
 // A DCT's block whose only coefficient is the first: row 0 of every DCT's matrix is 64, so that all outputs are equal.
 fn dc_fill(n: usize, shift: u32, range: u32, coeff: &[i32], out: &mut [i32])
-    requires { ⌜ T (isSize n) × StagesAsk n shift range 1 (length (now coeff)) (length (now out)) × RowsUsed (now coeff) n 1 1 ⌝ }
+    requires { ⌜ T (isSize n) × StagesNeeds n shift range 1 (length (now coeff)) (length (now out)) × RowsUsed (now coeff) n 1 1 ⌝ }
     ensures { λ _. ⌜ Filled n n (bothStages (transMatrix n) n shift range 1 (now (coeff .entry))) n (now (out .entry)) (now (out .exit)) ⌝ }
 {
     let d = limited(coeff[0], range);
@@ -41,7 +41,7 @@ fn dc_fill(n: usize, shift: u32, range: u32, coeff: &[i32], out: &mut [i32])
 
 // Both stages of the n-point DCT.
 fn dct_sized(n: usize, shift: u32, range: u32, nx: usize, coeff: &[i32], out: &mut [i32])
-    requires { ⌜ T (isSize n) × StagesAsk n shift range nx (length (now coeff)) (length (now out)) ⌝ }
+    requires { ⌜ T (isSize n) × StagesNeeds n shift range nx (length (now coeff)) (length (now out)) ⌝ }
     ensures { λ _. ⌜ Filled n n (bothStages (transMatrix n) n shift range nx (now (coeff .entry))) n (now (out .entry)) (now (out .exit)) ⌝ }
 {
     match n {
@@ -54,7 +54,7 @@ fn dct_sized(n: usize, shift: u32, range: u32, nx: usize, coeff: &[i32], out: &m
 
 // Both stages of the n-point DCT; one coefficient alone fills its block.
 pub fn stages_dct(n: usize, shift: u32, range: u32, nx: usize, coeff: &[i32], out: &mut [i32])
-    requires { ⌜ T (isSize n) × StagesAsk n shift range nx (length (now coeff)) (length (now out)) ⌝ }
+    requires { ⌜ T (isSize n) × StagesNeeds n shift range nx (length (now coeff)) (length (now out)) ⌝ }
     ensures { λ _. ⌜ Filled n n (bothStages (transMatrix n) n shift range nx (now (coeff .entry))) n (now (out .entry)) (now (out .exit)) ⌝ }
 {
     if nx == 1 {

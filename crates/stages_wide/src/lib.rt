@@ -14,7 +14,7 @@ ghost use lib.ListN.{length};
 ghost use Rattle.integers.specs.Lists.{overwrite};
 ghost use Rattle.h265.specs.Transform.{rowOrder, intermediate, stageTwoShift, stageTwo, residual};
 ghost use Rattle.transform_1d.specs.MatrixOf.{matrixOf};
-ghost use Rattle.stages_wide.specs.Wide.{columnReplaced, limitedBlock, WideAsk, DepthAsk, CoeffsInRange};
+ghost use Rattle.stages_wide.specs.Wide.{columnReplaced, limitedBlock, WideNeeds, DepthNeeds, CoeffsInRange};
 use crate::blocks::stages_dct;
 use crate::products::both_4;
 use transform_1d::Kind;
@@ -28,7 +28,7 @@ pub fn intermediate_column(
     column: usize,
     inter: &mut [i32],
 )
-    requires { ⌜ WideAsk kind n range (length (now coeff)) (length (now inter)) × (column < n) ⌝ }
+    requires { ⌜ WideNeeds kind n range (length (now coeff)) (length (now inter)) × (column < n) ⌝ }
     ensures { λ _. ⌜ now (inter .exit) ≡ columnReplaced n column (λ m. intermediate (matrixOf kind n) n range (limitedBlock range n (now (coeff .entry))) m column) (now (inter .entry)) ⌝ }
 {
     match n {
@@ -41,7 +41,7 @@ pub fn intermediate_column(
 
 // The whole intermediate, every coefficient limited as it is read.
 pub fn intermediate_of(kind: Kind, n: usize, range: u32, coeff: &[i32], inter: &mut [i32])
-    requires { ⌜ WideAsk kind n range (length (now coeff)) (length (now inter)) ⌝ }
+    requires { ⌜ WideNeeds kind n range (length (now coeff)) (length (now inter)) ⌝ }
     ensures { λ _. ⌜ now (inter .exit) ≡ overwrite (n * n) (rowOrder n (intermediate (matrixOf kind n) n range (limitedBlock range n (now (coeff .entry))))) (now (inter .entry)) ⌝ }
 {
     match n {
@@ -54,7 +54,7 @@ pub fn intermediate_of(kind: Kind, n: usize, range: u32, coeff: &[i32], inter: &
 
 // The residual of an intermediate, every value limited as it is read. Nothing is limited after stage two.
 pub fn residual_of(kind: Kind, n: usize, bit_depth: u8, range: u32, inter: &[i32], out: &mut [i32])
-    requires { ⌜ WideAsk kind n range (length (now inter)) (length (now out)) × DepthAsk «bit_depth» range ⌝ }
+    requires { ⌜ WideNeeds kind n range (length (now inter)) (length (now out)) × DepthNeeds «bit_depth» range ⌝ }
     ensures { λ _. ⌜ now (out .exit) ≡ overwrite (n * n) (rowOrder n (stageTwo (matrixOf kind n) n (stageTwoShift «bit_depth» range) (limitedBlock range n (now (inter .entry))))) (now (out .entry)) ⌝ }
 {
     let shift = range + 5 - (bit_depth as u32);
@@ -77,7 +77,7 @@ pub fn column_and_residual(
     inter: &mut [i32],
     out: &mut [i32],
 )
-    requires { ⌜ WideAsk kind n range (length (now coeff)) (length (now inter)) × (column < n) × (n * n ≤ length (now out)) × DepthAsk «bit_depth» range ⌝ }
+    requires { ⌜ WideNeeds kind n range (length (now coeff)) (length (now inter)) × (column < n) × (n * n ≤ length (now out)) × DepthNeeds «bit_depth» range ⌝ }
     ensures { λ _. ⌜ (now (inter .exit) ≡ columnReplaced n column (λ m. intermediate (matrixOf kind n) n range (limitedBlock range n (now (coeff .entry))) m column) (now (inter .entry))) × (now (out .exit) ≡ overwrite (n * n) (rowOrder n (stageTwo (matrixOf kind n) n (stageTwoShift «bit_depth» range) (limitedBlock range n (now (inter .exit))))) (now (out .entry))) ⌝ }
 {
     intermediate_column(kind, n, range, coeff, column, inter);
@@ -94,7 +94,7 @@ pub fn residual_wide(
     coeff: &[i32],
     out: &mut [i32],
 )
-    requires { ⌜ WideAsk kind n range (length (now coeff)) (length (now out)) × DepthAsk «bit_depth» range × CoeffsInRange range n nx (now coeff) ⌝ }
+    requires { ⌜ WideNeeds kind n range (length (now coeff)) (length (now out)) × DepthNeeds «bit_depth» range × CoeffsInRange range n nx (now coeff) ⌝ }
     ensures { λ _. ⌜ now (out .exit) ≡ overwrite (n * n) (rowOrder n (residual (matrixOf kind n) n «bit_depth» range nx (now (coeff .entry)))) (now (out .entry)) ⌝ }
 {
     let shift = range + 5 - (bit_depth as u32);

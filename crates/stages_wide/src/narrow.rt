@@ -5,9 +5,9 @@ ghost use Prim.Native.Nat.{ℕ, _+_, _*_, _<_, _≤_};
 ghost use lib.IntN.{pos};
 ghost use lib.ListN.{length, getD};
 ghost use Rattle.transform_1d.specs.Rows.{Placed, Filled};
-ghost use Rattle.tiles_wide.specs.Split.{Narrow};
+ghost use Rattle.wide_parts.specs.Split.{Narrow};
 ghost use Rattle.stages_wide.specs.Parts.{ColumnPlaced, NarrowColumn};
-use tiles_wide::is_wide;
+use wide_parts::is_wide;
 
 // One column of a block, as row c of g.
 fn turn_column(s: &[i32], n: usize, c: usize, g: &mut [i16])

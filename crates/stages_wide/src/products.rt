@@ -6,8 +6,8 @@ ghost use lib.ListN.{length, getD};
 ghost use Rattle.integers.specs.Shift.{roundShift};
 ghost use Rattle.transform_1d.specs.MatrixOf.{matrixOf};
 ghost use Rattle.transform_1d.specs.Rows.{Placed, Filled};
-ghost use Rattle.stages_wide.specs.Parts.{limitedAt, StagesAsk, bothStages};
-ghost use Rattle.stages_wide.specs.Products.{limitedUpTo, matrixValue, RoundAsk, ProductsAsk, LimitedAsk};
+ghost use Rattle.stages_wide.specs.Parts.{limitedAt, StagesNeeds, bothStages};
+ghost use Rattle.stages_wide.specs.Products.{limitedUpTo, matrixValue, RoundNeeds, ProductsNeeds, LimitedNeeds};
 use crate::parts::limited;
 use crate::parts::rounded;
 use lines_wide::line_4;
@@ -27,7 +27,7 @@ fn limit(s: &[i32], w: usize, range: u32, x: &mut [i32])
 
 // w sums, rounded, from place at on.
 pub fn put_rounded(z: &[i32], w: usize, shift: u32, out: &mut [i32], at: usize)
-    requires { ⌜ RoundAsk w (now z) shift × (at + w ≤ length (now out)) ⌝ }
+    requires { ⌜ RoundNeeds w (now z) shift × (at + w ≤ length (now out)) ⌝ }
     ensures { λ _. ⌜ Placed at w (λ j. roundShift (getD (now (z .entry)) j (pos 0)) shift) (now (out .entry)) (now (out .exit)) ⌝ }
 {
     let mut j: usize = 0;
@@ -39,7 +39,7 @@ pub fn put_rounded(z: &[i32], w: usize, shift: u32, out: &mut [i32], at: usize)
 
 // Lines of 4 points down the first columns of a block: line c becomes row c of out.
 fn columns_4(kind: Kind, x: &[i32], nx: usize, shift: u32, out: &mut [i32])
-    requires { ⌜ ProductsAsk 4 (now x) nx 1 4 shift (length (now out)) ⌝ }
+    requires { ⌜ ProductsNeeds 4 (now x) nx 1 4 shift (length (now out)) ⌝ }
     ensures { λ _. ⌜ Filled 4 4 (matrixValue (matrixOf kind 4) 4 (λ i. getD (now (x .entry)) i (pos 0)) 1 4 shift) nx (now (out .entry)) (now (out .exit)) ⌝ }
 {
     let mut c: usize = 0;
@@ -53,7 +53,7 @@ fn columns_4(kind: Kind, x: &[i32], nx: usize, shift: u32, out: &mut [i32])
 
 // One stage of 4 points, values limited as they are read.
 pub fn stage_4(kind: Kind, s: &[i32], range: u32, nx: usize, shift: u32, out: &mut [i32])
-    requires { ⌜ LimitedAsk 4 nx 1 4 shift range 16 (length (now s)) (length (now out)) ⌝ }
+    requires { ⌜ LimitedNeeds 4 nx 1 4 shift range 16 (length (now s)) (length (now out)) ⌝ }
     ensures { λ _. ⌜ Filled 4 4 (matrixValue (matrixOf kind 4) 4 (limitedUpTo range (now (s .entry)) 16) 1 4 shift) nx (now (out .entry)) (now (out .exit)) ⌝ }
 {
     let mut x = [0i32; 16];
@@ -63,7 +63,7 @@ pub fn stage_4(kind: Kind, s: &[i32], range: u32, nx: usize, shift: u32, out: &m
 
 // Both stages of 4 points.
 pub fn both_4(kind: Kind, shift: u32, range: u32, nx: usize, coeff: &[i32], out: &mut [i32])
-    requires { ⌜ StagesAsk 4 shift range nx (length (now coeff)) (length (now out)) ⌝ }
+    requires { ⌜ StagesNeeds 4 shift range nx (length (now coeff)) (length (now out)) ⌝ }
     ensures { λ _. ⌜ Filled 4 4 (bothStages (matrixOf kind 4) 4 shift range nx (now (coeff .entry))) 4 (now (out .entry)) (now (out .exit)) ⌝ }
 {
     let mut g = [0i32; 16];

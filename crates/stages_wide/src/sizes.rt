@@ -9,7 +9,7 @@ ghost use Rattle.transform_1d.specs.MatrixOf.{matrixOf};
 ghost use Rattle.transform_1d.specs.Rows.{Filled};
 ghost use Rattle.coefficients.specs.Rows.{RowsUsed};
 ghost use Rattle.stages_wide.specs.Wide.{limitedBlock};
-ghost use Rattle.stages_wide.specs.Parts.{ColumnPlaced, SizeAsk, StagesAsk, bothStages};
+ghost use Rattle.stages_wide.specs.Parts.{ColumnPlaced, SizeNeeds, StagesNeeds, bothStages};
 use crate::moves::limited_column;
 use crate::moves::put_column;
 use crate::moves::put_columns;
@@ -23,7 +23,6 @@ use crate::products::stage_4;
 use lines_wide::line_4;
 use lines_wide::line_8;
 use tiles_quarter::rest_zero;
-use tiles_wide::all_narrow;
 use tiles_wide::pass_8;
 use tiles_wide::pass_8q;
 use tiles_wide::pass_16;
@@ -31,10 +30,11 @@ use tiles_wide::pass_16q;
 use tiles_wide::pass_32;
 use tiles_wide::pass_32q;
 use transform_1d::Kind;
+use wide_parts::all_narrow;
 
 // Stage two of 4 points over an intermediate in row order.
 pub fn rows_4(kind: Kind, inter: &[i32], range: u32, shift: u32, out: &mut [i32])
-    requires { ⌜ SizeAsk 4 range shift (length (now inter)) (length (now out)) ⌝ }
+    requires { ⌜ SizeNeeds 4 range shift (length (now inter)) (length (now out)) ⌝ }
     ensures { λ _. ⌜ Filled 4 4 (stageTwo (matrixOf kind 4) 4 shift (limitedBlock range 4 (now (inter .entry)))) 4 (now (out .entry)) (now (out .exit)) ⌝ }
 {
     let mut g = [0i32; 16];
@@ -44,7 +44,7 @@ pub fn rows_4(kind: Kind, inter: &[i32], range: u32, shift: u32, out: &mut [i32]
 
 // Stage one of 4 points, in row order.
 pub fn columns_4(kind: Kind, coeff: &[i32], range: u32, inter: &mut [i32])
-    requires { ⌜ SizeAsk 4 range 7 (length (now coeff)) (length (now inter)) ⌝ }
+    requires { ⌜ SizeNeeds 4 range 7 (length (now coeff)) (length (now inter)) ⌝ }
     ensures { λ _. ⌜ Filled 4 4 (intermediate (matrixOf kind 4) 4 range (limitedBlock range 4 (now (coeff .entry)))) 4 (now (inter .entry)) (now (inter .exit)) ⌝ }
 {
     let mut g = [0i32; 16];
@@ -54,7 +54,7 @@ pub fn columns_4(kind: Kind, coeff: &[i32], range: u32, inter: &mut [i32])
 
 // One column of stage one of 4 points.
 pub fn column_4(kind: Kind, coeff: &[i32], range: u32, column: usize, inter: &mut [i32])
-    requires { ⌜ SizeAsk 4 range 7 (length (now coeff)) (length (now inter)) × (column < 4) ⌝ }
+    requires { ⌜ SizeNeeds 4 range 7 (length (now coeff)) (length (now inter)) × (column < 4) ⌝ }
     ensures { λ _. ⌜ ColumnPlaced 4 column (λ m. intermediate (matrixOf kind 4) 4 range (limitedBlock range 4 (now (coeff .entry))) m column) 4 (now (inter .entry)) (now (inter .exit)) ⌝ }
 {
     let mut x = [0i32; 4];
@@ -67,7 +67,7 @@ pub fn column_4(kind: Kind, coeff: &[i32], range: u32, column: usize, inter: &mu
 
 // Both stages of 8 points where rows and columns from 4 on are zero.
 fn both_8q(shift: u32, range: u32, nx: usize, coeff: &[i32], out: &mut [i32])
-    requires { ⌜ StagesAsk 8 shift range nx (length (now coeff)) (length (now out)) × (nx ≤ 4) × RowsUsed (now coeff) 8 nx 4 ⌝ }
+    requires { ⌜ StagesNeeds 8 shift range nx (length (now coeff)) (length (now out)) × (nx ≤ 4) × RowsUsed (now coeff) 8 nx 4 ⌝ }
     ensures { λ _. ⌜ Filled 8 8 (bothStages (transMatrix 8) 8 shift range nx (now (coeff .entry))) 8 (now (out .entry)) (now (out .exit)) ⌝ }
 {
     let mut g = [0i32; 32];
@@ -77,7 +77,7 @@ fn both_8q(shift: u32, range: u32, nx: usize, coeff: &[i32], out: &mut [i32])
 
 // Both stages of 8 points.
 fn both_8(shift: u32, range: u32, nx: usize, coeff: &[i32], out: &mut [i32])
-    requires { ⌜ StagesAsk 8 shift range nx (length (now coeff)) (length (now out)) ⌝ }
+    requires { ⌜ StagesNeeds 8 shift range nx (length (now coeff)) (length (now out)) ⌝ }
     ensures { λ _. ⌜ Filled 8 8 (bothStages (transMatrix 8) 8 shift range nx (now (coeff .entry))) 8 (now (out .entry)) (now (out .exit)) ⌝ }
 {
     let mut g = [0i32; 64];
@@ -87,7 +87,7 @@ fn both_8(shift: u32, range: u32, nx: usize, coeff: &[i32], out: &mut [i32])
 
 // The same, by the rows in use.
 pub fn stages_8(shift: u32, range: u32, nx: usize, coeff: &[i32], out: &mut [i32])
-    requires { ⌜ StagesAsk 8 shift range nx (length (now coeff)) (length (now out)) ⌝ }
+    requires { ⌜ StagesNeeds 8 shift range nx (length (now coeff)) (length (now out)) ⌝ }
     ensures { λ _. ⌜ Filled 8 8 (bothStages (transMatrix 8) 8 shift range nx (now (coeff .entry))) 8 (now (out .entry)) (now (out .exit)) ⌝ }
 {
     if nx <= 4 {
@@ -101,7 +101,7 @@ pub fn stages_8(shift: u32, range: u32, nx: usize, coeff: &[i32], out: &mut [i32
 
 // Stage two of 8 points over an intermediate in row order, in two parts where its values take more than 16 bits.
 fn wide_rows_8(inter: &[i32], range: u32, shift: u32, out: &mut [i32])
-    requires { ⌜ SizeAsk 8 range shift (length (now inter)) (length (now out)) ⌝ }
+    requires { ⌜ SizeNeeds 8 range shift (length (now inter)) (length (now out)) ⌝ }
     ensures { λ _. ⌜ Filled 8 8 (stageTwo (transMatrix 8) 8 shift (limitedBlock range 8 (now (inter .entry)))) 8 (now (out .entry)) (now (out .exit)) ⌝ }
 {
     let mut g = [0i32; 64];
@@ -111,7 +111,7 @@ fn wide_rows_8(inter: &[i32], range: u32, shift: u32, out: &mut [i32])
 
 // The same; values that fit 16 bits are narrowed as they are turned over.
 pub fn rows_8(inter: &[i32], range: u32, shift: u32, out: &mut [i32])
-    requires { ⌜ SizeAsk 8 range shift (length (now inter)) (length (now out)) ⌝ }
+    requires { ⌜ SizeNeeds 8 range shift (length (now inter)) (length (now out)) ⌝ }
     ensures { λ _. ⌜ Filled 8 8 (stageTwo (transMatrix 8) 8 shift (limitedBlock range 8 (now (inter .entry)))) 8 (now (out .entry)) (now (out .exit)) ⌝ }
 {
     if all_narrow(inter, 64) {
@@ -126,7 +126,7 @@ pub fn rows_8(inter: &[i32], range: u32, shift: u32, out: &mut [i32])
 
 // Stage one of 8 points, in row order.
 pub fn columns_8(coeff: &[i32], range: u32, inter: &mut [i32])
-    requires { ⌜ SizeAsk 8 range 7 (length (now coeff)) (length (now inter)) ⌝ }
+    requires { ⌜ SizeNeeds 8 range 7 (length (now coeff)) (length (now inter)) ⌝ }
     ensures { λ _. ⌜ Filled 8 8 (intermediate (transMatrix 8) 8 range (limitedBlock range 8 (now (coeff .entry)))) 8 (now (inter .entry)) (now (inter .exit)) ⌝ }
 {
     let mut g = [0i32; 64];
@@ -136,7 +136,7 @@ pub fn columns_8(coeff: &[i32], range: u32, inter: &mut [i32])
 
 // One column of stage one of 8 points.
 pub fn column_8(coeff: &[i32], range: u32, column: usize, inter: &mut [i32])
-    requires { ⌜ SizeAsk 8 range 7 (length (now coeff)) (length (now inter)) × (column < 8) ⌝ }
+    requires { ⌜ SizeNeeds 8 range 7 (length (now coeff)) (length (now inter)) × (column < 8) ⌝ }
     ensures { λ _. ⌜ ColumnPlaced 8 column (λ m. intermediate (transMatrix 8) 8 range (limitedBlock range 8 (now (coeff .entry))) m column) 8 (now (inter .entry)) (now (inter .exit)) ⌝ }
 {
     let mut x = [0i32; 8];
@@ -149,7 +149,7 @@ pub fn column_8(coeff: &[i32], range: u32, column: usize, inter: &mut [i32])
 
 // Both stages of 16 points where rows and columns from 4 on are zero.
 fn both_16q(shift: u32, range: u32, nx: usize, coeff: &[i32], out: &mut [i32])
-    requires { ⌜ StagesAsk 16 shift range nx (length (now coeff)) (length (now out)) × (nx ≤ 4) × RowsUsed (now coeff) 16 nx 4 ⌝ }
+    requires { ⌜ StagesNeeds 16 shift range nx (length (now coeff)) (length (now out)) × (nx ≤ 4) × RowsUsed (now coeff) 16 nx 4 ⌝ }
     ensures { λ _. ⌜ Filled 16 16 (bothStages (transMatrix 16) 16 shift range nx (now (coeff .entry))) 16 (now (out .entry)) (now (out .exit)) ⌝ }
 {
     let mut g = [0i32; 64];
@@ -159,7 +159,7 @@ fn both_16q(shift: u32, range: u32, nx: usize, coeff: &[i32], out: &mut [i32])
 
 // Both stages of 16 points.
 fn both_16(shift: u32, range: u32, nx: usize, coeff: &[i32], out: &mut [i32])
-    requires { ⌜ StagesAsk 16 shift range nx (length (now coeff)) (length (now out)) ⌝ }
+    requires { ⌜ StagesNeeds 16 shift range nx (length (now coeff)) (length (now out)) ⌝ }
     ensures { λ _. ⌜ Filled 16 16 (bothStages (transMatrix 16) 16 shift range nx (now (coeff .entry))) 16 (now (out .entry)) (now (out .exit)) ⌝ }
 {
     let mut g = [0i32; 256];
@@ -169,7 +169,7 @@ fn both_16(shift: u32, range: u32, nx: usize, coeff: &[i32], out: &mut [i32])
 
 // The same, by the rows in use.
 pub fn stages_16(shift: u32, range: u32, nx: usize, coeff: &[i32], out: &mut [i32])
-    requires { ⌜ StagesAsk 16 shift range nx (length (now coeff)) (length (now out)) ⌝ }
+    requires { ⌜ StagesNeeds 16 shift range nx (length (now coeff)) (length (now out)) ⌝ }
     ensures { λ _. ⌜ Filled 16 16 (bothStages (transMatrix 16) 16 shift range nx (now (coeff .entry))) 16 (now (out .entry)) (now (out .exit)) ⌝ }
 {
     if nx <= 4 {
@@ -183,7 +183,7 @@ pub fn stages_16(shift: u32, range: u32, nx: usize, coeff: &[i32], out: &mut [i3
 
 // Stage two of 16 points over an intermediate in row order, in two parts where its values take more than 16 bits.
 fn wide_rows_16(inter: &[i32], range: u32, shift: u32, out: &mut [i32])
-    requires { ⌜ SizeAsk 16 range shift (length (now inter)) (length (now out)) ⌝ }
+    requires { ⌜ SizeNeeds 16 range shift (length (now inter)) (length (now out)) ⌝ }
     ensures { λ _. ⌜ Filled 16 16 (stageTwo (transMatrix 16) 16 shift (limitedBlock range 16 (now (inter .entry)))) 16 (now (out .entry)) (now (out .exit)) ⌝ }
 {
     let mut g = [0i32; 256];
@@ -193,7 +193,7 @@ fn wide_rows_16(inter: &[i32], range: u32, shift: u32, out: &mut [i32])
 
 // The same; values that fit 16 bits are narrowed as they are turned over.
 pub fn rows_16(inter: &[i32], range: u32, shift: u32, out: &mut [i32])
-    requires { ⌜ SizeAsk 16 range shift (length (now inter)) (length (now out)) ⌝ }
+    requires { ⌜ SizeNeeds 16 range shift (length (now inter)) (length (now out)) ⌝ }
     ensures { λ _. ⌜ Filled 16 16 (stageTwo (transMatrix 16) 16 shift (limitedBlock range 16 (now (inter .entry)))) 16 (now (out .entry)) (now (out .exit)) ⌝ }
 {
     if all_narrow(inter, 256) {
@@ -208,7 +208,7 @@ pub fn rows_16(inter: &[i32], range: u32, shift: u32, out: &mut [i32])
 
 // Stage one of 16 points, in row order.
 pub fn columns_16(coeff: &[i32], range: u32, inter: &mut [i32])
-    requires { ⌜ SizeAsk 16 range 7 (length (now coeff)) (length (now inter)) ⌝ }
+    requires { ⌜ SizeNeeds 16 range 7 (length (now coeff)) (length (now inter)) ⌝ }
     ensures { λ _. ⌜ Filled 16 16 (intermediate (transMatrix 16) 16 range (limitedBlock range 16 (now (coeff .entry)))) 16 (now (inter .entry)) (now (inter .exit)) ⌝ }
 {
     let mut g = [0i32; 256];
@@ -218,7 +218,7 @@ pub fn columns_16(coeff: &[i32], range: u32, inter: &mut [i32])
 
 // One column of stage one of 16 points, in two parts where its values take more than 16 bits.
 fn wide_column_16(coeff: &[i32], range: u32, column: usize, inter: &mut [i32])
-    requires { ⌜ SizeAsk 16 range 7 (length (now coeff)) (length (now inter)) × (column < 16) ⌝ }
+    requires { ⌜ SizeNeeds 16 range 7 (length (now coeff)) (length (now inter)) × (column < 16) ⌝ }
     ensures { λ _. ⌜ ColumnPlaced 16 column (λ m. intermediate (transMatrix 16) 16 range (limitedBlock range 16 (now (coeff .entry))) m column) 16 (now (inter .entry)) (now (inter .exit)) ⌝ }
 {
     let mut x = [0i32; 256];
@@ -230,7 +230,7 @@ fn wide_column_16(coeff: &[i32], range: u32, column: usize, inter: &mut [i32])
 
 // The same; values that fit 16 bits are narrowed before they stand in a block.
 pub fn column_16(coeff: &[i32], range: u32, column: usize, inter: &mut [i32])
-    requires { ⌜ SizeAsk 16 range 7 (length (now coeff)) (length (now inter)) × (column < 16) ⌝ }
+    requires { ⌜ SizeNeeds 16 range 7 (length (now coeff)) (length (now inter)) × (column < 16) ⌝ }
     ensures { λ _. ⌜ ColumnPlaced 16 column (λ m. intermediate (transMatrix 16) 16 range (limitedBlock range 16 (now (coeff .entry))) m column) 16 (now (inter .entry)) (now (inter .exit)) ⌝ }
 {
     if column_narrow(coeff, 16, column) {
@@ -247,7 +247,7 @@ pub fn column_16(coeff: &[i32], range: u32, column: usize, inter: &mut [i32])
 
 // Both stages of 32 points where rows and columns from 8 on are zero.
 fn both_32q(shift: u32, range: u32, nx: usize, coeff: &[i32], out: &mut [i32])
-    requires { ⌜ StagesAsk 32 shift range nx (length (now coeff)) (length (now out)) × (nx ≤ 8) × RowsUsed (now coeff) 32 nx 8 ⌝ }
+    requires { ⌜ StagesNeeds 32 shift range nx (length (now coeff)) (length (now out)) × (nx ≤ 8) × RowsUsed (now coeff) 32 nx 8 ⌝ }
     ensures { λ _. ⌜ Filled 32 32 (bothStages (transMatrix 32) 32 shift range nx (now (coeff .entry))) 32 (now (out .entry)) (now (out .exit)) ⌝ }
 {
     let mut g = [0i32; 256];
@@ -257,7 +257,7 @@ fn both_32q(shift: u32, range: u32, nx: usize, coeff: &[i32], out: &mut [i32])
 
 // Both stages of 32 points.
 fn both_32(shift: u32, range: u32, nx: usize, coeff: &[i32], out: &mut [i32])
-    requires { ⌜ StagesAsk 32 shift range nx (length (now coeff)) (length (now out)) ⌝ }
+    requires { ⌜ StagesNeeds 32 shift range nx (length (now coeff)) (length (now out)) ⌝ }
     ensures { λ _. ⌜ Filled 32 32 (bothStages (transMatrix 32) 32 shift range nx (now (coeff .entry))) 32 (now (out .entry)) (now (out .exit)) ⌝ }
 {
     let mut g = [0i32; 1024];
@@ -267,7 +267,7 @@ fn both_32(shift: u32, range: u32, nx: usize, coeff: &[i32], out: &mut [i32])
 
 // The same, by the rows in use.
 pub fn stages_32(shift: u32, range: u32, nx: usize, coeff: &[i32], out: &mut [i32])
-    requires { ⌜ StagesAsk 32 shift range nx (length (now coeff)) (length (now out)) ⌝ }
+    requires { ⌜ StagesNeeds 32 shift range nx (length (now coeff)) (length (now out)) ⌝ }
     ensures { λ _. ⌜ Filled 32 32 (bothStages (transMatrix 32) 32 shift range nx (now (coeff .entry))) 32 (now (out .entry)) (now (out .exit)) ⌝ }
 {
     if nx <= 8 {
@@ -281,7 +281,7 @@ pub fn stages_32(shift: u32, range: u32, nx: usize, coeff: &[i32], out: &mut [i3
 
 // Stage two of 32 points over an intermediate in row order, in two parts where its values take more than 16 bits.
 fn wide_rows_32(inter: &[i32], range: u32, shift: u32, out: &mut [i32])
-    requires { ⌜ SizeAsk 32 range shift (length (now inter)) (length (now out)) ⌝ }
+    requires { ⌜ SizeNeeds 32 range shift (length (now inter)) (length (now out)) ⌝ }
     ensures { λ _. ⌜ Filled 32 32 (stageTwo (transMatrix 32) 32 shift (limitedBlock range 32 (now (inter .entry)))) 32 (now (out .entry)) (now (out .exit)) ⌝ }
 {
     let mut g = [0i32; 1024];
@@ -291,7 +291,7 @@ fn wide_rows_32(inter: &[i32], range: u32, shift: u32, out: &mut [i32])
 
 // The same; values that fit 16 bits are narrowed as they are turned over.
 pub fn rows_32(inter: &[i32], range: u32, shift: u32, out: &mut [i32])
-    requires { ⌜ SizeAsk 32 range shift (length (now inter)) (length (now out)) ⌝ }
+    requires { ⌜ SizeNeeds 32 range shift (length (now inter)) (length (now out)) ⌝ }
     ensures { λ _. ⌜ Filled 32 32 (stageTwo (transMatrix 32) 32 shift (limitedBlock range 32 (now (inter .entry)))) 32 (now (out .entry)) (now (out .exit)) ⌝ }
 {
     if all_narrow(inter, 1024) {
@@ -306,7 +306,7 @@ pub fn rows_32(inter: &[i32], range: u32, shift: u32, out: &mut [i32])
 
 // Stage one of 32 points, in row order.
 pub fn columns_32(coeff: &[i32], range: u32, inter: &mut [i32])
-    requires { ⌜ SizeAsk 32 range 7 (length (now coeff)) (length (now inter)) ⌝ }
+    requires { ⌜ SizeNeeds 32 range 7 (length (now coeff)) (length (now inter)) ⌝ }
     ensures { λ _. ⌜ Filled 32 32 (intermediate (transMatrix 32) 32 range (limitedBlock range 32 (now (coeff .entry)))) 32 (now (inter .entry)) (now (inter .exit)) ⌝ }
 {
     let mut g = [0i32; 1024];
@@ -316,7 +316,7 @@ pub fn columns_32(coeff: &[i32], range: u32, inter: &mut [i32])
 
 // One column of stage one of 32 points, in two parts where its values take more than 16 bits.
 fn wide_column_32(coeff: &[i32], range: u32, column: usize, inter: &mut [i32])
-    requires { ⌜ SizeAsk 32 range 7 (length (now coeff)) (length (now inter)) × (column < 32) ⌝ }
+    requires { ⌜ SizeNeeds 32 range 7 (length (now coeff)) (length (now inter)) × (column < 32) ⌝ }
     ensures { λ _. ⌜ ColumnPlaced 32 column (λ m. intermediate (transMatrix 32) 32 range (limitedBlock range 32 (now (coeff .entry))) m column) 32 (now (inter .entry)) (now (inter .exit)) ⌝ }
 {
     let mut x = [0i32; 1024];
@@ -328,7 +328,7 @@ fn wide_column_32(coeff: &[i32], range: u32, column: usize, inter: &mut [i32])
 
 // The same; values that fit 16 bits are narrowed before they stand in a block.
 pub fn column_32(coeff: &[i32], range: u32, column: usize, inter: &mut [i32])
-    requires { ⌜ SizeAsk 32 range 7 (length (now coeff)) (length (now inter)) × (column < 32) ⌝ }
+    requires { ⌜ SizeNeeds 32 range 7 (length (now coeff)) (length (now inter)) × (column < 32) ⌝ }
     ensures { λ _. ⌜ ColumnPlaced 32 column (λ m. intermediate (transMatrix 32) 32 range (limitedBlock range 32 (now (coeff .entry))) m column) 32 (now (inter .entry)) (now (inter .exit)) ⌝ }
 {
     if column_narrow(coeff, 32, column) {

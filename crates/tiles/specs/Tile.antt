@@ -6,7 +6,7 @@
 --   Tile n h s xs v          v holds the lines over all columns as its rows
 --   Rows n f b w ys zs       zs is ys with w rows of n, from row b on
 --   LinePut j d f v w        w is v with d parts of line j: eight outputs a part, the parts of four lines side by side
---   StageAsk, StageGives     what a stage asks, and what it gives: lines as rows of one list, or limited to 16 bits of another
+--   StageNeeds, StageGives     what a stage asks, and what it gives: lines as rows of one list, or limited to 16 bits of another
 use mathlib.Core.Path.{_≡_}
 use mathlib.Core.Bool.{Bool, true, false}
 use mathlib.Core.List.{List}
@@ -43,7 +43,7 @@ pub record LinePut (j d : ℕ) (f : ℕ → ℤ) (v w : List ℤ) : Type 0 where
   pub done : (t i : ℕ) → t < d → i < 8 → getD w (32 * t + 8 * j + i) (pos 0) ≡ f (8 * t + i)
   pub kept : (k t i : ℕ) → k < 4 → i < 8 → (k ≡ j → ⊥) → getD w (32 * t + 8 * k + i) (pos 0) ≡ getD v (32 * t + 8 * k + i) (pos 0)
 
-pub record StageAsk (q n : ℕ) (xs : List ℤ) (count : ℕ) (h : ℤ) (s : ℕ) (wide : Bool) (outLength thinLength : ℕ) : Type 0 where
+pub record StageNeeds (q n : ℕ) (xs : List ℤ) (count : ℕ) (h : ℤ) (s : ℕ) (wide : Bool) (outLength thinLength : ℕ) : Type 0 where
   pub long : length xs ≡ q * n
   pub half : Within (2 ^ 27) h
   pub shift : s ≤ 30

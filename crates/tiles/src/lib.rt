@@ -11,7 +11,7 @@ ghost use Rattle.integers.specs.Within.{Within};
 ghost use Rattle.h265.specs.Range.{clipCoeff};
 ghost use Rattle.transform_1d.specs.Rows.{Placed, Filled};
 ghost use Rattle.lines.specs.Fold.{valueMost, Small};
-ghost use Rattle.tiles.specs.Tile.{Head, Rows, LinePut, StageAsk, StageGives};
+ghost use Rattle.tiles.specs.Tile.{Head, Rows, LinePut, StageNeeds, StageGives};
 
 // (x + twice) >> s.
 pub fn rounded(x: i32, twice: i32, s: u32) -> i32
@@ -126,14 +126,14 @@ pub fn stage_8(
     out: &mut [i32],
     thin: &mut [i16],
 )
-    requires { ⌜ StageAsk 8 8 (now a) count half s wide (length (now out)) (length (now thin)) ⌝ }
+    requires { ⌜ StageNeeds 8 8 (now a) count half s wide (length (now out)) (length (now thin)) ⌝ }
     ensures { λ _. ⌜ StageGives 8 (now (a .entry)) count half s wide (now (out .entry)) (now (out .exit)) (now (thin .entry)) (now (thin .exit)) ⌝ }
 {
     let mut v = [0i32; 64];
     let mut j: usize = 0;
     while j < 8 {
         let x = column_8(a, j);
-        let z = lines::l8_8(&x[..]);
+        let z = lines_16::l8_8(&x[..]);
         put_line_8(&mut v, j * 8, &z, 2 * half, s + 1);
         j += 1;
     }
@@ -275,7 +275,7 @@ pub fn stage_16(
     out: &mut [i32],
     thin: &mut [i16],
 )
-    requires { ⌜ StageAsk 16 16 (now a) count half s wide (length (now out)) (length (now thin)) ⌝ }
+    requires { ⌜ StageNeeds 16 16 (now a) count half s wide (length (now out)) (length (now thin)) ⌝ }
     ensures { λ _. ⌜ StageGives 16 (now (a .entry)) count half s wide (now (out .entry)) (now (out .exit)) (now (thin .entry)) (now (thin .exit)) ⌝ }
 {
     let mut v = [0i32; 64];
@@ -284,7 +284,7 @@ pub fn stage_16(
         let mut j: usize = 0;
         while j < 4 {
             let x = column_16(a, b + j);
-            let z = lines::l16_16(&x[..]);
+            let z = lines_16::l16_16(&x[..]);
             put_line_16(&mut v, j, &z, 2 * half, s + 1);
             j += 1;
         }

@@ -10,7 +10,7 @@ ghost use Rattle.integers.specs.Within.{Within};
 ghost use Rattle.h265.specs.Range.{clipCoeff};
 ghost use Rattle.transform_1d.specs.Rows.{Placed, Filled};
 ghost use Rattle.lines.specs.Fold.{valueMost, Small};
-ghost use Rattle.tiles.specs.Tile.{Head, Rows, LinePut, StageAsk, StageGives};
+ghost use Rattle.tiles.specs.Tile.{Head, Rows, LinePut, StageNeeds, StageGives};
 
 // Column c.
 fn column_32(a: &[i16; 1024], c: usize) -> [i16; 32]
@@ -143,7 +143,7 @@ pub fn stage_32(
     out: &mut [i32],
     thin: &mut [i16],
 )
-    requires { ⌜ StageAsk 32 32 (now a) count half s wide (length (now out)) (length (now thin)) ⌝ }
+    requires { ⌜ StageNeeds 32 32 (now a) count half s wide (length (now out)) (length (now thin)) ⌝ }
     ensures { λ _. ⌜ StageGives 32 (now (a .entry)) count half s wide (now (out .entry)) (now (out .exit)) (now (thin .entry)) (now (thin .exit)) ⌝ }
 {
     let mut v = [0i32; 128];
@@ -152,7 +152,7 @@ pub fn stage_32(
         let mut j: usize = 0;
         while j < 4 {
             let x = column_32(a, b + j);
-            let z = lines::l32_32(&x[..]);
+            let z = lines_32::l32_32(&x[..]);
             put_line_32(&mut v, j, &z, 2 * half, s + 1);
             j += 1;
         }

@@ -11,7 +11,7 @@ ghost use Rattle.integers.specs.Within.{Within};
 ghost use Rattle.h265.specs.Range.{clipCoeff};
 ghost use Rattle.transform_1d.specs.Rows.{Placed, Filled};
 ghost use Rattle.lines.specs.Fold.{valueMost, Small};
-ghost use Rattle.tiles.specs.Tile.{Head, Rows, LinePut, StageAsk, StageGives};
+ghost use Rattle.tiles.specs.Tile.{Head, Rows, LinePut, StageNeeds, StageGives};
 
 mod rest; // whether a block ends after its first rows
 
@@ -65,7 +65,7 @@ pub fn stage_8q(
     out: &mut [i32],
     thin: &mut [i16],
 )
-    requires { ⌜ StageAsk 4 8 (now a) count half s wide (length (now out)) (length (now thin)) ⌝ }
+    requires { ⌜ StageNeeds 4 8 (now a) count half s wide (length (now out)) (length (now thin)) ⌝ }
     ensures { λ _. ⌜ StageGives 8 (now (a .entry)) count half s wide (now (out .entry)) (now (out .exit)) (now (thin .entry)) (now (thin .exit)) ⌝ }
 {
     let mut v = [0i32; 64];
@@ -155,7 +155,7 @@ pub fn stage_16q(
     out: &mut [i32],
     thin: &mut [i16],
 )
-    requires { ⌜ StageAsk 4 16 (now a) count half s wide (length (now out)) (length (now thin)) ⌝ }
+    requires { ⌜ StageNeeds 4 16 (now a) count half s wide (length (now out)) (length (now thin)) ⌝ }
     ensures { λ _. ⌜ StageGives 16 (now (a .entry)) count half s wide (now (out .entry)) (now (out .exit)) (now (thin .entry)) (now (thin .exit)) ⌝ }
 {
     let mut v = [0i32; 64];
@@ -249,7 +249,7 @@ pub fn stage_32q(
     out: &mut [i32],
     thin: &mut [i16],
 )
-    requires { ⌜ StageAsk 8 32 (now a) count half s wide (length (now out)) (length (now thin)) ⌝ }
+    requires { ⌜ StageNeeds 8 32 (now a) count half s wide (length (now out)) (length (now thin)) ⌝ }
     ensures { λ _. ⌜ StageGives 32 (now (a .entry)) count half s wide (now (out .entry)) (now (out .exit)) (now (thin .entry)) (now (thin .exit)) ⌝ }
 {
     let mut v = [0i32; 128];

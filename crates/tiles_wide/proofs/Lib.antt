@@ -1,3 +1,2 @@
--- Laws of this crate's definitions; each file builds only on those above it.
-pub mod SplitLaws
+-- Laws of a stage in two parts.
 pub mod PassLaws

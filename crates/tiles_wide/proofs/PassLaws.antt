@@ -39,8 +39,9 @@ use Rattle.transform_1d.specs.Rows.{Placed, Filled}
 use Rattle.transform_1d.proofs.RowsLaws.{filled-cong, zeros-getD}
 use Rattle.transform_1d.proofs.MatrixLaws.{transformLine-within}
 use Rattle.tiles.specs.Tile.{lineValue}
-use Rattle.tiles_wide.specs.Split.{highOf, lowOf, limitedList, Narrow, JoinAsk, PassGives}
-use Rattle.tiles_wide.proofs.SplitLaws.{parts-exact, high-within, low-within, clipCoeff-narrow, placed-run}
+use Rattle.wide_parts.specs.Split.{highOf, lowOf, Narrow, JoinNeeds}
+use Rattle.tiles_wide.specs.Pass.{limitedList, PassGives}
+use Rattle.wide_parts.proofs.SplitLaws.{parts-exact, high-within, low-within, clipCoeff-narrow, placed-run}
 
 -- ---- shifts
 shr-shr : (x : ℤ) (a b : ℕ) → shrZ x (a * b) ≡ shrZ (shrZ x a) b
@@ -182,7 +183,7 @@ parts-rows n r s {w} xs {h} {l} {b} least most e p q c m =
 pub join-ask : {n count : ℕ} {b : ℤ} (k : ℕ) (h l : List ℤ) {z g out₀ out : List ℤ} → 0 < n → ((j : ℕ) → j < n → absSum (transMatrix n) n j ≤ℤ pos 1862) → Within (2 ^ 11) b
     → ((i : ℕ) → Within 32768 (getD h i (pos 0))) → ((i : ℕ) → Within 32768 (getD l i (pos 0)))
     → Filled n n (lineValue n (pos 0) 0 h) count z g → count * n ≤ length z → Filled n n (lineValue n b k l) count out₀ out → count * n ≤ length out₀
-    → JoinAsk (count * n) g out
+    → JoinNeeds (count * n) g out
 join-ask {n} k h l o a wb wh wl p u q v =
     record {
       source = omega (arith, p .long);

@@ -4,19 +4,15 @@
 ghost use mathlib.Core.Path.{_≡_};
 ghost use Prim.Native.Nat.{_+_, _*_, _<_, _≤_};
 ghost use lib.ListN.{length};
-ghost use Rattle.tiles_wide.specs.Split.{PassAsk, PassGives};
-
-mod parts; // values in 16 bits, or limited to the range and split into two parts, and sums joined
-
-pub use parts::all_narrow;
-pub use parts::is_wide;
-use parts::join;
-use parts::narrow;
-use parts::split;
+ghost use Rattle.tiles_wide.specs.Pass.{PassNeeds, PassGives};
+use wide_parts::all_narrow;
+use wide_parts::join;
+use wide_parts::narrow;
+use wide_parts::split;
 
 // 8 points in two parts.
 fn parts_8(s: &[i32], range: u32, count: usize, shift: u32, out: &mut [i32])
-    requires { ⌜ PassAsk 8 8 range count shift (length (now s)) (length (now out)) ⌝ }
+    requires { ⌜ PassNeeds 8 8 range count shift (length (now s)) (length (now out)) ⌝ }
     ensures { λ _. ⌜ PassGives 8 8 range count shift (now (s .entry)) (now (out .entry)) (now (out .exit)) ⌝ }
 {
     let mut h = [0i16; 64];
@@ -39,7 +35,7 @@ fn parts_8(s: &[i32], range: u32, count: usize, shift: u32, out: &mut [i32])
 
 // The stage of 8 points: line c becomes row c of out, for c < count.
 pub fn pass_8(s: &[i32], range: u32, count: usize, shift: u32, out: &mut [i32])
-    requires { ⌜ PassAsk 8 8 range count shift (length (now s)) (length (now out)) ⌝ }
+    requires { ⌜ PassNeeds 8 8 range count shift (length (now s)) (length (now out)) ⌝ }
     ensures { λ _. ⌜ PassGives 8 8 range count shift (now (s .entry)) (now (out .entry)) (now (out .exit)) ⌝ }
 {
     if all_narrow(s, 64) {
@@ -62,7 +58,7 @@ pub fn pass_8(s: &[i32], range: u32, count: usize, shift: u32, out: &mut [i32])
 
 // 8 points in two parts, over the first 4 rows.
 fn parts_8q(s: &[i32], range: u32, count: usize, shift: u32, out: &mut [i32])
-    requires { ⌜ PassAsk 4 8 range count shift (length (now s)) (length (now out)) ⌝ }
+    requires { ⌜ PassNeeds 4 8 range count shift (length (now s)) (length (now out)) ⌝ }
     ensures { λ _. ⌜ PassGives 4 8 range count shift (now (s .entry)) (now (out .entry)) (now (out .exit)) ⌝ }
 {
     let mut h = [0i16; 32];
@@ -85,7 +81,7 @@ fn parts_8q(s: &[i32], range: u32, count: usize, shift: u32, out: &mut [i32])
 
 // The same over the first 4 rows: those after them are taken to be zero.
 pub fn pass_8q(s: &[i32], range: u32, count: usize, shift: u32, out: &mut [i32])
-    requires { ⌜ PassAsk 4 8 range count shift (length (now s)) (length (now out)) ⌝ }
+    requires { ⌜ PassNeeds 4 8 range count shift (length (now s)) (length (now out)) ⌝ }
     ensures { λ _. ⌜ PassGives 4 8 range count shift (now (s .entry)) (now (out .entry)) (now (out .exit)) ⌝ }
 {
     if all_narrow(s, 32) {
@@ -108,7 +104,7 @@ pub fn pass_8q(s: &[i32], range: u32, count: usize, shift: u32, out: &mut [i32])
 
 // 16 points in two parts.
 fn parts_16(s: &[i32], range: u32, count: usize, shift: u32, out: &mut [i32])
-    requires { ⌜ PassAsk 16 16 range count shift (length (now s)) (length (now out)) ⌝ }
+    requires { ⌜ PassNeeds 16 16 range count shift (length (now s)) (length (now out)) ⌝ }
     ensures { λ _. ⌜ PassGives 16 16 range count shift (now (s .entry)) (now (out .entry)) (now (out .exit)) ⌝ }
 {
     let mut h = [0i16; 256];
@@ -131,7 +127,7 @@ fn parts_16(s: &[i32], range: u32, count: usize, shift: u32, out: &mut [i32])
 
 // The stage of 16 points: line c becomes row c of out, for c < count.
 pub fn pass_16(s: &[i32], range: u32, count: usize, shift: u32, out: &mut [i32])
-    requires { ⌜ PassAsk 16 16 range count shift (length (now s)) (length (now out)) ⌝ }
+    requires { ⌜ PassNeeds 16 16 range count shift (length (now s)) (length (now out)) ⌝ }
     ensures { λ _. ⌜ PassGives 16 16 range count shift (now (s .entry)) (now (out .entry)) (now (out .exit)) ⌝ }
 {
     if all_narrow(s, 256) {
@@ -154,7 +150,7 @@ pub fn pass_16(s: &[i32], range: u32, count: usize, shift: u32, out: &mut [i32])
 
 // 16 points in two parts, over the first 4 rows.
 fn parts_16q(s: &[i32], range: u32, count: usize, shift: u32, out: &mut [i32])
-    requires { ⌜ PassAsk 4 16 range count shift (length (now s)) (length (now out)) ⌝ }
+    requires { ⌜ PassNeeds 4 16 range count shift (length (now s)) (length (now out)) ⌝ }
     ensures { λ _. ⌜ PassGives 4 16 range count shift (now (s .entry)) (now (out .entry)) (now (out .exit)) ⌝ }
 {
     let mut h = [0i16; 64];
@@ -177,7 +173,7 @@ fn parts_16q(s: &[i32], range: u32, count: usize, shift: u32, out: &mut [i32])
 
 // The same over the first 4 rows: those after them are taken to be zero.
 pub fn pass_16q(s: &[i32], range: u32, count: usize, shift: u32, out: &mut [i32])
-    requires { ⌜ PassAsk 4 16 range count shift (length (now s)) (length (now out)) ⌝ }
+    requires { ⌜ PassNeeds 4 16 range count shift (length (now s)) (length (now out)) ⌝ }
     ensures { λ _. ⌜ PassGives 4 16 range count shift (now (s .entry)) (now (out .entry)) (now (out .exit)) ⌝ }
 {
     if all_narrow(s, 64) {
@@ -200,7 +196,7 @@ pub fn pass_16q(s: &[i32], range: u32, count: usize, shift: u32, out: &mut [i32]
 
 // 32 points in two parts.
 fn parts_32(s: &[i32], range: u32, count: usize, shift: u32, out: &mut [i32])
-    requires { ⌜ PassAsk 32 32 range count shift (length (now s)) (length (now out)) ⌝ }
+    requires { ⌜ PassNeeds 32 32 range count shift (length (now s)) (length (now out)) ⌝ }
     ensures { λ _. ⌜ PassGives 32 32 range count shift (now (s .entry)) (now (out .entry)) (now (out .exit)) ⌝ }
 {
     let mut h = [0i16; 1024];
@@ -223,7 +219,7 @@ fn parts_32(s: &[i32], range: u32, count: usize, shift: u32, out: &mut [i32])
 
 // The stage of 32 points: line c becomes row c of out, for c < count.
 pub fn pass_32(s: &[i32], range: u32, count: usize, shift: u32, out: &mut [i32])
-    requires { ⌜ PassAsk 32 32 range count shift (length (now s)) (length (now out)) ⌝ }
+    requires { ⌜ PassNeeds 32 32 range count shift (length (now s)) (length (now out)) ⌝ }
     ensures { λ _. ⌜ PassGives 32 32 range count shift (now (s .entry)) (now (out .entry)) (now (out .exit)) ⌝ }
 {
     if all_narrow(s, 1024) {
@@ -246,7 +242,7 @@ pub fn pass_32(s: &[i32], range: u32, count: usize, shift: u32, out: &mut [i32])
 
 // 32 points in two parts, over the first 8 rows.
 fn parts_32q(s: &[i32], range: u32, count: usize, shift: u32, out: &mut [i32])
-    requires { ⌜ PassAsk 8 32 range count shift (length (now s)) (length (now out)) ⌝ }
+    requires { ⌜ PassNeeds 8 32 range count shift (length (now s)) (length (now out)) ⌝ }
     ensures { λ _. ⌜ PassGives 8 32 range count shift (now (s .entry)) (now (out .entry)) (now (out .exit)) ⌝ }
 {
     let mut h = [0i16; 256];
@@ -269,7 +265,7 @@ fn parts_32q(s: &[i32], range: u32, count: usize, shift: u32, out: &mut [i32])
 
 // The same over the first 8 rows: those after them are taken to be zero.
 pub fn pass_32q(s: &[i32], range: u32, count: usize, shift: u32, out: &mut [i32])
-    requires { ⌜ PassAsk 8 32 range count shift (length (now s)) (length (now out)) ⌝ }
+    requires { ⌜ PassNeeds 8 32 range count shift (length (now s)) (length (now out)) ⌝ }
     ensures { λ _. ⌜ PassGives 8 32 range count shift (now (s .entry)) (now (out .entry)) (now (out .exit)) ⌝ }
 {
     if all_narrow(s, 256) {

@@ -3,7 +3,6 @@
 --   added-zero, -suc, -all    no lane; one lane more; all lanes
 --   room-mono                 a larger bound
 --   halfSums-zero, -suc, -all no group; one group more; all groups
---   sum-halves                a sum over an even number of terms, as the sums of the even and of the odd ones
 --   halfSums-output           the sum, or the difference, of both halves is the line
 use mathlib.Core.Path.{_≡_, refl, sym, ap, ap₂, _∙_, subst}
 use mathlib.Core.List.{List}
@@ -22,10 +21,10 @@ use Rattle.integers.specs.Within.{Within}
 use Rattle.integers.proofs.LinearLaws.{split, ring, diff-ext}
 use Rattle.integers.proofs.MachineLaws.{abs-add}
 use Rattle.integers.proofs.BoundLaws.{within-le}
-use Rattle.integers.proofs.SumLaws.{sum-zero, sum-suc, sum-cong}
+use Rattle.integers.proofs.SumLaws.{sum-zero, sum-suc, sum-cong, sum-pairs, sum-neg}
 use Rattle.h265.specs.Transform.{transformLine}
 use Rattle.transform_1d.specs.Lanes.{lanePlace, mirrored, laneMatrix, lineSum, laneOutput, LineSums}
-use Rattle.transform_1d.specs.Kernel.{pairMost, rowPair, halfTerm, halfSum, Room, Added, HalfSums}
+use Rattle.transform_1d.specs.Kernel.{pairMost, rowPair, halfTerm, halfSum, SumsRoom, Added, HalfSums}
 
 -- ---- four rows
 module _ (t : List ℤ) (at : ℕ) (a b d f : ℤ) (j : ℕ) (l : j < 16) where
@@ -83,7 +82,7 @@ module _ {g : ℕ → ℤ} {z₀ z : List ℤ} {j : ℕ} (s : Added g z₀ j z) 
             (omega (arith, bu .within, abs-add (getD z₀ (16 + j) (pos 0)) (g (16 + j)))) p (λ d e. s .grown p l);
       }
 
-pub room-mono : {a b : ℕ} {z : List ℤ} → a ≤ b → Room a z → Room b z
+pub room-mono : {a b : ℕ} {z : List ℤ} → a ≤ b → SumsRoom a z → SumsRoom b z
 room-mono l r = record { long = r .long; at = λ p h. within-le l (r .at p h) }
 
 -- ---- groups of four rows
@@ -155,17 +154,6 @@ module _ (t s : List ℤ) (base stride : ℕ) where
           ]
 
 -- ---- both halves
-pub sum-halves : (h : ℕ) (f : ℕ → ℤ) → sum (2 * h) f ≡ sum h (λ i. f (2 * i)) +ℤ sum h (λ i. f (2 * i + 1))
-unfolding sum
-sum-halves zero f = refl
-sum-halves (suc h) f =
-    ap (λ (k : ℕ). sum k f) (let e : 2 * suc h ≡ suc (suc (2 * h)) = omega arith in e)
-    ∙ ap₂ (λ (x y : ℤ). x +ℤ f (2 * h) +ℤ y) (sum-halves h f) (ap f (let e : suc (2 * h) ≡ 2 * h + 1 = omega arith in e))
-    ∙ regroup (sum h (λ i. f (2 * i))) (sum h (λ i. f (2 * i + 1))) (f (2 * h)) (f (2 * h + 1))
-  where
-    regroup : (a b c d : ℤ) → (a +ℤ b +ℤ c) +ℤ d ≡ (a +ℤ c) +ℤ (b +ℤ d)
-    regroup a b c d = rw (← split a, ← split b, ← split c, ← split d) (simp ring (diff-ext _ _ _ _ (omega arith)))
-
 mirrored-even : (i : ℕ) (x : ℤ) → mirrored (2 * i) x ≡ x
 unfolding mirrored
 mirrored-even i x = rw (eq-eqb (2 * i % 2) 0 (omega arith))
@@ -173,14 +161,6 @@ mirrored-even i x = rw (eq-eqb (2 * i % 2) 0 (omega arith))
 mirrored-odd : (i : ℕ) (x : ℤ) → mirrored (2 * i + 1) x ≡ negℤ x
 unfolding mirrored
 mirrored-odd i x = rw (ne-eqb ((2 * i + 1) % 2) 0 (λ e. omega arith))
-
-sum-neg : (n : ℕ) (f : ℕ → ℤ) → sum n (λ k. negℤ (f k)) ≡ negℤ (sum n f)
-unfolding sum
-sum-neg zero f = refl
-sum-neg (suc n) f = ap (λ (z : ℤ). z +ℤ negℤ (f n)) (sum-neg n f) ∙ regroup (sum n f) (f n)
-  where
-    regroup : (a b : ℤ) → negℤ a +ℤ negℤ b ≡ negℤ (a +ℤ b)
-    regroup a b = rw (← split a, ← split b) (simp ring (diff-ext _ _ _ _ (omega arith)))
 
 pub laneMatrix-low : (t : List ℤ) (k j : ℕ) → j < 16 → laneMatrix t k j ≡ getD t (lanePlace k j) (pos 0)
 unfolding laneMatrix
@@ -212,7 +192,7 @@ module _ (t s : List ℤ) (base stride q : ℕ) {z : List ℤ} (x : HalfSums t s
   line-low : getD z j (pos 0) +ℤ getD z (16 + j) (pos 0) ≡ lineSum t s base stride q j
   unfolding transformLine
   line-low =
-      sym (ap (λ (k : ℕ). sum k f) (let e : 4 * q ≡ 2 * (2 * q) = omega arith in e) ∙ sum-halves (2 * q) f
+      sym (ap (λ (k : ℕ). sum k f) (let e : 4 * q ≡ 2 * (2 * q) = omega arith in e) ∙ sum-pairs (2 * q) f
       ∙ ap₂ _+ℤ_ (sum-cong (2 * q) (λ i. f (2 * i)) _ (λ i h. at (2 * i)) ∙ even-terms) (sum-cong (2 * q) (λ i. f (2 * i + 1)) _ (λ i h. at (2 * i + 1)) ∙ odd-terms))
     where
       f : ℕ → ℤ
@@ -224,7 +204,7 @@ module _ (t s : List ℤ) (base stride q : ℕ) {z : List ℤ} (x : HalfSums t s
   line-high : getD z j (pos 0) -ℤ getD z (16 + j) (pos 0) ≡ lineSum t s base stride q (31 - j)
   unfolding transformLine
   line-high =
-      sym (ap (λ (k : ℕ). sum k f) (let e : 4 * q ≡ 2 * (2 * q) = omega arith in e) ∙ sum-halves (2 * q) f
+      sym (ap (λ (k : ℕ). sum k f) (let e : 4 * q ≡ 2 * (2 * q) = omega arith in e) ∙ sum-pairs (2 * q) f
       ∙ ap₂ _+ℤ_
       (sum-cong (2 * q) (λ i. f (2 * i)) _ (λ i h. at (2 * i) ∙ ap (λ (y : ℤ). y *ℤ getD s (base + 2 * i * stride) (pos 0)) (mirrored-even i (getD t (lanePlace (2 * i) j) (pos 0)))) ∙ even-terms)
       (sum-cong (2 * q) (λ i. f (2 * i + 1)) (λ i. negℤ (getD t (lanePlace (2 * i + 1) j) (pos 0) *ℤ getD s (base + (2 * i + 1) * stride) (pos 0)))

@@ -5,8 +5,8 @@
 --   transMatrix-within       entries of the DCT's matrices are at most 90 in size
 --   dstMatrix-within         entries of the DST's matrix are at most 90 in size
 --   Laid, laid               all that a block needs of a layout: its length, its small entries, the matrix it reads back as
---   lineAsk-group            a line meets what each of its groups asks
---   lineAsk-mono             a line for more points asks no more
+--   lineNeeds-group            a line meets what each of its groups asks
+--   lineNeeds-mono             a line for more points asks no more
 use mathlib.Core.Path.{_≡_, refl, sym, ap, ap₂, _∙_}
 use mathlib.Core.List.{List, [], _∷_}
 use mathlib.Core.Bool.{Bool, true, false, cond, _&&_}
@@ -25,8 +25,8 @@ use Rattle.integers.specs.Within.{Within}
 use Rattle.integers.proofs.BoundLaws.{within-neg, within-pos, within-eq, table-within}
 use Rattle.integers.proofs.ListsLaws.{tabulate-length, tabulate-getD}
 use Rattle.h265.specs.Matrix.{foldingValues, folding, foldedEntry, foldedAngle, transMatrix32, transMatrix, dstEntries, dstMatrix}
-use Rattle.transform_1d.specs.Lanes.{laneRow, laneColumn, laneEntry, lanes, lanePlace, mirrored, laneMatrix, SmallEntries, LineAsk}
-use Rattle.transform_1d.specs.Kernel.{GroupAsk}
+use Rattle.transform_1d.specs.Lanes.{laneRow, laneColumn, laneEntry, lanes, lanePlace, mirrored, laneMatrix, SmallEntries, LineNeeds}
+use Rattle.transform_1d.specs.Kernel.{GroupNeeds}
 use Rattle.transform_1d.specs.Rows.{Filled}
 use Rattle.transform_1d.proofs.KernelLaws.{laneMatrix-low, laneMatrix-high}
 
@@ -74,8 +74,8 @@ laneMatrix-lanes t n f m h k j hk hj =
           ∙ ap (t k) (let e : 31 - (31 - j) ≡ j = omega arith in e)
     ]
 
-pub lineAsk-group : {t s : List ℤ} {base stride groups : ℕ} → LineAsk 32 t s base stride groups → (q : ℕ) → q < groups → GroupAsk t s base stride q
-lineAsk-group {stride = stride} a q h =
+pub lineNeeds-group : {t s : List ℤ} {base stride groups : ℕ} → LineNeeds 32 t s base stride groups → (q : ℕ) → q < groups → GroupNeeds t s base stride q
+lineNeeds-group {stride = stride} a q h =
     record {
       few = omega (arith, a .few);
       table = omega (arith, a .table);
@@ -83,8 +83,8 @@ lineAsk-group {stride = stride} a q h =
       reads = omega (arith, a .reads (4 * q + 3) (omega arith), add-mul (4 * q) 3 stride);
     }
 
-pub lineAsk-mono : {n m : ℕ} {t s : List ℤ} {base stride groups : ℕ} → n ≤ m → LineAsk n t s base stride groups → LineAsk m t s base stride groups
-lineAsk-mono h a = record { few = le-trans (a .few) h; table = a .table; small = a .small; reads = a .reads }
+pub lineNeeds-mono : {n m : ℕ} {t s : List ℤ} {base stride groups : ℕ} → n ≤ m → LineNeeds n t s base stride groups → LineNeeds m t s base stride groups
+lineNeeds-mono h a = record { few = le-trans (a .few) h; table = a .table; small = a .small; reads = a .reads }
 
 -- ---- the 32-point layout, filled from the matrix row by row of pairs
 abbrev pub pairEntry : List ℤ → ℕ → ℕ → ℤ

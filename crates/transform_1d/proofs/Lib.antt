@@ -3,3 +3,4 @@ pub mod RowsLaws
 pub mod KernelLaws
 pub mod LanesLaws
 pub mod MatrixLaws
+pub mod KindLaws

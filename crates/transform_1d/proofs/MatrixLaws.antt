@@ -24,6 +24,7 @@ use Rattle.integers.proofs.MachineLaws.{abs-add, abs-mul}
 use Rattle.integers.proofs.SumLaws.{sum-cong}
 use Rattle.h265.specs.Matrix.{foldingValues, folding, foldedEntry, foldedAngle, transMatrix32, transMatrix, dstEntries, dstMatrix, absSum}
 use Rattle.h265.specs.Transform.{transformLine}
+use Rattle.integers.proofs.TestLaws.{allBelow, allBelow-at}
 use Rattle.transform_1d.specs.Lanes.{lanes, mirrored, laneMatrix, SmallEntries}
 use Rattle.transform_1d.proofs.LanesLaws.{lanes-length, laneMatrix-lanes, lanes-small, transMatrix-within}
 
@@ -66,19 +67,6 @@ transformLine-within t n y m {a} {b} h k =
     small = omega (arith, le-in (rw (sum-total n (λ k. natAbs (t k m))) at h))
 
 -- ---- computed tests
-unfoldable allBelow : ℕ → (ℕ → Bool) → Bool
-allBelow zero f = true
-allBelow (suc n) f = f n && allBelow n f
-
-allBelow-at : (n : ℕ) (f : ℕ → Bool) → T (allBelow n f) → (k : ℕ) → k < n → T (f k)
-unfolding allBelow
-allBelow-at zero f t k h = absurd (not-suc-le-zero h)
-allBelow-at (suc n) f t k h =
-    elim (ℕ-discrete k n) [
-      | yes e ↦ subst (λ (i : ℕ). T (f i)) (sym e) (and-yes (f n) (allBelow n f) t .0)
-      | no d ↦ allBelow-at n f (and-yes (f n) (allBelow n f) t .1) k (omega arith)
-    ]
-
 abbrev sumsAtMost : (ℕ → ℕ → ℤ) → ℕ → ℕ → Bool
 sumsAtMost t n a = allBelow n (λ m. leZ (absSum t n m) (pos a))
 

@@ -1,10 +1,10 @@
 -- The inside of a line: 32 sums, of which sum p adds up the products of lane p % 16, in even rows for p < 16 and else in odd rows.
 --   rowPair t at a b d f p   what rows at .. at + 3 of a layout add to sum p, where a, b, d, f stand in those rows
 --   halfSum                  sum p over the first q groups
---   Room b z                 z is 32 sums, none above b in size
+--   SumsRoom b z                 z is 32 sums, none above b in size
 --   Added g z₀ j z           z is z₀ with g added in the first j lanes of both halves
 --   HalfSums                 z is the sums over q groups
---   GroupAsk                 what group q of a line asks
+--   GroupNeeds                 what group q of a line asks
 use mathlib.Core.Path.{_≡_}
 use mathlib.Core.Bool.{cond}
 use mathlib.Core.List.{List}
@@ -31,7 +31,7 @@ halfTerm t s base stride p i =
 unfoldable pub halfSum : List ℤ → List ℤ → ℕ → ℕ → ℕ → ℕ → ℤ
 halfSum t s base stride q p = sum (2 * q) (halfTerm t s base stride p)
 
-pub record Room (b : ℕ) (z : List ℤ) : Type 0 where
+pub record SumsRoom (b : ℕ) (z : List ℤ) : Type 0 where
   pub long : length z ≡ 32
   pub at : (p : ℕ) → p < 32 → Within b (getD z p (pos 0))
 
@@ -43,9 +43,9 @@ pub record Added (g : ℕ → ℤ) (z₀ : List ℤ) (j : ℕ) (z : List ℤ) : 
 
 pub record HalfSums (t s : List ℤ) (base stride q : ℕ) (z : List ℤ) : Type 0 where
   pub is : (p : ℕ) → p < 32 → getD z p (pos 0) ≡ halfSum t s base stride q p
-  pub room : Room (q * pairMost) z
+  pub room : SumsRoom (q * pairMost) z
 
-pub record GroupAsk (t s : List ℤ) (base stride q : ℕ) : Type 0 where
+pub record GroupNeeds (t s : List ℤ) (base stride q : ℕ) : Type 0 where
   pub few : q < 8
   pub table : 64 * q + 64 ≤ length t
   pub small : SmallEntries t

@@ -1,4 +1,4 @@
--- What a kind of transform says of a size. Row 4 of document 01's table.
+-- What a kind of transform says of a size. Row 4 of docs/RULES.md's table.
 --   isDst kind          the kind as a flag
 --   dstRefused kind n   row 4: a DST whose size is not 4
 use mathlib.Core.Bool.{Bool, not, _&&_}

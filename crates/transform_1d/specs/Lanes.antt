@@ -12,7 +12,7 @@
 --   lineSum                 output j of the line over s[base], s[base + stride], ..: four rows a group
 --   laneOutput z j          output j of the sums z: even rows in z[0..16], odd rows in z[16..32]
 --   SmallEntries t          no entry of a layout is above 90 in size
---   LineAsk, LineSums       what an n-point line asks, and what it gives
+--   LineNeeds, LineSums       what an n-point line asks, and what it gives
 use mathlib.Core.Path.{_≡_}
 use mathlib.Core.Bool.{cond}
 use mathlib.Core.List.{List}
@@ -56,7 +56,7 @@ laneOutput z j =
 pub record SmallEntries (t : List ℤ) : Type 0 where
   pub at : (i : ℕ) → Within 90 (getD t i (pos 0))
 
-pub record LineAsk (n : ℕ) (t s : List ℤ) (base stride groups : ℕ) : Type 0 where
+pub record LineNeeds (n : ℕ) (t s : List ℤ) (base stride groups : ℕ) : Type 0 where
   pub few : 4 * groups ≤ n
   pub table : 64 * groups ≤ length t
   pub small : SmallEntries t

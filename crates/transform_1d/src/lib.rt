@@ -8,8 +8,8 @@ ghost use Rattle.integers.specs.Lists.{tabulate};
 ghost use Rattle.integers.specs.Within.{Within};
 ghost use Rattle.h265.specs.Matrix.{transMatrix32, transMatrix, dstMatrix};
 ghost use Rattle.transform_1d.specs.Kinds.{dstRefused};
-ghost use Rattle.transform_1d.specs.Lanes.{lanes, SmallEntries, LineAsk, LineSums};
-ghost use Rattle.transform_1d.specs.Kernel.{pairMost, rowPair, Room, Added, HalfSums, GroupAsk};
+ghost use Rattle.transform_1d.specs.Lanes.{lanes, SmallEntries, LineNeeds, LineSums};
+ghost use Rattle.transform_1d.specs.Kernel.{pairMost, rowPair, SumsRoom, Added, HalfSums, GroupNeeds};
 ghost use Rattle.transform_1d.specs.Rows.{Placed};
 
 // The kind of a transform: a DCT of 4 to 32 points, or the 4-point DST.
@@ -173,7 +173,7 @@ fn pair(u: i16, x: i16, v: i16, y: i16) -> i32
 // Four rows more in each of sixteen lanes: the even rows in z[0..16], the odd rows in z[16..32].
 // The products come before the sums are read, and the odd place first: else the compiler leaves its 16-bit multiply-add.
 fn add_rows(z: &mut [i32; 32], t: &[i16], at: usize, a: i16, b: i16, d: i16, f: i16)
-    requires { ⌜ (at + 64 ≤ length (now t)) × SmallEntries (now t) × Room (2 ^ 26) (now z) ⌝ }
+    requires { ⌜ (at + 64 ≤ length (now t)) × SmallEntries (now t) × SumsRoom (2 ^ 26) (now z) ⌝ }
     ensures { λ _. ⌜ Added (rowPair (now (t .entry)) at a b d f) (now (z .entry)) 16 (now (z .exit)) ⌝ }
 {
     let mut j: usize = 0;
@@ -191,7 +191,7 @@ fn add_rows(z: &mut [i32; 32], t: &[i16], at: usize, a: i16, b: i16, d: i16, f: 
 
 // One group of four rows more.
 fn add_group(z: &mut [i32; 32], t: &[i16], s: &[i16], base: usize, stride: usize, q: usize)
-    requires { ⌜ GroupAsk (now t) (now s) base stride q × HalfSums (now t) (now s) base stride q (now z) ⌝ }
+    requires { ⌜ GroupNeeds (now t) (now s) base stride q × HalfSums (now t) (now s) base stride q (now z) ⌝ }
     ensures { λ _. ⌜ HalfSums (now (t .entry)) (now (s .entry)) base stride (q + 1) (now (z .exit)) ⌝ }
 {
     let k = base + 4 * q * stride;
@@ -208,7 +208,7 @@ fn add_group(z: &mut [i32; 32], t: &[i16], s: &[i16], base: usize, stride: usize
 
 // The kernel: sixteen lanes, with even and odd rows in separate sums, over four rows a group.
 fn lane_sums(t: &[i16], s: &[i16], base: usize, stride: usize, groups: usize) -> [i32; 32]
-    requires { ⌜ LineAsk 32 (now t) (now s) base stride groups ⌝ }
+    requires { ⌜ LineNeeds 32 (now t) (now s) base stride groups ⌝ }
     ensures { λ z. ⌜ HalfSums (now (t .entry)) (now (s .entry)) base stride groups z ⌝ }
 {
     let mut z = [0i32; 32];
@@ -222,7 +222,7 @@ fn lane_sums(t: &[i16], s: &[i16], base: usize, stride: usize, groups: usize) ->
 
 // The 4-point line; with the DST's layout, the DST's.
 pub fn idct_raw_4(t: &[i16], s: &[i16], base: usize, stride: usize, groups: usize) -> [i32; 32]
-    requires { ⌜ LineAsk 4 (now t) (now s) base stride groups ⌝ }
+    requires { ⌜ LineNeeds 4 (now t) (now s) base stride groups ⌝ }
     ensures { λ z. ⌜ LineSums (now (t .entry)) (now (s .entry)) base stride groups z ⌝ }
 {
     lane_sums(t, s, base, stride, groups)

@@ -1,11 +1,12 @@
--- Whole blocks, refused calls included. Document 01, "Inverse transforms", and rows 1, 2, 3, 6, 7, 9, 19 of its table.
+-- Whole blocks, refused calls included. docs/RULES.md, "Inverse transforms", and rows 1, 2, 3, 6, 7, 9, 19 of its table.
 -- Letters: n size, b depth, x extended precision, nx column count.
+--   bits16, bits32, plainRange, extendedRange   names of the flags
 --   inverted narrow kind n b x nx coeff out   what a transform answers and what its output holds afterwards; `narrow`: 16-bit output
 --   OfKind kind n                             what the functions below the refusals rely on: the DST has four points
 --   InRange                                   size, kind, depth, range and lengths are right, and the coefficients read lie in the range
 --   Fit16 len xs                              the first len elements of xs fit 16 bits
 use mathlib.Core.Path.{_≡_}
-use mathlib.Core.Bool.{Bool, false, _&&_, cond}
+use mathlib.Core.Bool.{Bool, true, false, _&&_, cond}
 use mathlib.Core.List.{List}
 use Prim.Native.Nat.{ℕ, _+_, _*_, _<_, _≤_}
 use lib.Dec.{T, ltb}
@@ -23,6 +24,20 @@ use Rattle.transform_1d.specs.declared.Kind.{Kind}
 use Rattle.transform_1d.specs.declared.Kind.the-variants.{Dst}
 use Rattle.transform_1d.specs.MatrixOf.{matrixOf}
 use Rattle.coefficients.specs.Outside.{firstOutside, refusalAt}
+
+-- the output's width: row 3 applies to 16-bit output alone
+abbrev pub bits16 : Bool
+bits16 = true
+
+abbrev pub bits32 : Bool
+bits32 = false
+
+-- the range of coefficients: R = 15, or by extended precision
+abbrev pub plainRange : Bool
+plainRange = false
+
+abbrev pub extendedRange : Bool
+extendedRange = true
 
 unfoldable pub inverted : Bool → Kind → ℕ → ℕ → Bool → ℕ → List ℤ → List ℤ → Written
 inverted narrow kind n b x nx coeff out =

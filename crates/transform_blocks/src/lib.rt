@@ -8,7 +8,7 @@ ghost use Rattle.integers.specs.Lists.{overwrite};
 ghost use Rattle.h265.specs.Transform.{rowOrder, residual};
 ghost use Rattle.refusal.specs.Written.{Writes};
 ghost use Rattle.transform_1d.specs.MatrixOf.{matrixOf};
-ghost use Rattle.transform_blocks.specs.Blocks.{inverted, OfKind, Fit16, InRange};
+ghost use Rattle.transform_blocks.specs.Blocks.{inverted, OfKind, Fit16, InRange, bits16, bits32, plainRange};
 use refusal::Answer;
 use refusal::Refusal;
 use transform_1d::Kind;
@@ -42,7 +42,7 @@ pub fn invert_16(
     out: &mut [i16],
 ) -> Answer
     requires { ⌜ OfKind kind n ⌝ }
-    ensures { λ r. ⌜ Writes r (now (out .exit)) (inverted true kind n «bit_depth» false nx (now (coeff .entry)) (now (out .entry))) ⌝ }
+    ensures { λ r. ⌜ Writes r (now (out .exit)) (inverted bits16 kind n «bit_depth» plainRange nx (now (coeff .entry)) (now (out .entry))) ⌝ }
 {
     if refusal::size_refused(n) {
         return Answer::Refused(Refusal::SizeInvalid);
@@ -95,7 +95,7 @@ pub fn invert_32(
     out: &mut [i32],
 ) -> Answer
     requires { ⌜ OfKind kind n ⌝ }
-    ensures { λ r. ⌜ Writes r (now (out .exit)) (inverted false kind n «bit_depth» «extended_precision» nx (now (coeff .entry)) (now (out .entry))) ⌝ }
+    ensures { λ r. ⌜ Writes r (now (out .exit)) (inverted bits32 kind n «bit_depth» «extended_precision» nx (now (coeff .entry)) (now (out .entry))) ⌝ }
 {
     if refusal::size_refused(n) {
         return Answer::Refused(Refusal::SizeInvalid);

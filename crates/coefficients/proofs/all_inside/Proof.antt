@@ -9,11 +9,11 @@ use borrow.Author.Tests.{ltb-true}
 use lib.IntN.{pos}
 use lib.ListN.{getD}
 use lib.Pow.{pow-mono}
+use lib.Signed.{mag}
 use mir.Syntax.{w32}
 use mir.Val.{SFits}
 use Rattle.integers.proofs.MachineLaws.{round-trip}
-use Rattle.coefficients.specs.Outside.{Reaches}
-use Rattle.coefficients.proofs.OutsideLaws.{AllReach, allReach-zero, allReach-suc}
+use Rattle.coefficients.proofs.OutsideLaws.{Reaches, reaches-mag, AllReach, allReach-zero, allReach-suc}
 use Rattle.coefficients.proofs.all_inside.Statement.{statement}
 use Rattle.coefficients.proofs.all_inside.Tie as tie
 
@@ -46,7 +46,8 @@ loop-again c =
     let l = c .before .before .before in
     let xs = l .before .args .coeff .now in
     let f : SFits w32 (getD xs (l .loop .i) (pos 0)) = record { sfits = c .before .reach-arg .given } in
-    (omega arith, allReach-suc (l .loop .bits) (c .reach .result) (l .loop .inv .1) (rw (round-trip f) at (c .reach .ensures)))
+    let e : c .reach .result ≡ mag (getD xs (l .loop .i) (pos 0)) = rw (round-trip f) at (c .reach .ensures) in
+    (omega arith, allReach-suc (l .loop .bits) (c .reach .result) (l .loop .inv .1) (rw e (reaches-mag (getD xs (l .loop .i) (pos 0)))))
 
 shl-result : tie.Need-shl-result Inv-loop μ-loop
 shl-result c = omega (arith, c .before .before .pre .1)

@@ -10,8 +10,6 @@ use mir.Syntax.{w32}
 use mir.Val.{toZ, ofZ, SFits}
 use Rattle.integers.proofs.LinearLaws.{parts-add, parts-neg, parts-ext}
 use Rattle.integers.proofs.MachineLaws.{round-trip}
-use Rattle.coefficients.specs.Outside.{Reaches}
-use Rattle.coefficients.proofs.OutsideLaws.{reaches-mag}
 use Rattle.coefficients.proofs.reach.Statement.{statement}
 use Rattle.coefficients.proofs.reach.Tie as tie
 
@@ -33,7 +31,7 @@ cast-result c =
     rw (round-trip (sub-result c), size-is c) (tt, record { fits = omega (arith, c .before .fits .x .sfits) })
 
 returns : tie.Need-returns
-returns c = rw (round-trip (sub-result c), size-is c) (reaches-mag (c .before .args .x))
+returns c = rw (round-trip (sub-result c), size-is c) refl
 
 not-negative : (z : ℤ) → ltZ z (pos 0) ≡ false → T (nonNeg z)
 not-negative (pos n) h = tt
@@ -52,7 +50,7 @@ cast-result-2 c =
     (not-negative (c .before .args .x) (kept c), record { fits = omega (arith, abs-is (c .before .args .x) (kept c), c .before .fits .x .sfits) })
 
 returns-2 : tie.Need-returns-2
-returns-2 c = rw (round-trip (c .before .fits .x), abs-is (c .before .args .x) (kept c)) (reaches-mag (c .before .args .x))
+returns-2 c = rw (round-trip (c .before .fits .x), abs-is (c .before .args .x) (kept c)) refl
 
 pub reach-spec : {M : Type 1} → statement M
 reach-spec = tie.close (tie.spec sub-result cast-result returns cast-result-2 returns-2)

@@ -8,7 +8,7 @@ use Rattle.integers.specs.Within.{Within}
 use Rattle.h265.specs.Range.{transformRange}
 use Rattle.h265.specs.Transform.{blockAt}
 use Rattle.h265.proofs.RangeLaws.{transformRange-least, transformRange-most, transformRange-depth}
-use Rattle.edit_blocks.specs.Work.{StageAsk}
+use Rattle.edit_tables.specs.Tables.{StageNeeds}
 use Rattle.edit_blocks.proofs.FindLaws.{range-within, stage-ask, one-within, between-within, Prepared, prepared-ask, written-least, written-most}
 use Rattle.edit_blocks.proofs.find.Statement.{statement}
 use Rattle.edit_blocks.proofs.find.Tie as tie
@@ -45,7 +45,7 @@ matrix-requires c κs = search needs
 widened-requires : tie.Need-widened-requires
 widened-requires c κs = search needs
 
-one-ask : (c : tie.After-d) → StageAsk (c .before .before .before .before .before .before .args .n) (c .before .before .before .matrix .result) (c .before .before .widened .result)
+one-ask : (c : tie.After-d) → StageNeeds (c .before .before .before .before .before .before .args .n) (c .before .before .before .matrix .result) (c .before .before .widened .result)
 one-ask c =
     let s = c .before .before .before .before .before .before in
     stage-ask (s .args .kind) (s .pre .size) (c .before .before .before .matrix .ensures) (c .before .before .widened .ensures) (coeff-within s)

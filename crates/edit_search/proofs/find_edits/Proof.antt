@@ -7,10 +7,10 @@ use lib.ListN.{length}
 use Rattle.h265.specs.Range.{transformRange}
 use Rattle.h265.proofs.RangeLaws.{size-square, transformRange-most}
 use Rattle.refusal.specs.Outcome.{answer}
-use Rattle.refusal.proofs.ConditionLaws.{size-accepted, depth-accepted}
+use Rattle.refusal.proofs.ConditionLaws.{size-accepted, depth-accepted, block-room}
 use Rattle.refusal.proofs.LadderLaws.{Passed}
 use Rattle.coefficients.specs.Outside.{firstOutside}
-use Rattle.edit_search.proofs.FoundLaws.{rungs, room, edits-refused, edits-passed, edits-outside, edits-done, edits-ask}
+use Rattle.edit_search.proofs.FoundLaws.{rungs, edits-refused, edits-passed, edits-outside, edits-done, edits-ask}
 use Rattle.edit_search.proofs.find_edits.Statement.{statement}
 use Rattle.edit_search.proofs.find_edits.Tie as tie
 
@@ -51,7 +51,7 @@ first-outside-requires : tie.Need-first-outside-requires
 first-outside-requires c κs =
     let s = c .before .before .before .before .before in
     let p = passed (c .before) in
-    (size-accepted (s .args .n) (p .0), omega arith, room (s .args .n) _ (p .1 .1 .1 .0), range-most c)
+    (size-accepted (s .args .n) (p .0), omega arith, block-room (s .args .n) _ (p .1 .1 .1 .0), range-most c)
 
 mul-if1 : tie.Need-mul-if1
 mul-if1 c =
@@ -69,7 +69,7 @@ refusal-at-requires c κs =
     let f = c .before in
     let s = f .before .before .before .before .before .before in
     let p = passed (f .before .before) in
-    (size-accepted (s .args .n) (p .0), c .if1 .taken, room (s .args .n) _ (p .1 .1 .1 .0), range-most (f .before))
+    (size-accepted (s .args .n) (p .0), c .if1 .taken, block-room (s .args .n) _ (p .1 .1 .1 .0), range-most (f .before))
 
 returns-2 : tie.Need-returns-2
 returns-2 c =

@@ -17,11 +17,12 @@ use Rattle.h265.proofs.RangeLaws.{size-bound}
 use Rattle.refusal.specs.declared.Refusal.the-variants.{PlaceOutside, WayMismatched}
 use Rattle.refusal.specs.Outcome.{answer}
 use Rattle.coefficients.specs.Outside.{outsideRefusal}
-use Rattle.edited_block.specs.Columns.{columnCount}
-use Rattle.edited_block.specs.Edit.{Buffers, buffers, stopped, editedBuffers, withColumns, BlockAsk}
-use Rattle.edited_block.specs.Opening.{rangeOf}
-use Rattle.edited_block.proofs.OpeningLaws.{Fits}
-use Rattle.edited_block.proofs.LadderLaws.{ladder-passed, fits-ask, openingOf, edit-refused, edit-way, edit-place, edit-outside, edit-done, edits-stopped}
+use Rattle.block_rules.specs.Columns.{columnCount}
+use Rattle.block_rules.specs.Edit.{Buffers, buffers, stopped, editedBuffers, withColumns}
+use Rattle.block_rules.specs.Work.{EditNeeds}
+use Rattle.block_rules.specs.Opening.{rangeOf}
+use Rattle.block_laws.proofs.OpeningLaws.{Fits}
+use Rattle.block_laws.proofs.LadderLaws.{ladder-passed, fits-ask, openingOf, edit-refused, edit-way, edit-place, edit-outside, edit-done, edits-stopped}
 use Rattle.edited_block.proofs.edit_core.Statement.{statement}
 use Rattle.edited_block.proofs.edit_core.Tie as tie
 
@@ -50,7 +51,7 @@ fits c =
     let s = c .before .before .before in
     ladder-passed (openingOf (s .args .block)) (lent s) (ap answer (sym (c .enum-told .given .1)) ∙ c .before .before .block-refusal .ensures)
 
-ask : (c : tie.After-enum-told) → BlockAsk (c .before .before .before .args .block .kind) (c .before .before .before .args .block .size) (c .before .before .before .args .block .depth) (rangeOf (openingOf (c .before .before .before .args .block))) (length (c .before .before .before .args .coeff .now)) (length (c .before .before .before .args .inter .now)) (length (c .before .before .before .args .residual .now))
+ask : (c : tie.After-enum-told) → EditNeeds (c .before .before .before .args .block .kind) (c .before .before .before .args .block .size) (c .before .before .before .args .block .depth) (rangeOf (openingOf (c .before .before .before .args .block))) (length (c .before .before .before .args .coeff .now)) (length (c .before .before .before .args .inter .now)) (length (c .before .before .before .args .residual .now))
 ask c = fits-ask (openingOf (c .before .before .before .args .block)) (lent (c .before .before .before)) (fits c)
 
 returns-2 : tie.Need-returns-2

@@ -1,9 +1,9 @@
 -- `edited_block::open_block` meets its contract: an opening whose source is nothing.
 use mathlib.Core.Path.{_≡_, subst}
 use borrow.Author.Needs.{needs}
-use Rattle.edited_block.specs.declared.Source.{Source}
-use Rattle.edited_block.specs.Edit.{buffers, opened, Opens}
-use Rattle.edited_block.specs.Opening.{openedAs}
+use Rattle.block_rules.specs.declared.Source.{Source}
+use Rattle.block_rules.specs.Edit.{buffers, opened, Opens}
+use Rattle.block_rules.specs.Opening.{openedAs}
 use Rattle.edited_block.proofs.open_block.Statement.{statement}
 use Rattle.edited_block.proofs.open_block.Tie as tie
 

@@ -9,10 +9,11 @@ use lib.ListN.{length}
 use Rattle.integers.specs.Lists.{overwrite}
 use Rattle.h265.specs.Transform.{rowOrder}
 use Rattle.refusal.specs.Outcome.{answer}
-use Rattle.edited_block.specs.Edit.{zeroSource, residualOf, BlockAsk}
-use Rattle.edited_block.specs.Opening.{Opening, rangeOf}
-use Rattle.edited_block.proofs.OpeningLaws.{Fits}
-use Rattle.edited_block.proofs.LadderLaws.{ladder-passed, fits-ask, staged, refresh-refused, refresh-done}
+use Rattle.block_rules.specs.Edit.{zeroSource, residualOf}
+use Rattle.block_rules.specs.Work.{EditNeeds}
+use Rattle.block_rules.specs.Opening.{Opening, rangeOf}
+use Rattle.block_laws.proofs.OpeningLaws.{Fits}
+use Rattle.block_laws.proofs.LadderLaws.{ladder-passed, fits-ask, staged, refresh-refused, refresh-done}
 use Rattle.edited_block.proofs.refresh_residual.Statement.{statement}
 use Rattle.edited_block.proofs.refresh_residual.Tie as tie
 
@@ -41,7 +42,7 @@ fits c =
     let s = c .before .before .before in
     ladder-passed (opening s) (staged (s .args .inter .now) (s .args .residual .now)) (ap answer (sym (c .enum-told .given .1)) ∙ c .before .before .block-refusal .ensures)
 
-ask : (c : tie.After-enum-told) → BlockAsk (c .before .before .before .args .kind) (c .before .before .before .args .n) (c .before .before .before .args .bit-depth) (rangeOf (opening (c .before .before .before))) 1024 (length (c .before .before .before .args .inter .now)) (length (c .before .before .before .args .residual .now))
+ask : (c : tie.After-enum-told) → EditNeeds (c .before .before .before .args .kind) (c .before .before .before .args .n) (c .before .before .before .args .bit-depth) (rangeOf (opening (c .before .before .before))) 1024 (length (c .before .before .before .args .inter .now)) (length (c .before .before .before .args .residual .now))
 ask c =
     let s = c .before .before .before in
     fits-ask (opening s) (staged (s .args .inter .now) (s .args .residual .now)) (fits c)

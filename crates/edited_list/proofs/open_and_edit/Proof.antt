@@ -4,11 +4,11 @@ use mathlib.Core.List.{List}
 use Prim.Native.Nat.{ℕ}
 use borrow.Author.Needs.{needs}
 use lib.ListN.{length}
-use Rattle.edited_block.specs.Edit.{Buffers, buffers}
-use Rattle.edited_block.specs.Opening.{Opening, onCoefficients}
+use Rattle.block_rules.specs.Edit.{Buffers, buffers}
+use Rattle.block_rules.specs.Opening.{Opening, onCoefficients}
 use Rattle.edited_history.specs.History.{Edit}
 use Rattle.edited_history.specs.Run.{heldOpened}
-use Rattle.edited_list.specs.Listed.{Slices, slices, editCount, editsOf}
+use Rattle.edited_steps.specs.Steps.{Slices, slices, editCount, editsOf}
 use Rattle.edited_list.proofs.ListedLaws.{opens-held, lists-after}
 use Rattle.edited_list.proofs.open_and_edit.Statement.{statement}
 use Rattle.edited_list.proofs.open_and_edit.Tie as tie

@@ -46,14 +46,14 @@ use denote.Triple.Clauses.{ensured, lasts}
 use denote.Triple.Table.{entered, cited}
 use denote.Triple.Walked.{says, Stays, stay-none, gave-slice, walkOf, goes-none, goes-gave-slice, Walks, ends-at, walked, walk-meets}
 use denote.Exit.{yes}
-use Rattle.edited_block.specs.declared.EditedBlock.{EditedBlock}
-use Rattle.edited_block.specs.declared.Opened.{Opened}
+use Rattle.block_rules.specs.declared.EditedBlock.{EditedBlock}
+use Rattle.block_rules.specs.declared.Opened.{Opened}
 use Rattle.refusal.specs.declared.Answer.{Answer}
-use Rattle.edited_block.specs.Edit.{buffers, edited, Edits}
-use Rattle.edited_block.proofs.EditedBlock as T
-use Rattle.edited_block.proofs.EditedBlock.Laws as T′
-use Rattle.edited_block.proofs.Opened as D
-use Rattle.edited_block.proofs.Opened.Laws as D′
+use Rattle.block_rules.specs.Edit.{buffers, edited, Edits}
+use Rattle.block_rules.proofs.EditedBlock as T
+use Rattle.block_rules.proofs.EditedBlock.Laws as T′
+use Rattle.block_rules.proofs.Opened as D
+use Rattle.block_rules.proofs.Opened.Laws as D′
 use Rattle.refusal.proofs.Answer as S
 use Rattle.refusal.proofs.Answer.Laws as S′
 use Rattle.edited_record.proofs.edit as edit

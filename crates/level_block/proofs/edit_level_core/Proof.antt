@@ -18,15 +18,15 @@ use Rattle.refusal.specs.declared.Refusal.the-variants.{PlaceOutside, WayMismat
 use Rattle.refusal.specs.Condition.{blockRefused}
 use Rattle.refusal.specs.Outcome.{answer, accepted, refused}
 use Rattle.refusal.proofs.ConditionLaws.{size-accepted}
-use Rattle.edited_block.specs.declared.EditedBlock.{EditedBlock}
-use Rattle.edited_block.specs.declared.Source.{Source}
-use Rattle.edited_block.specs.Columns.{columnCount}
-use Rattle.edited_block.specs.Edit.{Buffers, Left, buffers, edited, editedBuffers, withColumns, Edits, zeroSource}
-use Rattle.edited_block.proofs.OpeningLaws.{neither}
-use Rattle.edited_block.proofs.LadderLaws.{edit-done}
-use Rattle.level_block.specs.Level.{levelLadder, lookedAt, scaledBy, limitsOf, limitsBy}
-use Rattle.level_block.proofs.ScaledLaws.{scaled-inside}
-use Rattle.level_block.proofs.LevelLaws.{EditFits, levels-passed, plain, plain-fits, level-edit-refused, level-edit-way, level-edit-place, level-edit-ends, level-edits-stopped}
+use Rattle.block_rules.specs.declared.EditedBlock.{EditedBlock}
+use Rattle.block_rules.specs.declared.Source.{Source}
+use Rattle.block_rules.specs.Columns.{columnCount}
+use Rattle.block_rules.specs.Edit.{Buffers, Left, buffers, edited, editedBuffers, withColumns, Edits, zeroSource}
+use Rattle.block_laws.proofs.LadderLaws.{edit-done}
+use Rattle.block_rules.specs.Level.{levelLadder, lookedAt, scaledBy, limitsBy}
+use Rattle.level_work.specs.Work.{limitsOf}
+use Rattle.block_laws.proofs.LevelLaws.{scaled-inside, EditFits, levels-passed, plain, plain-fits, level-edit-refused, level-edit-way, level-edit-place, level-edit-ends, level-edits-stopped}
+use Rattle.integers.proofs.TestLaws.{neither}
 use Rattle.level_block.proofs.edit_level_core.Statement.{statement}
 use Rattle.level_block.proofs.edit_level_core.Tie as tie
 

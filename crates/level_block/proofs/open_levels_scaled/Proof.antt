@@ -6,12 +6,13 @@ use borrow.Author.Needs.{needs}
 use lib.IntN.{ℤ}
 use lib.ListN.{length}
 use Rattle.refusal.specs.Outcome.{answer}
-use Rattle.edited_block.specs.declared.Source.{Source}
-use Rattle.edited_block.specs.Edit.{Buffers, buffers, opened, Opens}
-use Rattle.edited_block.specs.Opening.{Opening, openedAs}
-use Rattle.level_block.specs.Level.{onScaledLevels, scaledBuffers, levelOpened, LevelOpens}
-use Rattle.level_block.proofs.LevelLaws.{levels-passed}
-use Rattle.level_block.proofs.LevelOpeningLaws.{list-whole, OpenFits, level-open-refused, scaled-whole, level-open-ends, level-opens-stopped}
+use Rattle.block_rules.specs.declared.Source.{Source}
+use Rattle.block_rules.specs.Edit.{Buffers, buffers, opened, Opens}
+use Rattle.block_rules.specs.Opening.{Opening, openedAs}
+use Rattle.block_rules.specs.Level.{onScaledLevels, scaledBuffers, levelOpened, LevelOpens}
+use Rattle.block_laws.proofs.LevelLaws.{levels-passed}
+use Rattle.block_laws.proofs.LevelOpeningLaws.{OpenFits, level-open-refused, scaled-whole, level-open-ends, level-opens-stopped}
+use Rattle.refusal.proofs.ConditionLaws.{list-whole}
 use Rattle.level_block.proofs.open_levels_scaled.Statement.{statement}
 use Rattle.level_block.proofs.open_levels_scaled.Tie as tie
 

@@ -2,7 +2,8 @@
 use mathlib.Core.Path.{refl}
 use borrow.Author.Needs.{needs}
 use Rattle.h265.specs.Matrix.{foldingValues, folding, foldedEntry, foldedAngle, transMatrix32, transMatrix}
-use Rattle.lines.proofs.SplitLaws.{allBelow, mirrors}
+use Rattle.integers.proofs.TestLaws.{allBelow}
+use Rattle.lines.proofs.SplitLaws.{mirrors}
 use Rattle.lines.proofs.FoldLaws.{fold}
 use Rattle.lines_quarter.proofs.l16q_16.Statement.{statement}
 use Rattle.lines_quarter.proofs.l16q_16.Tie as tie

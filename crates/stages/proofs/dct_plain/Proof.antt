@@ -1,20 +1,21 @@
 -- `stages::dct_plain` meets its contract: a block with one column and one row in use is filled with its one value, any other is worked out.
 use native.Mathlib.Omega.{arith}
 use Rattle.coefficients.proofs.RowsLaws.{rowsUsed-more}
-use Rattle.stages.proofs.PlainLaws.{size-bounds, blockAsk-columns, result-columns}
+use Rattle.h265.proofs.RangeLaws.{size-bound}
+use Rattle.stages.proofs.PlainLaws.{blockNeeds-columns, result-columns}
 use borrow.Author.Needs.{needs}
 use Rattle.stages.proofs.dct_plain.Statement.{statement}
 use Rattle.stages.proofs.dct_plain.Tie as tie
 
 rows-used-requires : tie.Need-rows-used-requires
-rows-used-requires c κs = (c .before .pre .1 .long, omega (arith, size-bounds (c .before .args .n) (c .before .pre .0)), size-bounds (c .before .args .n) (c .before .pre .0) .1)
+rows-used-requires c κs = (c .before .pre .1 .long, omega (arith, size-bound (c .before .args .n) (c .before .pre .0)), size-bound (c .before .args .n) (c .before .pre .0) .1)
 
 dc-fill-requires : tie.Need-dc-fill-requires
 dc-fill-requires c κs = (
-  omega (arith, size-bounds (c .before .before .before .before .args .n) (c .before .before .before .before .pre .0)),
-  size-bounds (c .before .before .before .before .args .n) (c .before .before .before .before .pre .0) .1,
-  blockAsk-columns (c .before .before .before .if1 .taken) (c .before .before .before .before .pre .1),
-  rowsUsed-more (c .before .if2 .taken) (omega (arith, size-bounds (c .before .before .before .before .args .n) (c .before .before .before .before .pre .0))) (c .before .before .rows-used .ensures),
+  omega (arith, size-bound (c .before .before .before .before .args .n) (c .before .before .before .before .pre .0)),
+  size-bound (c .before .before .before .before .args .n) (c .before .before .before .before .pre .0) .1,
+  blockNeeds-columns (c .before .before .before .if1 .taken) (c .before .before .before .before .pre .1),
+  rowsUsed-more (c .before .if2 .taken) (omega (arith, size-bound (c .before .before .before .before .args .n) (c .before .before .before .before .pre .0))) (c .before .before .rows-used .ensures),
 )
 
 same-length : tie.Need-same-length

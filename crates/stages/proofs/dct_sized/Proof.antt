@@ -1,24 +1,25 @@
 -- `stages::dct_sized` meets its contract: each arm runs its size's block.
 use mathlib.Core.Path.{_≡_}
-use Rattle.stages.proofs.PlainLaws.{size-rest, blockAsk-size, result-size}
+use Rattle.h265.proofs.RangeLaws.{size-else}
+use Rattle.stages.proofs.PlainLaws.{blockNeeds-size, result-size}
 use borrow.Author.Needs.{needs}
 use Rattle.stages.proofs.dct_sized.Statement.{statement}
 use Rattle.stages.proofs.dct_sized.Tie as tie
 
 dct-4-requires : tie.Need-dct-4-requires
-dct-4-requires c κs = blockAsk-size (c .before .match .keys1) (c .before .before .pre .1)
+dct-4-requires c κs = blockNeeds-size (c .before .match .keys1) (c .before .before .pre .1)
 
 dct-8-requires : tie.Need-dct-8-requires
-dct-8-requires c κs = blockAsk-size (c .before .match .keys2) (c .before .before .pre .1)
+dct-8-requires c κs = blockNeeds-size (c .before .match .keys2) (c .before .before .pre .1)
 
 dct-16-requires : tie.Need-dct-16-requires
-dct-16-requires c κs = blockAsk-size (c .before .match .keys3) (c .before .before .pre .1)
+dct-16-requires c κs = blockNeeds-size (c .before .match .keys3) (c .before .before .pre .1)
 
 rest : (c : tie.At-match-rest) → c .before .args .n ≡ 32
-rest c = size-rest (c .before .args .n) (c .before .pre .0) (c .match .rest .0 .0 .1) (c .match .rest .0 .1) (c .match .rest .1)
+rest c = size-else (c .before .args .n) (c .before .pre .0) (c .match .rest .0 .0 .1) (c .match .rest .0 .1) (c .match .rest .1)
 
 dct-32-requires : tie.Need-dct-32-requires
-dct-32-requires c κs = blockAsk-size (rest (c .before)) (c .before .before .pre .1)
+dct-32-requires c κs = blockNeeds-size (rest (c .before)) (c .before .before .pre .1)
 
 same-length : tie.Need-same-length
 same-length c = search needs

@@ -1,24 +1,25 @@
 -- `stages::dct_sized16` meets its contract: each arm runs its size's block.
 use mathlib.Core.Path.{_≡_}
-use Rattle.stages.proofs.PlainLaws.{size-rest, blockAsk-size, result-size}
+use Rattle.h265.proofs.RangeLaws.{size-else}
+use Rattle.stages.proofs.PlainLaws.{blockNeeds-size, result-size}
 use borrow.Author.Needs.{needs}
 use Rattle.stages.proofs.dct_sized16.Statement.{statement}
 use Rattle.stages.proofs.dct_sized16.Tie as tie
 
 dct16-4-requires : tie.Need-dct16-4-requires
-dct16-4-requires c κs = (blockAsk-size (c .before .match .keys1) (c .before .before .pre .1), c .before .before .pre .2)
+dct16-4-requires c κs = (blockNeeds-size (c .before .match .keys1) (c .before .before .pre .1), c .before .before .pre .2)
 
 dct16-8-requires : tie.Need-dct16-8-requires
-dct16-8-requires c κs = (blockAsk-size (c .before .match .keys2) (c .before .before .pre .1), c .before .before .pre .2)
+dct16-8-requires c κs = (blockNeeds-size (c .before .match .keys2) (c .before .before .pre .1), c .before .before .pre .2)
 
 dct16-16-requires : tie.Need-dct16-16-requires
-dct16-16-requires c κs = (blockAsk-size (c .before .match .keys3) (c .before .before .pre .1), c .before .before .pre .2)
+dct16-16-requires c κs = (blockNeeds-size (c .before .match .keys3) (c .before .before .pre .1), c .before .before .pre .2)
 
 rest : (c : tie.At-match-rest) → c .before .args .n ≡ 32
-rest c = size-rest (c .before .args .n) (c .before .pre .0) (c .match .rest .0 .0 .1) (c .match .rest .0 .1) (c .match .rest .1)
+rest c = size-else (c .before .args .n) (c .before .pre .0) (c .match .rest .0 .0 .1) (c .match .rest .0 .1) (c .match .rest .1)
 
 dct16-32-requires : tie.Need-dct16-32-requires
-dct16-32-requires c κs = (blockAsk-size (rest (c .before)) (c .before .before .pre .1), c .before .before .pre .2)
+dct16-32-requires c κs = (blockNeeds-size (rest (c .before)) (c .before .before .pre .1), c .before .before .pre .2)
 
 same-length : tie.Need-same-length
 same-length c = search needs

@@ -1,5 +1,5 @@
 -- `stages::residual_plain` meets its contract: 20 less the depth is the shift of stage two in the plain range, and each arm runs its kind.
-use Rattle.stages.proofs.PlainLaws.{plainAsk-block, blockAsk-size, result-dct, result-dst}
+use Rattle.stages.proofs.PlainLaws.{plainNeeds-block, blockNeeds-size, result-dct, result-dst}
 use borrow.Author.Needs.{needs}
 use Rattle.stages.proofs.residual_plain.Statement.{statement}
 use Rattle.stages.proofs.residual_plain.Tie as tie
@@ -17,7 +17,7 @@ enum-told-2 : tie.Need-enum-told-2
 enum-told-2 c = search needs
 
 dst-4-requires : tie.Need-dst-4-requires
-dst-4-requires c κs = blockAsk-size (c .before .before .before .pre .dst (c .before .enum-told2 .given .1)) (plainAsk-block (c .before .before .before .pre))
+dst-4-requires c κs = blockNeeds-size (c .before .before .before .pre .dst (c .before .enum-told2 .given .1)) (plainNeeds-block (c .before .before .before .pre))
 
 same-length : tie.Need-same-length
 same-length c = search needs

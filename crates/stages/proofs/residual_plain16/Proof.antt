@@ -1,6 +1,6 @@
 -- `stages::residual_plain16` meets its contract: 20 less the depth is the shift of stage two in the plain range, and each arm runs its kind.
 use native.Mathlib.Omega.{arith}
-use Rattle.stages.proofs.PlainLaws.{plainAsk-block, blockAsk-size, result-dct, result-dst}
+use Rattle.stages.proofs.PlainLaws.{plainNeeds-block, blockNeeds-size, result-dct, result-dst}
 use borrow.Author.Needs.{needs}
 use Rattle.stages.proofs.residual_plain16.Statement.{statement}
 use Rattle.stages.proofs.residual_plain16.Tie as tie
@@ -12,13 +12,13 @@ enum-told : tie.Need-enum-told
 enum-told c = search needs
 
 dct-plain16-requires : tie.Need-dct-plain16-requires
-dct-plain16-requires c κs = (c .before .before .before .pre .0 .size, plainAsk-block (c .before .before .before .pre .0), omega (arith, c .before .before .before .pre .1))
+dct-plain16-requires c κs = (c .before .before .before .pre .0 .size, plainNeeds-block (c .before .before .before .pre .0), omega (arith, c .before .before .before .pre .1))
 
 enum-told-2 : tie.Need-enum-told-2
 enum-told-2 c = search needs
 
 dst16-4-requires : tie.Need-dst16-4-requires
-dst16-4-requires c κs = (blockAsk-size (c .before .before .before .pre .0 .dst (c .before .enum-told2 .given .1)) (plainAsk-block (c .before .before .before .pre .0)), omega (arith, c .before .before .before .pre .1))
+dst16-4-requires c κs = (blockNeeds-size (c .before .before .before .pre .0 .dst (c .before .enum-told2 .given .1)) (plainNeeds-block (c .before .before .before .pre .0)), omega (arith, c .before .before .before .pre .1))
 
 same-length : tie.Need-same-length
 same-length c = search needs

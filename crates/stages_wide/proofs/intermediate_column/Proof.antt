@@ -2,9 +2,9 @@
 use mathlib.Core.Path.{_≡_}
 use native.Mathlib.Omega.{arith}
 use borrow.Author.Needs.{needs}
+use Rattle.h265.proofs.RangeLaws.{size-else}
 use Rattle.stages_wide.proofs.ColumnLaws.{columnPlaced-replaced}
-use Rattle.stages_wide.proofs.ResultLaws.{sizeAsk-seven, column-four, column-dct}
-use Rattle.stages_wide.proofs.SizeLaws.{size-else}
+use Rattle.stages_wide.proofs.ResultLaws.{sizeNeeds-seven, column-four, column-dct}
 use Rattle.stages_wide.proofs.intermediate_column.Statement.{statement}
 use Rattle.stages_wide.proofs.intermediate_column.Tie as tie
 
@@ -12,16 +12,16 @@ is-32 : (c : tie.At-match-rest) → c .before .args .n ≡ 32
 is-32 c = let r = c .match .rest in size-else (c .before .args .n) (c .before .pre .0 .size) (r .0 .0 .1) (r .0 .1) (r .1)
 
 column-4-requires : tie.Need-column-4-requires
-column-4-requires c κs = (sizeAsk-seven (c .before .match .keys1) (c .before .before .pre .0), omega (arith, c .before .match .keys1, c .before .before .pre .1))
+column-4-requires c κs = (sizeNeeds-seven (c .before .match .keys1) (c .before .before .pre .0), omega (arith, c .before .match .keys1, c .before .before .pre .1))
 
 column-8-requires : tie.Need-column-8-requires
-column-8-requires c κs = (sizeAsk-seven (c .before .match .keys2) (c .before .before .pre .0), omega (arith, c .before .match .keys2, c .before .before .pre .1))
+column-8-requires c κs = (sizeNeeds-seven (c .before .match .keys2) (c .before .before .pre .0), omega (arith, c .before .match .keys2, c .before .before .pre .1))
 
 column-16-requires : tie.Need-column-16-requires
-column-16-requires c κs = (sizeAsk-seven (c .before .match .keys3) (c .before .before .pre .0), omega (arith, c .before .match .keys3, c .before .before .pre .1))
+column-16-requires c κs = (sizeNeeds-seven (c .before .match .keys3) (c .before .before .pre .0), omega (arith, c .before .match .keys3, c .before .before .pre .1))
 
 column-32-requires : tie.Need-column-32-requires
-column-32-requires c κs = (sizeAsk-seven (is-32 (c .before)) (c .before .before .pre .0), omega (arith, is-32 (c .before), c .before .before .pre .1))
+column-32-requires c κs = (sizeNeeds-seven (is-32 (c .before)) (c .before .before .pre .0), omega (arith, is-32 (c .before), c .before .before .pre .1))
 
 returns : tie.Need-returns
 returns c =

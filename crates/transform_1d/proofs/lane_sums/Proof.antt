@@ -3,7 +3,7 @@ use Prim.Native.Nat.{_+_, _*_, _≤_, _<_, _-_}
 use native.Mathlib.Omega.{arith}
 use Rattle.transform_1d.specs.Kernel.{HalfSums}
 use Rattle.transform_1d.proofs.KernelLaws.{halfSums-zero, halfSums-all}
-use Rattle.transform_1d.proofs.LanesLaws.{lineAsk-group}
+use Rattle.transform_1d.proofs.LanesLaws.{lineNeeds-group}
 use Rattle.transform_1d.proofs.lane_sums.Statement.{statement}
 use Rattle.transform_1d.proofs.lane_sums.Tie as tie
 
@@ -17,7 +17,7 @@ loop-holds : tie.Need-loop-holds Inv-loop μ-loop
 loop-holds c = (omega arith, halfSums-zero _ _ _ _)
 
 add-group-requires : tie.Need-add-group-requires Inv-loop μ-loop
-add-group-requires c κs = (lineAsk-group (c .before .before .before .pre) (c .before .before .loop .q) (omega arith), c .before .before .loop .inv .1)
+add-group-requires c κs = (lineNeeds-group (c .before .before .before .pre) (c .before .before .loop .q) (omega arith), c .before .before .loop .inv .1)
 
 add-q : tie.Need-add-q Inv-loop μ-loop
 add-q c = omega arith

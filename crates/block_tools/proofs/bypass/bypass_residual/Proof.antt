@@ -4,7 +4,7 @@ use native.Mathlib.Omega.{arith}
 use borrow.Author.Needs.{needs}
 use Rattle.h265.proofs.RangeLaws.{size-square}
 use Rattle.refusal.specs.Outcome.{answer}
-use Rattle.block_tools.proofs.ResidualLaws.{Passes, bypass-passed, bypass-block, bypass-modified, bypass-refused}
+use Rattle.block_tool_work.proofs.ResidualLaws.{Passes, bypass-passed, bypass-block, bypass-modified, bypass-refused}
 use Rattle.block_tools.proofs.bypass.bypass_residual.Statement.{statement}
 use Rattle.block_tools.proofs.bypass.bypass_residual.Tie as tie
 

@@ -5,8 +5,8 @@ use borrow.Author.Needs.{needs}
 use Rattle.h265.specs.ScalingFactor.ScalingList.{flat}
 use Rattle.scaling_blocks.specs.Blocks.{bits32, transformSkipped, CountWrites}
 use Rattle.scaling_blocks.specs.declared.CountAnswer.{CountAnswer}
-use Rattle.block_tools.specs.Work.{rotationNamed}
-use Rattle.block_tools.proofs.ResidualLaws.{Skipped, skip-named, skip-done, skip-block, skip-modified, skip-refused}
+use Rattle.block_tool_work.specs.Work.{rotationNamed}
+use Rattle.block_tool_work.proofs.ResidualLaws.{Skipped, skip-named, skip-done, skip-block, skip-modified, skip-refused}
 use Rattle.block_tools.proofs.skip.transform_skip_residual.Statement.{statement}
 use Rattle.block_tools.proofs.skip.transform_skip_residual.Tie as tie
 

@@ -1,7 +1,7 @@
 -- `c_api::answers::checksum_answered` meets its contract: the sum, or what `refused` answers with the value 0.
 use mathlib.Core.Path.{sym, ap, _∙_}
 use borrow.Author.Needs.{needs}
-use Rattle.picture.specs.Answers.{checksumOutcome}
+use Rattle.checksum.specs.Answers.{checksumOutcome}
 use Rattle.c_api.proofs.AnswersLaws.{withValue}
 use Rattle.c_api.proofs.answers.checksum_answered.Statement.{statement}
 use Rattle.c_api.proofs.answers.checksum_answered.Tie as tie

@@ -1,7 +1,7 @@
 -- `c_api::edits::level_edit_answered` meets its contract: by the answer's two cases.
 use mathlib.Core.Path.{ap, sym, _∙_}
 use borrow.Author.Needs.{needs}
-use Rattle.level_block.specs.Level.{noLimits, limitsOutcome}
+use Rattle.block_rules.specs.Level.{noLimits, limitsOutcome}
 use Rattle.edited_history.specs.Run.{valued}
 use Rattle.c_api.proofs.edits.level_edit_answered.Statement.{statement}
 use Rattle.c_api.proofs.edits.level_edit_answered.Tie as tie

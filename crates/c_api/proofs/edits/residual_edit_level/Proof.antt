@@ -1,4 +1,4 @@
--- `c_api::edits::residual_edit_level` meets its contract: the record and the buffers are what `edited_record::edit_level_by_value` handed back and left.
+-- `c_api::edits::residual_edit_level` meets its contract: the record and the buffers are what `level_record::edit_level_by_value` handed back and left.
 use mathlib.Core.Path.{_≡_}
 use mir.Syntax.{w32}
 use mir.Val.{toZ, ofZ}

@@ -1,4 +1,4 @@
--- `c_api::pictures::picture_checksum` meets its contract: the record holds what `picture::picture_checksum` answered.
+-- `c_api::pictures::picture_checksum` meets its contract: the record holds what `checksum::picture_checksum` answered.
 use mathlib.Core.Path.{_∙_}
 use borrow.Author.Needs.{needs}
 use Rattle.c_api.proofs.pictures.picture_checksum.Statement.{statement}

@@ -2,7 +2,7 @@
 use mathlib.Core.Path.{_≡_, refl}
 use Prim.Native.Nat.{ℕ, zero, suc}
 use borrow.Author.Needs.{needs}
-use Rattle.block_tools.specs.declared.Accumulate.the-variants.{DownColumns}
+use Rattle.block_tool_rules.specs.declared.Accumulate.the-variants.{DownColumns}
 use Rattle.c_api.specs.Tools.{accumulateOf}
 use Rattle.c_api.proofs.tools.accumulate_of.Statement.{statement}
 use Rattle.c_api.proofs.tools.accumulate_of.Tie as tie

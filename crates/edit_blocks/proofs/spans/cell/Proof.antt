@@ -7,7 +7,7 @@ use mir.Syntax.{w64}
 use mir.Val.{SFits}
 use Rattle.integers.proofs.MachineLaws.{round-trip}
 use Rattle.h265.specs.Transform.{blockAt}
-use Rattle.edit_blocks.proofs.TableLaws.{place}
+use Rattle.edit_tables.proofs.TableLaws.{place}
 use Rattle.edit_blocks.proofs.spans.cell.Statement.{statement}
 use Rattle.edit_blocks.proofs.spans.cell.Tie as tie
 

@@ -11,7 +11,7 @@ use mir.Val.{SFits}
 use Rattle.integers.proofs.MachineLaws.{round-trip}
 use Rattle.integers.proofs.BoundLaws.{within-eq, within-sfits}
 use Rattle.h265.specs.Transform.{blockAt}
-use Rattle.edit_blocks.proofs.TableLaws.{place}
+use Rattle.edit_tables.proofs.TableLaws.{place}
 use Rattle.edit_blocks.proofs.spans.target_cell.Statement.{statement}
 use Rattle.edit_blocks.proofs.spans.target_cell.Tie as tie
 

@@ -7,14 +7,15 @@ use borrow.Author.Needs.{needs}
 use lib.ListN.{length, drop-of-length-le}
 use Rattle.text.specs.Text.{Wrote}
 use Rattle.text.proofs.WroteLaws.{left-last, counts}
-use Rattle.feed_block.specs.Format.{recordRoom}
-use Rattle.feed_records.specs.Buffers.{Lent, lent}
-use Rattle.feed_records.specs.Taken.{Ample}
-use Rattle.feed.specs.Feed.{feedText}
-use Rattle.feed.specs.Answers.{feedRoom}
-use Rattle.feed.specs.Steps.{bufferedText}
-use Rattle.feed.proofs.FollowLaws.{buffers-follow-history}
-use Rattle.feed.proofs.WalkLaws.{walkText, room-last, Going, going-start, going-room, Turn, turn, going-more, going-done}
+use Rattle.feed_format.proofs.RoomLaws.{room-last}
+use Rattle.feed_format.specs.Room.{feedRoom}
+use Rattle.feed_format.specs.Format.{recordRoom}
+use Rattle.feed_state.specs.Buffers.{Lent, lent}
+use Rattle.feed_state.specs.Taken.{Ample}
+use Rattle.feed_rules.specs.Feed.{feedText}
+use Rattle.feed_history.specs.Steps.{bufferedText}
+use Rattle.feed_history.proofs.FollowLaws.{buffers-follow-history}
+use Rattle.feed_history.proofs.WalkLaws.{walkText, Going, going-start, going-room, Turn, turn, going-more, going-done}
 use Rattle.feed.proofs.FeedLaws.{feedWalk, Answered, feed-refused, feed-passed}
 use Rattle.feed.proofs.stream.run_within.Statement.{statement}
 use Rattle.feed.proofs.stream.run_within.Tie as tie

@@ -6,12 +6,13 @@ use native.Mathlib.Omega.{arith}
 use borrow.Author.Needs.{needs}
 use borrow.Author.Tests.{lt-ltb, le-ltb}
 use lib.ListN.{length}
-use Rattle.feed_block.specs.Format.{recordRoom}
-use Rattle.feed_records.specs.Record.{recordEffect}
-use Rattle.feed_records.specs.Buffers.{Lent, lent, inBuffers}
-use Rattle.feed_records.specs.Taken.{stateOf, Ample}
-use Rattle.feed.specs.Answers.{tooShort, steppingBy}
-use Rattle.feed.proofs.StepLaws.{long-buffers, enough-room, steps-none, steps-done, steps-refused}
+use Rattle.feed_format.specs.Format.{recordRoom}
+use Rattle.feed_rules.specs.Record.{recordEffect}
+use Rattle.feed_state.specs.Buffers.{Lent, lent, inBuffers}
+use Rattle.feed_state.specs.Taken.{stateOf, Ample}
+use Rattle.feed_history.specs.Stepping.{tooShort, steppingBy}
+use Rattle.feed_history.proofs.StepsLaws.{enough-room}
+use Rattle.feed.proofs.StepLaws.{long-buffers, steps-none, steps-done, steps-refused}
 use Rattle.feed.proofs.stream.step.Statement.{statement}
 use Rattle.feed.proofs.stream.step.Tie as tie
 

@@ -1,7 +1,7 @@
 -- `feed_block::block::open_body` meets its contract: nothing of the opening's table applies.
 use borrow.Author.Needs.{needs}
-use Rattle.edited_block.specs.Edit.{buffers}
-use Rattle.feed_block.specs.Block.{listIn}
+use Rattle.block_rules.specs.Edit.{buffers}
+use Rattle.feed_rules.specs.Block.{listIn}
 use Rattle.feed_block.proofs.OpenLaws.{opens-block}
 use Rattle.feed_block.proofs.block.open_body.Statement.{statement}
 use Rattle.feed_block.proofs.block.open_body.Tie as tie

@@ -7,7 +7,7 @@ use Rattle.feed_block.proofs.ScaleLaws.{list-used, skipped-out}
 use lib.ListN.{length}
 use lib.IntN.{pos}
 use Rattle.h265.specs.ScalingFactor.ScalingList.{flat, listed}
-use Rattle.feed_block.specs.declared.Mode.the-variants.{Skip}
+use Rattle.feed_format.specs.declared.Mode.the-variants.{Skip}
 use Rattle.feed_block.proofs.block.skip.Statement.{statement}
 use Rattle.feed_block.proofs.block.skip.Tie as tie
 

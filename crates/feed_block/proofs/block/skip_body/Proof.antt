@@ -7,8 +7,8 @@ use native.Mathlib.Omega.{arith}
 use lib.ListN.{length, take}
 use Rattle.integers.proofs.ListsLaws.{tabulate-length, overwrite-take}
 use Rattle.h265.proofs.RangeLaws.{size-square}
-use Rattle.feed_block.specs.Format.{levelsOf}
-use Rattle.feed_block.specs.Block.{residualAt, residualBy, blockLimited}
+use Rattle.feed_format.specs.Format.{levelsOf}
+use Rattle.feed_rules.specs.Block.{residualAt, residualBy, blockLimited}
 use Rattle.feed_block.proofs.block.skip_body.Statement.{statement}
 use Rattle.feed_block.proofs.block.skip_body.Tie as tie
 

@@ -6,10 +6,10 @@ use native.Mathlib.Omega.{arith}
 use borrow.Author.Needs.{needs, sfits-of}
 use borrow.Author.Tests.{not-true, not-false}
 use Rattle.integers.proofs.MachineLaws.{round-trip}
-use Rattle.edited_block.specs.Edit.{buffers}
-use Rattle.level_block.specs.Level.{levelEdited, LevelEdits}
-use Rattle.feed_block.specs.Format.{editRow, editColumn, editLevel}
-use Rattle.feed_records.specs.Buffers.{Lent, lent}
+use Rattle.block_rules.specs.Edit.{buffers}
+use Rattle.block_rules.specs.Level.{levelEdited, LevelEdits}
+use Rattle.feed_format.specs.Format.{editRow, editColumn, editLevel}
+use Rattle.feed_state.specs.Buffers.{Lent, lent}
 use Rattle.feed_records.proofs.HeldLaws.{edit-closed, edit-kept, edit-moved}
 use Rattle.feed_records.proofs.open_block.take_edit.Statement.{statement}
 use Rattle.feed_records.proofs.open_block.take_edit.Tie as tie

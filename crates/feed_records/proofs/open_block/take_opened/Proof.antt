@@ -2,7 +2,7 @@
 use borrow.Author.Needs.{needs}
 use native.Mathlib.Omega.{arith}
 use Rattle.h265.proofs.RangeLaws.{size-square}
-use Rattle.feed_records.specs.Buffers.{lent}
+use Rattle.feed_state.specs.Buffers.{lent}
 use Rattle.feed_records.proofs.HeldLaws.{opened-takes}
 use Rattle.feed_records.proofs.open_block.take_opened.Statement.{statement}
 use Rattle.feed_records.proofs.open_block.take_opened.Tie as tie

@@ -3,18 +3,15 @@ use borrow.Author.Needs.{needs}
 use mathlib.Core.Path.{_≡_, sym, _∙_}
 use mathlib.Core.Bool.{true, false}
 use Prim.Native.Nat.{_*_, _≤_}
-use native.Mathlib.Nat.{le-refl}
 use native.Mathlib.Omega.{arith}
 use borrow.Author.Tests.{not-true, not-false}
 use lib.Dec.{T}
-use lib.Seq.{length-take-le}
 use Rattle.h265.specs.Range.{isSize}
 use Rattle.h265.proofs.RangeLaws.{size-square}
 use Rattle.refusal.specs.Condition.{sizeRefused}
 use Rattle.refusal.proofs.ConditionLaws.{size-accepted}
-use Rattle.text.proofs.WroteLaws.{wrote-more}
-use Rattle.feed_records.specs.Buffers.{lent}
-use Rattle.feed_records.proofs.StateLaws.{quiet-takes}
+use Rattle.feed_state.specs.Buffers.{lent}
+use Rattle.feed_state.proofs.StateLaws.{quiet-takes}
 use Rattle.feed_records.proofs.HeldLaws.{reading-closed, reading-sized, reading-takes}
 use Rattle.feed_records.proofs.open_block.take_reading.Statement.{statement}
 use Rattle.feed_records.proofs.open_block.take_reading.Tie as tie
@@ -53,22 +50,11 @@ known c = size-accepted (c .before .before .before .before .before .args .s .blo
 few : (c : tie.Else2) → let n = c .before .before .before .before .before .args .s .block .size in n * n ≤ 1024
 few c = size-square (c .before .before .before .before .before .args .s .block .size) (known c)
 
-mul-count : tie.Need-mul-count
-mul-count c = omega (arith, few c)
-
-slice-aggregate-put-block : tie.Need-slice-aggregate-put-block
-slice-aggregate-put-block c = sym (length-take-le _ _ (omega (arith, few (c .before), c .before .before .before .before .before .before .pre .0)))
-
-put-block-requires : tie.Need-put-block-requires
-put-block-requires c κs =
-    let s = c .before .before .before .before .before .before .before in
-    let q = few (c .before .before) in
-    (rw (length-take-le (s .args .s .block .size * s .args .s .block .size) (s .args .residual .now) (omega (arith, q, s .pre .0))) (le-refl _), omega (arith, q, s .pre .1))
-
-put-columns-requires : tie.Need-put-columns-requires
-put-columns-requires c κs =
-    let b = c .before .before .before in
-    omega (arith, few (c .before .before .before .before .before .before), c .before .before .before .before .before .before .before .before .before .before .before .pre .1, b .put-block .ensures .bound, b .put-block .kept .1 .1 .0)
+put-reading-requires : tie.Need-put-reading-requires
+put-reading-requires c κs =
+    let z = c .before in
+    let s = z .before .before .before .before .before in
+    (known z, omega (arith, few z, s .pre .0), omega (arith, few z, s .pre .1))
 
 with-open-requires : tie.Need-with-open-requires
 with-open-requires c κs = search needs
@@ -85,15 +71,14 @@ fits c = omega arith
 returns-3 : tie.Need-returns-3
 returns-3 c =
     let p = c .before .before .before .before in
-    let b = c .before .before .before .before .before .before .before .before in
-    let z = c .before .before .before .before .before .before .before .before .before .before .before in
-    let s = c .before .before .before .before .before .before .before .before .before .before .before .before .before .before .before .before in
+    let z = p .before .before in
+    let s = z .before .before .before .before .before in
     let e = s .args .residual .now in
     rw (c .moved .ensures, c .before .with-open .ensures)
     (record {
       leaves = λ ls d g.
-          reading-takes (s .args .s) (lent ls d g e) (not-false (s .args .s .editing) (c .before .before .before .before .before .before .before .before .before .before .before .before .before .before .if1 .left)) (sized z) (fits s)
-          (record { wrote = wrote-more (b .put-block .ensures .wrote) (p .put-columns .ensures .wrote); bound = omega (arith, few z, b .put-block .ensures .bound, p .put-columns .ensures .bound) });
+          reading-takes (s .args .s) (lent ls d g e) (not-false (s .args .s .editing) (z .before .before .before .if1 .left)) (sized z) (fits s)
+          (record { wrote = p .put-reading .ensures .wrote; bound = omega (arith, few z, p .put-reading .ensures .bound) });
     })
 
 pub take-reading-spec : {M : Type 1} → statement M
@@ -105,10 +90,7 @@ take-reading-spec =
     size-refused-requires
     kept-requires-2
     returns-2
-    mul-count
-    slice-aggregate-put-block
-    put-block-requires
-    put-columns-requires
+    put-reading-requires
     with-open-requires
     moved-requires
     same-length

@@ -3,9 +3,9 @@ use borrow.Author.Needs.{needs}
 use mathlib.Core.Path.{_≡_, sym, _∙_}
 use mathlib.Core.Bool.{false}
 use Rattle.refusal.specs.Condition.{depthRefused}
-use Rattle.feed_block.specs.Block.{dstRefused}
-use Rattle.feed_records.specs.Record.{levelsBy}
-use Rattle.feed_records.proofs.StateLaws.{quiet-takes}
+use Rattle.feed_format.specs.Format.{dstRefused}
+use Rattle.feed_rules.specs.Record.{levelsBy}
+use Rattle.feed_state.proofs.StateLaws.{quiet-takes}
 use Rattle.feed_records.proofs.records.take_block.Statement.{statement}
 use Rattle.feed_records.proofs.records.take_block.Tie as tie
 

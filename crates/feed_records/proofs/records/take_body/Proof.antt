@@ -1,8 +1,8 @@
 -- `feed_records::records::take_body` meets its contract: a function for each kind.
 use borrow.Author.Needs.{needs}
 use native.Mathlib.Omega.{arith}
-use Rattle.feed_records.specs.Record.{bodyEffect}
-use Rattle.feed_records.proofs.StateLaws.{quiet-takes}
+use Rattle.feed_rules.specs.Record.{bodyEffect}
+use Rattle.feed_state.proofs.StateLaws.{quiet-takes}
 use Rattle.feed_records.proofs.records.take_body.Statement.{statement}
 use Rattle.feed_records.proofs.records.take_body.Tie as tie
 

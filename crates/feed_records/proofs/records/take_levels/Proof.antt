@@ -1,9 +1,9 @@
 -- `feed_records::records::take_levels` meets its contract: refused before there are parameters.
 use borrow.Author.Needs.{needs}
-use Rattle.feed_records.proofs.StateLaws.{quiet-takes, levels-given}
-use Rattle.feed_records.specs.Buffers.{lent, inBuffers}
-use Rattle.feed_records.specs.Taken.{stateOf}
-use Rattle.feed_records.specs.Record.{levelsBy}
+use Rattle.feed_state.proofs.StateLaws.{quiet-takes, levels-given}
+use Rattle.feed_state.specs.Buffers.{lent, inBuffers}
+use Rattle.feed_state.specs.Taken.{stateOf}
+use Rattle.feed_rules.specs.Record.{levelsBy}
 use Rattle.feed_records.proofs.records.take_levels.Statement.{statement}
 use Rattle.feed_records.proofs.records.take_levels.Tie as tie
 

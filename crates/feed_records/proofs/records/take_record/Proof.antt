@@ -6,10 +6,10 @@ use Prim.Native.Nat.{_≤_}
 use native.Mathlib.Omega.{arith}
 use borrow.Author.Tests.{lt-ltb, le-ltb}
 use lib.ListN.{length}
-use Rattle.feed_block.specs.Format.{kindOf, recordLength, recordRoom}
-use Rattle.feed_records.specs.Record.{isUnknown, recordEffect}
-use Rattle.feed_block.proofs.FormatLaws.{kind-size}
-use Rattle.feed_records.proofs.StateLaws.{quiet-takes}
+use Rattle.feed_format.specs.Format.{kindOf, recordLength, recordRoom, isUnknown}
+use Rattle.feed_rules.specs.Record.{recordEffect}
+use Rattle.feed_format.proofs.FormatLaws.{kind-size}
+use Rattle.feed_state.proofs.StateLaws.{quiet-takes}
 use Rattle.feed_records.proofs.records.take_record.Statement.{statement}
 use Rattle.feed_records.proofs.records.take_record.Tie as tie
 

@@ -3,7 +3,7 @@ use mathlib.Core.Path.{ap, _∙_}
 use borrow.Author.Needs.{needs}
 use lib.IntN.{ℤ}
 use Rattle.integers.proofs.MachineLaws.{round-trip}
-use Rattle.level_search.specs.Level.{equal}
+use Rattle.least_level.specs.Level.{equal}
 use Rattle.level_search.proofs.NearestLaws.{scaled-fits, equal-bits}
 use Rattle.level_search.proofs.nearest.scales_to.Statement.{statement}
 use Rattle.level_search.proofs.nearest.scales_to.Tie as tie

@@ -10,7 +10,7 @@ use Rattle.h265.proofs.RangeLaws.{size-square}
 use Rattle.refusal.specs.declared.Refusal.the-variants.{SizeInvalid, DepthInvalid, InputTooShort, SampleOutside, PictureInvalid}
 use Rattle.refusal.specs.Condition.{sizeRefused, depthRefused, blockRefused}
 use Rattle.refusal.proofs.ConditionLaws.{size-accepted, depth-accepted}
-use Rattle.picture.specs.Picture.{pictureRefused}
+use Rattle.planes.specs.Picture.{pictureRefused}
 use Rattle.picture.specs.Samples.{sampleMax, firstAbove}
 use Rattle.picture.specs.Rebuild.{put, Below}
 use Rattle.picture.proofs.RebuildLaws.{rebuilds-left, rebuilds-put, Checked, rebuilt-size, rebuilt-depth, rebuilt-residual, rebuilt-prediction, rebuilt-picture, rebuilt-block, rebuilt-sample, rebuilt-done, checked-inside, above-none}

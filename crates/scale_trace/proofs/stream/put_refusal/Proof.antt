@@ -1,7 +1,7 @@
 -- `scale_trace::stream::put_refusal` meets its contract: the feed's line, copied.
 use Rattle.text.proofs.WroteLaws.{wrote-none}
+use Rattle.feed_lines.proofs.LineLaws.{line-is, line-fits}
 use Rattle.scale_trace_block.proofs.LineLaws.{within}
-use Rattle.scale_trace.proofs.RunLaws.{line-is, line-fits}
 use borrow.Author.Needs.{needs}
 use native.Mathlib.Omega.{arith}
 use Rattle.scale_trace.proofs.stream.put_refusal.Statement.{statement}

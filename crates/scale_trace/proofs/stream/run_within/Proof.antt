@@ -9,10 +9,10 @@ use borrow.Author.Tests.{not-true, not-false}
 use lib.ListN.{length}
 use Rattle.text.specs.Text.{Wrote}
 use Rattle.text.proofs.WroteLaws.{left-last, left-done, counts}
-use Rattle.feed_records.specs.Buffers.{Lent, lent}
-use Rattle.feed_records.specs.Taken.{Ample}
-use Rattle.feed.proofs.WalkLaws.{walkText, Going, going-start, going-room, Turn, turn, going-more, going-done}
-use Rattle.scale_trace.specs.Trace.{traceText, listingRoom}
+use Rattle.feed_state.specs.Buffers.{Lent, lent}
+use Rattle.feed_state.specs.Taken.{Ample}
+use Rattle.feed_history.proofs.WalkLaws.{walkText, Going, going-start, going-room, Turn, turn, going-more, going-done}
+use Rattle.scale_trace_rules.specs.Trace.{traceText, listingRoom}
 use Rattle.scale_trace.proofs.RunLaws.{listingWalk, Answered, traces-full, listing-refused, listing-passed, listing-follows}
 use Rattle.scale_trace.proofs.stream.run_within.Statement.{statement}
 use Rattle.scale_trace.proofs.stream.run_within.Tie as tie

@@ -4,11 +4,11 @@ use native.Mathlib.Omega.{arith}
 use borrow.Author.Needs.{needs}
 use borrow.Author.Tests.{lt-ltb}
 use lib.ListN.{length}
-use Rattle.feed_records.specs.Buffers.{Lent, lent}
-use Rattle.feed_records.specs.Taken.{stateOf}
-use Rattle.feed.specs.Answers.{steppingBy}
+use Rattle.feed_state.specs.Buffers.{Lent, lent}
+use Rattle.feed_state.specs.Taken.{stateOf}
+use Rattle.feed_history.specs.Stepping.{steppingBy}
 use Rattle.feed.proofs.StepLaws.{steps-none}
-use Rattle.scale_trace.specs.Trace.{listRoom}
+use Rattle.scale_trace_rules.specs.Trace.{listRoom}
 use Rattle.scale_trace.proofs.StepLaws.{traced-steps}
 use Rattle.scale_trace.proofs.stream.step.Statement.{statement}
 use Rattle.scale_trace.proofs.stream.step.Tie as tie

@@ -3,10 +3,12 @@ use mathlib.Core.Path.{sym, _∙_}
 use borrow.Author.Needs.{needs}
 use borrow.Author.Tests.{not-true, not-false}
 use native.Mathlib.Omega.{arith}
-use Rattle.feed_records.specs.Buffers.{lent}
-use Rattle.feed_records.specs.Taken.{stateOf}
-use Rattle.scale_trace.specs.Trace.{listRoom, tracing}
-use Rattle.scale_trace.proofs.StepLaws.{kind-side, kind-room, Fed, fed, traced-refused, traced-accepted}
+use Rattle.feed_state.specs.Buffers.{lent}
+use Rattle.feed_state.specs.Taken.{stateOf}
+use Rattle.scale_trace_block.proofs.RoomLaws.{kind-room}
+use Rattle.scale_trace_rules.specs.Trace.{listRoom}
+use Rattle.scale_trace.specs.Work.{tracing}
+use Rattle.scale_trace.proofs.StepLaws.{kind-side, Fed, fed, traced-refused, traced-accepted}
 use Rattle.scale_trace.proofs.stream.take_record.Statement.{statement}
 use Rattle.scale_trace.proofs.stream.take_record.Tie as tie
 

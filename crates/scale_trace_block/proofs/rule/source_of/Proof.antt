@@ -1,9 +1,9 @@
 -- `scale_trace_block::rule::source_of` meets its contract: each answer is a rule of the definition.
 use mathlib.Core.Path.{_≡_, sym, _∙_}
 use mathlib.Core.Bool.{false, not}
+use Rattle.feed_format.specs.Format.{listIgnored}
+use Rattle.h265.proofs.RangeLaws.{size-else}
 use Rattle.scale_trace_block.proofs.RuleLaws.{source-none, source-skip, source-four, source-eight, source-dc, source-repeat, position-16, position-32}
-use Rattle.scaling_values.proofs.FactorLaws.{size-last}
-use Rattle.feed_block.specs.Block.{listIgnored}
 use borrow.Author.Needs.{needs}
 use Rattle.scale_trace_block.proofs.rule.source_of.Statement.{statement}
 use Rattle.scale_trace_block.proofs.rule.source_of.Tie as tie
@@ -58,7 +58,7 @@ returns-7 c =
     let e = b .before .before in
     let s = e .before .before .before in
     source-repeat _ _ _ (in-force e) (used e) (b .before .if3 .left) (b .if4 .left) (c .before .if5 .left) (s .pre .0) (s .pre .1)
-    (position-32 _ _ (size-last _ (s .pre .0) (b .before .if3 .left) (b .if4 .left) (c .if6 .left)))
+    (position-32 _ _ (size-else _ (s .pre .0) (b .before .if3 .left) (b .if4 .left) (c .if6 .left)))
 
 pub source-of-spec : {M : Type 1} → statement M
 source-of-spec =

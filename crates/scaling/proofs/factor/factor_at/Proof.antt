@@ -4,7 +4,8 @@ use Prim.Native.Nat.{ℕ, _*_}
 use native.Mathlib.Omega.{arith}
 use lib.ListN.{getD}
 use Rattle.h265.specs.ScalingFactor.{repeatedPosition}
-use Rattle.scaling_values.proofs.FactorLaws.{size-square, size-last, factor-four, factor-eight, factor-dc, factor-repeated, position-16, position-32, position-inside}
+use Rattle.scaling_values.proofs.FactorLaws.{factor-four, factor-eight, factor-dc, factor-repeated, position-16, position-32, position-inside}
+use Rattle.h265.proofs.RangeLaws.{size-else, size-square}
 use Rattle.scaling.proofs.factor.factor_at.Statement.{statement}
 use Rattle.scaling.proofs.factor.factor_at.Tie as tie
 
@@ -63,7 +64,7 @@ is-32 : (c : tie.Else4) → c .before .before .before .before .before .args .n �
 is-32 c =
     let e = c .before in
     let s = e .before .before .before .before in
-    size-last (s .args .n) (s .pre .0 .size) (e .before .before .if1 .left) (e .before .if2 .left) (c .if4 .left)
+    size-else (s .args .n) (s .pre .0 .size) (e .before .before .if1 .left) (e .before .if2 .left) (c .if4 .left)
 
 at-32 : (c : tie.After-repeated-position2) → let a = c .before .before .before .before .before .before .args in c .repeated-position2 .result ≡ repeatedPosition (a .n) (a .index)
 at-32 c =

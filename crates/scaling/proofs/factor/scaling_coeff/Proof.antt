@@ -8,8 +8,8 @@ use lib.Dec.{T}
 use Rattle.h265.specs.Range.{isSize}
 use Rattle.refusal.specs.Condition.{sizeRefused, listRefused}
 use Rattle.refusal.proofs.ConditionLaws.{size-accepted}
+use Rattle.h265.proofs.RangeLaws.{size-square}
 use Rattle.scaling.specs.Factor.{scalingCoeff}
-use Rattle.scaling_values.proofs.FactorLaws.{size-square}
 use Rattle.scaling.proofs.factor.scaling_coeff.Statement.{statement}
 use Rattle.scaling.proofs.factor.scaling_coeff.Tie as tie
 

@@ -1,109 +1,45 @@
--- `scaling_blocks::refuse::block_params` meets its contract: each answer is the rung of the ladder that the tests before it leave.
-use mathlib.Core.Path.{_≡_, sym, _∙_}
-use mathlib.Core.Bool.{false, _&&_}
-use native.Mathlib.Omega.{arith}
+-- `scaling_blocks::refuse::block_params` meets its contract: refused as the ladder says, else with the numbers of the block.
+use mathlib.Core.Path.{sym, ap, _∙_}
 use borrow.Author.Needs.{needs}
-use borrow.Author.Tests.{eq-eqb, ne-eqb, lt-ltb, le-ltb}
-use Rattle.refusal.specs.Condition.{sizeRefused, depthRefused, widthRefused, listRefused, blockRefused}
-use Rattle.refusal.proofs.ConditionLaws.{size-accepted}
-use Rattle.parameters.specs.Parameters.{transformSkipParams}
-use Rattle.scaling_blocks.specs.Blocks.{blockLadder, blockParams}
-use Rattle.scaling_values.proofs.FactorLaws.{size-square}
+use Rattle.refusal.specs.Outcome.{answer}
+use Rattle.scaling_blocks.proofs.BlockLaws.{refused-params, passed-params}
 use Rattle.scaling_blocks.proofs.refuse.block_params.Statement.{statement}
 use Rattle.scaling_blocks.proofs.refuse.block_params.Tie as tie
 
--- ---- what has been passed at each place
-size-ok : (c : tie.Else1) → sizeRefused (c .before .before .args .n) ≡ false
-size-ok c = sym (c .before .size-refused .ensures) ∙ c .if1 .left
+block-refused-requires : tie.Need-block-refused-requires
+block-refused-requires c κs = search needs
 
-depth-ok : (c : tie.Else2) → depthRefused (c .before .before .before .before .args .bit-depth) ≡ false
-depth-ok c = sym (c .before .depth-refused .ensures) ∙ c .if2 .left
-
-width-ok : (c : tie.Else3) → let a = c .before .before .before .before .before .before .args in a .narrow && widthRefused (a .bit-depth) (a .extended-precision) ≡ false
-width-ok c = sym (c .before .too-narrow .ensures) ∙ c .if3 .left
-
-list-ok : (c : tie.Else4) → listRefused (c .before .before .before .before .before .before .before .args .entries) ≡ false
-unfolding listRefused
-list-ok c = simp (eq-eqb _ _ (c .if4 .left))
-
-input-ok : (c : tie.Else5) → let a = c .before .before .before .before .before .before .before .before .args in blockRefused (a .n) (a .levels) ≡ false
-unfolding blockRefused
-input-ok c = le-ltb _ _ (c .if5 .left)
-
-output-ok : (c : tie.Else6) → let a = c .before .before .before .before .before .before .before .before .before .args in blockRefused (a .n) (a .places) ≡ false
-unfolding blockRefused
-output-ok c = le-ltb _ _ (c .if6 .left)
-
-size-refused-requires : tie.Need-size-refused-requires
-size-refused-requires c κs = search needs
+enum-known-checked : tie.Need-enum-known-checked
+enum-known-checked c = search needs
 
 returns : tie.Need-returns
-unfolding blockParams blockLadder
-returns c = rw (sym (c .before .size-refused .ensures) ∙ c .if1 .taken)
+returns c =
+    let f = c .before in
+    let a = f .before .before .before .args in
+    refused-params (a .narrow) (a .n) (a .qp-prime .0) (a .bit-depth) (a .extended-precision) (a .entries) (a .levels) (a .places) (f .checked .given .0 .0)
+    (sym (ap answer (f .checked .given .1)) ∙ f .before .before .block-refused .ensures)
 
-depth-refused-requires : tie.Need-depth-refused-requires
-depth-refused-requires c κs = search needs
-
-returns-2 : tie.Need-returns-2
-unfolding blockParams blockLadder
-returns-2 c = rw (size-ok (c .before .before), sym (c .before .depth-refused .ensures) ∙ c .if2 .taken)
-
-too-narrow-requires : tie.Need-too-narrow-requires
-too-narrow-requires c κs = search needs
-
-returns-3 : tie.Need-returns-3
-unfolding blockParams blockLadder
-returns-3 c =
-    let d = c .before .before in
-    rw (size-ok (d .before .before), depth-ok d, sym (c .before .too-narrow .ensures) ∙ c .if3 .taken)
-
-returns-4 : tie.Need-returns-4
-unfolding blockParams blockLadder listRefused
-returns-4 c =
-    let w = c .before in
-    let d = w .before .before in
-    simp (size-ok (d .before .before), depth-ok d, width-ok w, ne-eqb _ _ (c .if4 .taken))
-
-mul-if5 : tie.Need-mul-if5
-mul-if5 c =
-    let e = c .before .before .before .before .before in
-    omega (arith, size-square (e .before .before .args .n) (size-accepted (e .before .before .args .n) (size-ok e)))
-
-returns-5 : tie.Need-returns-5
-unfolding blockParams blockLadder blockRefused
-returns-5 c =
-    let l = c .before in
-    let w = l .before in
-    let d = w .before .before in
-    simp (size-ok (d .before .before), depth-ok d, width-ok w, list-ok l, lt-ltb _ _ (c .if5 .taken))
-
-mul-if6 : tie.Need-mul-if6
-mul-if6 c = search needs
-
-returns-6 : tie.Need-returns-6
-unfolding blockParams blockLadder blockRefused
-returns-6 c =
-    let l = c .before .before in
-    let w = l .before in
-    let d = w .before .before in
-    simp (size-ok (d .before .before), depth-ok d, width-ok w, list-ok l, input-ok (c .before), lt-ltb _ _ (c .if6 .taken))
+enum-told : tie.Need-enum-told
+enum-told c = search needs
 
 transform-skip-params-requires : tie.Need-transform-skip-params-requires
 transform-skip-params-requires c κs = search needs
 
-returns-7 : tie.Need-returns-7
-unfolding blockParams blockLadder transformSkipParams
-returns-7 c =
-    let o = c .before in
-    let l = o .before .before in
-    let w = l .before in
-    let d = w .before .before in
+returns-2 : tie.Need-returns-2
+returns-2 c =
+    let e = c .before in
+    let a = e .before .before .before .args in
     c .transform-skip-params .ensures
-    ∙ rw (size-ok (d .before .before), depth-ok d, width-ok w, list-ok l, input-ok (o .before), output-ok o)
+    ∙ passed-params (a .narrow) (a .n) (a .qp-prime .0) (a .bit-depth) (a .extended-precision) (a .entries) (a .levels) (a .places)
+    (sym (ap answer (e .enum-told .given .1)) ∙ e .before .before .block-refused .ensures)
 
 pub block-params-spec : {M : Type 1} → statement M
 block-params-spec =
     tie.close
     (tie.spec
-    size-refused-requires returns depth-refused-requires returns-2 too-narrow-requires returns-3 returns-4 mul-if5 returns-5
-    mul-if6 returns-6 transform-skip-params-requires returns-7)
+    block-refused-requires
+    enum-known-checked
+    returns
+    enum-told
+    transform-skip-params-requires
+    returns-2)

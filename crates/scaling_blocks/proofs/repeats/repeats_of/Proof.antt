@@ -3,7 +3,7 @@ use mathlib.Core.Path.{sym, ap}
 use Prim.Native.Nat.{ℕ, _-_}
 use native.Mathlib.Omega.{arith}
 use Rattle.h265.specs.Range.{log2Size}
-use Rattle.scaling_values.proofs.FactorLaws.{size-last}
+use Rattle.h265.proofs.RangeLaws.{size-else}
 use Rattle.scaling_blocks.proofs.repeats.repeats_of.Statement.{statement}
 use Rattle.scaling_blocks.proofs.repeats.repeats_of.Tie as tie
 
@@ -17,7 +17,7 @@ returns-2 c =
     let s = c .before in
     sym
     (ap (λ (k : ℕ). log2Size k - 3)
-    (size-last (s .args .n) (s .pre .0) (λ e. let x : ⊥ = omega (arith, s .pre .1) in x) (λ e. let x : ⊥ = omega (arith, s .pre .1) in x) (c .if1 .left)))
+    (size-else (s .args .n) (s .pre .0) (λ e. let x : ⊥ = omega (arith, s .pre .1) in x) (λ e. let x : ⊥ = omega (arith, s .pre .1) in x) (c .if1 .left)))
 
 pub repeats-of-spec : {M : Type 1} → statement M
 repeats-of-spec = tie.close (tie.spec returns returns-2)

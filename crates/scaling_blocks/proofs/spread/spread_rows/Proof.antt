@@ -17,8 +17,8 @@ abbrev μ-loop : tie.MeasureT-loop
 loop-holds : tie.Need-loop-holds Inv-loop μ-loop
 loop-holds c = (fills-none (omega arith), omega arith)
 
-spread-row-requires : tie.Need-spread-row-requires Inv-loop μ-loop
-spread-row-requires c κs =
+next-row-requires : tie.Need-next-row-requires Inv-loop μ-loop
+next-row-requires c κs =
     let l = c .before .before in
     let s = l .before .before .before in
     (omega (arith, l .loop .inv .0 .same, s .pre .0), (s .pre .1 .0, (s .pre .1 .1, c .before .loop-test .taken)))
@@ -34,7 +34,7 @@ loop-again c =
     let r = c .before .before in
     let l = r .before .before .before in
     let s = l .before .before .before in
-    (fills-then (l .loop .inv .0) (fills-to (r .spread-row .ensures) (omega (arith, suc-mul (l .loop .row) (s .args .n)))), omega arith)
+    (fills-then (l .loop .inv .0) (fills-to (r .next-row .ensures) (omega (arith, suc-mul (l .loop .row) (s .args .n)))), omega arith)
 
 same-length : tie.Need-same-length Inv-loop μ-loop
 same-length c = c .before .loop .inv .0 .same
@@ -44,4 +44,4 @@ returns c = fills-to (c .before .loop .inv .0) (ap (λ (k : ℕ). k * c .before 
 
 pub spread-rows-spec : {M : Type 1} → statement M
 spread-rows-spec =
-    tie.close (tie.spec Inv-loop μ-loop loop-holds spread-row-requires add-row loop-less loop-again same-length returns)
+    tie.close (tie.spec Inv-loop μ-loop loop-holds next-row-requires add-row loop-less loop-again same-length returns)

@@ -6,7 +6,8 @@ use native.Mathlib.Nat.{mul-le-mul}
 use native.Mathlib.Omega.{arith}
 use borrow.Author.Needs.{needs}
 use Rattle.scaling_values.proofs.ListedLaws.{compact-counted}
-use Rattle.scaling_values.proofs.FactorLaws.{size-square, size-large, factor-small}
+use Rattle.scaling_values.proofs.FactorLaws.{size-large, factor-small}
+use Rattle.h265.proofs.RangeLaws.{size-square}
 use Rattle.scaling_blocks.proofs.WorkLaws.{direct-counted}
 use Rattle.scaling_blocks.proofs.wide.listed_compact.Statement.{statement}
 use Rattle.scaling_blocks.proofs.wide.listed_compact.Tie as tie

@@ -5,10 +5,15 @@ use Prim.Native.Nat.{_*_}
 use native.Mathlib.Nat.{mul-le-mul}
 use native.Mathlib.Omega.{arith}
 use borrow.Author.Needs.{needs}
-use Rattle.scaling_values.proofs.FactorLaws.{size-square, size-large, factor-small}
+use Rattle.scaling_values.proofs.LongLaws.{long-counted}
+use Rattle.scaling_values.proofs.FactorLaws.{size-large, factor-small}
+use Rattle.h265.proofs.RangeLaws.{size-square}
 use Rattle.scaling_blocks.proofs.WorkLaws.{direct-counted}
 use Rattle.scaling_blocks.proofs.wide.listed_long.Statement.{statement}
 use Rattle.scaling_blocks.proofs.wide.listed_long.Tie as tie
+
+long-params-requires : tie.Need-long-params-requires
+long-params-requires c κs = search needs
 
 mul-scale-long : tie.Need-mul-scale-long
 mul-scale-long c = search needs
@@ -16,8 +21,9 @@ mul-scale-long c = search needs
 scale-long-requires : tie.Need-scale-long-requires
 scale-long-requires c κs =
     let t = c .before in
-    let s = t .before .before in
-    (s .pre .0, (s .pre .1 .0, (omega (arith, s .pre .1 .1 .whole, mul-le-mul (t .if1 .taken) (t .if1 .taken)), size-square (s .args .n) (s .pre .1 .1 .size))))
+    let p = t .before in
+    let s = p .before .before in
+    (p .long-params .ensures .long, (s .pre .1 .0, (omega (arith, s .pre .1 .1 .0 .whole, mul-le-mul (t .if1 .taken) (t .if1 .taken)), size-square (s .args .n) (s .pre .1 .1 .0 .size))))
 
 same-length : tie.Need-same-length
 same-length c = search needs
@@ -26,10 +32,12 @@ returns : tie.Need-returns
 returns c =
     let d = c .before in
     let t = d .before .before in
-    let s = t .before .before in
+    let p = t .before in
+    let s = p .before .before in
     let a = s .args in
     direct-counted (a .by) (a .list .now) (a .dc) (a .n) (a .levels .now) (a .list .now)
-    (λ i h. sym (factor-small (a .list .now) (a .dc) (a .n) i (s .pre .1 .1 .size) (t .if1 .taken))) (d .scale-long .ensures)
+    (λ i h. sym (factor-small (a .list .now) (a .dc) (a .n) i (s .pre .1 .1 .0 .size) (t .if1 .taken)))
+    (long-counted (p .long-params .ensures) (a .list .now) (a .levels .now) (d .scale-long .ensures))
 
 slice-aggregate-spread : tie.Need-slice-aggregate-spread
 slice-aggregate-spread c = search needs
@@ -37,8 +45,8 @@ slice-aggregate-spread c = search needs
 spread-requires : tie.Need-spread-requires
 spread-requires c κs =
     let e = c .before in
-    let s = e .before .before in
-    (size-square (s .args .n) (s .pre .1 .1 .size), (s .pre .1 .1, size-large (s .args .n) (s .pre .1 .1 .size) (omega (arith, e .if1 .left))))
+    let s = e .before .before .before in
+    (size-square (s .args .n) (s .pre .1 .1 .0 .size), (s .pre .1 .1 .0, size-large (s .args .n) (s .pre .1 .1 .0 .size) (omega (arith, e .if1 .left))))
 
 mul-scale-long-2 : tie.Need-mul-scale-long-2
 mul-scale-long-2 c = search needs
@@ -49,9 +57,10 @@ slice-aggregate-scale-long c = search needs
 scale-long-requires-2 : tie.Need-scale-long-requires-2
 scale-long-requires-2 c κs =
     let f = c .before .before .before in
-    let s = f .before .before .before .before in
-    let square = size-square (s .args .n) (s .pre .1 .1 .size) in
-    (s .pre .0, (s .pre .1 .0, (omega (arith, f .spread .ensures .same, square), square)))
+    let p = f .before .before .before in
+    let s = p .before .before in
+    let square = size-square (s .args .n) (s .pre .1 .1 .0 .size) in
+    (p .long-params .ensures .long, (s .pre .1 .0, (omega (arith, f .spread .ensures .same, square), square)))
 
 same-length-2 : tie.Need-same-length-2
 same-length-2 c = search needs
@@ -60,15 +69,17 @@ returns-2 : tie.Need-returns-2
 returns-2 c =
     let d = c .before in
     let f = d .before .before .before .before in
-    let s = f .before .before .before .before in
+    let p = f .before .before .before in
+    let s = p .before .before in
     let a = s .args in
     direct-counted (a .by) (a .list .now) (a .dc) (a .n) (a .levels .now) _
-    (f .spread .ensures .more (λ k h. absurd (let x : ⊥ = omega arith in x))) (d .scale-long2 .ensures)
+    (f .spread .ensures .more (λ k h. absurd (let x : ⊥ = omega arith in x))) (long-counted (p .long-params .ensures) _ (a .levels .now) (d .scale-long2 .ensures))
 
 pub listed-long-spec : {M : Type 1} → statement M
 listed-long-spec =
     tie.close
     (tie.spec
+    long-params-requires
     mul-scale-long
     scale-long-requires
     same-length

@@ -28,7 +28,9 @@ returns : tie.Need-returns
 returns c = search needs
 
 listed-long-requires : tie.Need-listed-long-requires
-listed-long-requires c κs = search needs
+listed-long-requires c κs =
+    let s = c .before .before .before .before .before in
+    (s .pre .0, (s .pre .1 .0, (s .pre .1 .1 .0, s .pre .1 .1 .1 .long)))
 
 same-length-2 : tie.Need-same-length-2
 same-length-2 c = search needs

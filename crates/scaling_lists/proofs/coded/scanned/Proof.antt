@@ -4,7 +4,7 @@ use mathlib.Core.List.{List}
 use Prim.Native.Nat.{ℕ}
 use native.Mathlib.Omega.{arith}
 use lib.ListN.{length}
-use Rattle.scaling_lists.specs.Syntax.{entriesFrom}
+use Rattle.scaling_lists_codes.specs.Syntax.{entriesFrom}
 use Rattle.scaling_lists.proofs.ListLaws.{positions-four, positions-eight, four-inside, eight-inside}
 use borrow.Author.Needs.{needs}
 use Rattle.scaling_lists.proofs.coded.scanned.Statement.{statement}

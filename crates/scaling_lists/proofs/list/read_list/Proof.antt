@@ -2,8 +2,8 @@
 use mathlib.Core.Path.{sym, ap, _∙_}
 use native.Mathlib.Omega.{arith}
 use lib.ListN.{length}
-use Rattle.scaling_lists.specs.Syntax.{sizeId}
-use Rattle.scaling_lists.specs.Work.{defaultsIn}
+use Rattle.scaling_lists_codes.specs.Syntax.{sizeId}
+use Rattle.scaling_lists_taken.specs.Held.{defaultsIn}
 use Rattle.scaling_lists.proofs.ListLaws.{list-taken, list-coded, list-ended}
 use borrow.Author.Needs.{needs}
 use Rattle.scaling_lists.proofs.list.read_list.Statement.{statement}

@@ -1,6 +1,6 @@
 -- `scaling_lists::list::read_next` meets its contract: the list that was read stands behind the others.
 use native.Mathlib.Omega.{arith}
-use Rattle.scaling_lists.specs.Work.{defaultsIn, held}
+use Rattle.scaling_lists_taken.specs.Held.{defaultsIn, held}
 use Rattle.scaling_lists.proofs.HeldLaws.{grown-got, grown-stop}
 use borrow.Author.Needs.{needs}
 use Rattle.scaling_lists.proofs.list.read_next.Statement.{statement}

@@ -3,7 +3,7 @@ use mathlib.Core.Path.{sym, _∙_}
 use Prim.Native.Nat.{_-_}
 use native.Mathlib.Omega.{arith}
 use borrow.Author.Needs.{needs}
-use Rattle.scaling_lists.specs.Work.{defaultsIn}
+use Rattle.scaling_lists_taken.specs.Held.{defaultsIn}
 use Rattle.scaling_lists.proofs.ReaderLaws.{Going, going-start, going-stop, going-more, going-done}
 use Rattle.scaling_lists.proofs.reader.read_all.Statement.{statement}
 use Rattle.scaling_lists.proofs.reader.read_all.Tie as tie

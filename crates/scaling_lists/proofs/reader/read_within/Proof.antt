@@ -1,7 +1,7 @@
 -- `scaling_lists::reader::read_within` meets its contract: the three defaults stand in one buffer, and nothing is handed out before the last list is read.
 use mathlib.Core.Path.{refl, ap, _∙_}
 use lib.ListN.{replicate}
-use Rattle.scaling_lists.specs.Syntax.{Defaults, defaults, scalingListData}
+use Rattle.scaling_lists_codes.specs.Syntax.{Defaults, defaults, scalingListData}
 use Rattle.scaling_lists.proofs.HeldLaws.{gathered}
 use Rattle.scaling_lists.proofs.ReaderLaws.{written-got, written-stop}
 use borrow.Author.Needs.{needs}

@@ -2,9 +2,10 @@
 use mathlib.Core.Path.{sym, ap, _∙_}
 use native.Mathlib.Omega.{arith}
 use lib.ListN.{length}
-use Rattle.scaling_lists.specs.Syntax.{sizeId, matrixId}
-use Rattle.scaling_lists.specs.Work.{listEntries, defaultsIn}
-use Rattle.scaling_lists.proofs.ListLaws.{taken-default, taken-held, taken-length, paste-whole, referred-default, referred-held}
+use Rattle.scaling_lists_codes.specs.Syntax.{sizeId, matrixId}
+use Rattle.scaling_lists_taken.specs.Held.{listEntries, defaultsIn}
+use Rattle.scaling_lists_taken.proofs.TakenLaws.{taken-default, taken-held, taken-length}
+use Rattle.scaling_lists.proofs.ListLaws.{paste-whole, referred-default, referred-held}
 use borrow.Author.Needs.{needs}
 use Rattle.scaling_lists.proofs.taken.fill_referred.Statement.{statement}
 use Rattle.scaling_lists.proofs.taken.fill_referred.Tie as tie

@@ -1,8 +1,8 @@
 -- `scaling_lists::taken::taken_over` meets its contract: the list that the reference means.
 use mathlib.Core.Path.{sym}
 use native.Mathlib.Omega.{arith}
-use Rattle.scaling_lists.specs.Syntax.{sizeId, matrixId}
-use Rattle.scaling_lists.specs.Work.{defaultsIn, held}
+use Rattle.scaling_lists_codes.specs.Syntax.{sizeId, matrixId}
+use Rattle.scaling_lists_taken.specs.Held.{defaultsIn, held}
 use Rattle.scaling_lists.proofs.ListLaws.{taken-got, taken-stop}
 use borrow.Author.Needs.{needs}
 use Rattle.scaling_lists.proofs.taken.taken_over.Statement.{statement}

@@ -3,7 +3,7 @@ use mathlib.Core.Path.{sym, _∙_}
 use Prim.Native.Nat.{_*_}
 use native.Mathlib.Omega.{arith}
 use lib.ListN.{getD}
-use Rattle.scaling_lists.specs.Syntax.{sizeId}
+use Rattle.scaling_lists_codes.specs.Syntax.{sizeId}
 use Rattle.scaling_lists_put.specs.Lists.{listFrom}
 use Rattle.scaling_lists_put.proofs.CompareLaws.{held-list}
 use Rattle.scaling_lists_put.proofs.PutLaws.{full-dc, full-plain}

@@ -1,7 +1,7 @@
 -- `scaling_lists_put::codes::put_scanned` meets its contract: the table is the order of the positions.
 use mathlib.Core.Path.{_∙_}
 use native.Mathlib.Omega.{arith}
-use Rattle.scaling_lists.specs.Syntax.{sizeId}
+use Rattle.scaling_lists_codes.specs.Syntax.{sizeId}
 use Rattle.scaling_lists.specs.Work.{Positions}
 use Rattle.scaling_lists.proofs.ListLaws.{positions-four, positions-eight, four-inside, eight-inside}
 use borrow.Author.Needs.{needs}

@@ -2,8 +2,8 @@
 use mathlib.Core.Path.{sym, _∙_}
 use native.Mathlib.Omega.{arith}
 use lib.ListN.{length-set}
-use Rattle.scaling_lists.specs.Syntax.{defaults}
-use Rattle.scaling_lists.specs.Work.{held}
+use Rattle.scaling_lists_codes.specs.Syntax.{defaults}
+use Rattle.scaling_lists_taken.specs.Held.{held}
 use Rattle.scaling_lists_written.specs.Written.{earlier}
 use Rattle.scaling_lists_put.proofs.PutLaws.{list-default, list-back, list-full}
 use borrow.Author.Needs.{needs}

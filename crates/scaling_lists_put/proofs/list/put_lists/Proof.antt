@@ -4,8 +4,8 @@ use Prim.Native.Nat.{_-_, _*_, _≤_}
 use native.Mathlib.Omega.{arith}
 use Rattle.text.specs.Text.{Wrote}
 use Rattle.text.proofs.WroteLaws.{wrote-none, wrote-length}
-use Rattle.scaling_lists.specs.Syntax.{defaults}
-use Rattle.scaling_lists.specs.Work.{held}
+use Rattle.scaling_lists_codes.specs.Syntax.{defaults}
+use Rattle.scaling_lists_taken.specs.Held.{held}
 use Rattle.scaling_lists_written.specs.Written.{writtenUpTo, writtenLists}
 use Rattle.scaling_lists_put.proofs.PutLaws.{lists-more}
 use Rattle.scaling_lists_put.proofs.list.put_lists.Statement.{statement}

@@ -1,6 +1,6 @@
 -- `scaling_lists_put::same::has_dc` meets its contract.
 use mathlib.Core.Path.{refl}
-use Rattle.scaling_lists.specs.Syntax.{sizeId}
+use Rattle.scaling_lists_codes.specs.Syntax.{sizeId}
 use Rattle.scaling_lists_written.specs.Same.{hasDc}
 use Rattle.scaling_lists_put.proofs.same.has_dc.Statement.{statement}
 use Rattle.scaling_lists_put.proofs.same.has_dc.Tie as tie

@@ -1,7 +1,7 @@
 -- `scaling_lists_put::same::is_default` meets its contract: the list is compared with the default that its size and matrix have.
 use mathlib.Core.Path.{sym, _∙_}
 use borrow.Author.Tests.{ltb-true, ltb-false}
-use Rattle.scaling_lists.specs.Syntax.{sizeId, defaults}
+use Rattle.scaling_lists_codes.specs.Syntax.{sizeId, defaults}
 use Rattle.scaling_lists.proofs.ListLaws.{default-four, default-intra, default-inter}
 use Rattle.scaling_lists_put.proofs.CompareLaws.{same-default}
 use borrow.Author.Needs.{needs}

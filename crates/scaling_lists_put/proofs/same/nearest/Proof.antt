@@ -3,8 +3,8 @@ use mathlib.Core.Path.{_≡_, sym, _∙_}
 use Prim.Native.Nat.{_-_, _%_, _≤_}
 use native.Mathlib.Omega.{arith}
 use Rattle.integers.proofs.SearchLaws.{None, none-zero, none-suc, firstWhere-none, firstWhere-found}
-use Rattle.scaling_lists.specs.Syntax.{sizeId}
-use Rattle.scaling_lists.specs.Work.{held}
+use Rattle.scaling_lists_codes.specs.Syntax.{sizeId}
+use Rattle.scaling_lists_taken.specs.Held.{held}
 use Rattle.scaling_lists_written.specs.Same.{sameList, listAt}
 use Rattle.scaling_lists_written.specs.Written.{earlier, nearest}
 use Rattle.scaling_lists_put.proofs.CompareLaws.{same-held}

@@ -1,7 +1,7 @@
 -- `scaling_lists_put::same::used_count` meets its contract.
 use borrow.Author.Tests.{eq-eqb, ne-eqb}
 use native.Mathlib.Omega.{arith}
-use Rattle.scaling_lists.specs.Syntax.{sizeId}
+use Rattle.scaling_lists_codes.specs.Syntax.{sizeId}
 use Rattle.scaling_lists_written.specs.Same.{usedCount}
 use Rattle.scaling_lists_put.proofs.same.used_count.Statement.{statement}
 use Rattle.scaling_lists_put.proofs.same.used_count.Tie as tie

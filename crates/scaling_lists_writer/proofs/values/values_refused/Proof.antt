@@ -4,8 +4,8 @@ use mathlib.Core.Bool.{true}
 use Prim.Native.Nat.{ℕ, _-_, _≤_}
 use native.Mathlib.Omega.{arith}
 use borrow.Author.Tests.{not-true, not-false}
-use Rattle.scaling_lists.specs.Syntax.{sizeId}
-use Rattle.scaling_lists.specs.Work.{held}
+use Rattle.scaling_lists_codes.specs.Syntax.{sizeId}
+use Rattle.scaling_lists_taken.specs.Held.{held}
 use Rattle.scaling_lists_written.specs.Same.{every, listAt}
 use Rattle.scaling_lists_written.proofs.SameLaws.{every-none, every-more}
 use Rattle.scaling_lists_writer.specs.Answers.{nonzero}

@@ -16,7 +16,7 @@ use Rattle.scaling_values.proofs.listed.listed_params.Statement.{statem
 use Rattle.scaling_values.proofs.listed.listed_params.Tie as tie
 
 scale-of-requires : tie.Need-scale-of-requires
-scale-of-requires c κs = search needs
+scale-of-requires c κs = (c .pre .0, (c .pre .1 .factor, c .pre .1 .size))
 
 odd-of-requires : tie.Need-odd-of-requires
 odd-of-requires c κs = rw (c .scale-of .ensures) (c .before .pre .1 .small)

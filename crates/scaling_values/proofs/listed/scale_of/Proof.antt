@@ -23,7 +23,7 @@ shift-right-requires c κs = search needs
 cast-result : tie.Need-cast-result
 cast-result c =
     let s = c .before .before in
-    rw (round-trip (sfits-of (c .shift-right .ok)), shifted-is c, s .pre .1 .factor) (tt, omega (arith, s .pre .1 .size))
+    rw (round-trip (sfits-of (c .shift-right .ok)), shifted-is c, s .pre .1 .0) (tt, omega (arith, s .pre .1 .1))
 
 returns : tie.Need-returns
 unfolding scaleBy

@@ -5,7 +5,8 @@ use native.Mathlib.Omega.{arith}
 use borrow.Author.Needs.{needs, sfits-of}
 use lib.IntN.{ℤ, pos, negsuc, _*ℤ_}
 use lib.Signed.{ltZ}
-use mir.Syntax.{w16, w32}
+use mir.Facts.{sfits-widen}
+use mir.Syntax.{w32}
 use mir.Val.{SFits}
 use Rattle.integers.specs.Shift.{pow2, shiftRight}
 use Rattle.integers.proofs.MachineLaws.{round-trip, ltZ-round-trip}
@@ -85,7 +86,7 @@ returns-3 c =
     let v = ap (λ (z : ℤ). pow2 (k .up) *ℤ z) (result-is r) ∙ compact-between k (s .args .m) (s .args .level) a b in
     let o = rw (round-trip (s .fits .level)) at (c .outside .ensures) in
     record {
-      value = shl-fits (r .compact-result .result) (k .up) (subst (λ (z : ℤ). SFits w16 z) (sym v) (compact-fits (s .pre) (s .args .m) (s .args .level))) ∙ v;
+      value = shl-fits (r .compact-result .result) (k .up) (subst (λ (z : ℤ). SFits w32 z) (sym v) (sfits-widen tt (compact-fits (s .pre) (s .args .m) (s .args .level)))) ∙ v;
       limited = o ∙ ap (λ (x : Bool). cond x 1 0) (sym (limited-between k (s .args .m) (s .args .level) a b));
     }
 

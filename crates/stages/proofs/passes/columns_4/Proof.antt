@@ -6,7 +6,7 @@ use Rattle.h265.specs.Range.{clipCoeff}
 use Rattle.transform_1d.specs.Rows.{Filled}
 use Rattle.transform_1d.proofs.RowsLaws.{filled-zero, filled-all}
 use Rattle.stages.specs.Passes.{columnValue}
-use Rattle.stages.proofs.PassesLaws.{passAsk-line, passAsk-row, lineSums-halves, filled-line}
+use Rattle.stages.proofs.PassesLaws.{passNeeds-line, passNeeds-row, lineSums-halves, filled-line}
 use Rattle.stages.proofs.passes.columns_4.Statement.{statement}
 use Rattle.stages.proofs.passes.columns_4.Tie as tie
 
@@ -20,14 +20,14 @@ loop-holds : tie.Need-loop-holds Inv-loop μ-loop
 loop-holds c = (omega arith, filled-zero)
 
 idct-raw-4-requires : tie.Need-idct-raw-4-requires Inv-loop μ-loop
-idct-raw-4-requires c κs = passAsk-line (c .before .before .pre) _ (omega arith)
+idct-raw-4-requires c κs = passNeeds-line (c .before .before .pre) _ (omega arith)
 
 mul-put-clipped : tie.Need-mul-put-clipped Inv-loop μ-loop
-mul-put-clipped c = omega (arith, passAsk-row (c .before .before .before .before .pre) (c .before .before .before .loop .c) (omega arith))
+mul-put-clipped c = omega (arith, passNeeds-row (c .before .before .before .before .pre) (c .before .before .before .loop .c) (omega arith))
 
 put-clipped-requires : tie.Need-put-clipped-requires Inv-loop μ-loop
 put-clipped-requires c κs =
-    (lineSums-halves (c .before .idct-raw-4 .ensures), omega arith, omega (arith, passAsk-row (c .before .before .before .before .pre) (c .before .before .before .loop .c) (omega arith), c .before .before .before .loop .inv .1 .long))
+    (lineSums-halves (c .before .idct-raw-4 .ensures), omega arith, omega (arith, passNeeds-row (c .before .before .before .before .pre) (c .before .before .before .loop .c) (omega arith), c .before .before .before .loop .inv .1 .long))
 
 add-c : tie.Need-add-c Inv-loop μ-loop
 add-c c = omega arith

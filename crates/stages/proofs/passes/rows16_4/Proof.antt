@@ -5,7 +5,7 @@ use Rattle.integers.specs.Shift.{roundShift}
 use Rattle.transform_1d.specs.Rows.{Filled}
 use Rattle.transform_1d.proofs.RowsLaws.{filled-zero, filled-all}
 use Rattle.stages.specs.Passes.{rowValue}
-use Rattle.stages.proofs.PassesLaws.{passAsk-line, passAsk-row, lineSums-halves, filled-line, outputs-fit}
+use Rattle.stages.proofs.PassesLaws.{passNeeds-line, passNeeds-row, lineSums-halves, filled-line, outputs-fit}
 use Rattle.stages.proofs.passes.rows16_4.Statement.{statement}
 use Rattle.stages.proofs.passes.rows16_4.Tie as tie
 
@@ -19,14 +19,14 @@ loop-holds : tie.Need-loop-holds Inv-loop μ-loop
 loop-holds c = (omega arith, filled-zero)
 
 idct-raw-4-requires : tie.Need-idct-raw-4-requires Inv-loop μ-loop
-idct-raw-4-requires c κs = passAsk-line (c .before .before .pre .0) _ (omega arith)
+idct-raw-4-requires c κs = passNeeds-line (c .before .before .pre .0) _ (omega arith)
 
 mul-put-rounded16 : tie.Need-mul-put-rounded16 Inv-loop μ-loop
-mul-put-rounded16 c = omega (arith, passAsk-row (c .before .before .before .before .pre .0) (c .before .before .before .loop .m) (omega arith))
+mul-put-rounded16 c = omega (arith, passNeeds-row (c .before .before .before .before .pre .0) (c .before .before .before .loop .m) (omega arith))
 
 put-rounded16-requires : tie.Need-put-rounded16-requires Inv-loop μ-loop
 put-rounded16-requires c κs =
-    (lineSums-halves (c .before .idct-raw-4 .ensures), omega arith, omega (arith, passAsk-row (c .before .before .before .before .pre .0) (c .before .before .before .loop .m) (omega arith), c .before .before .before .loop .inv .1 .long), c .before .before .before .before .pre .1, c .before .before .before .before .pre .2, λ j l. outputs-fit (λ x. roundShift x (c .before .before .before .before .args .s)) (c .before .idct-raw-4 .ensures) (omega arith) (λ k h. c .before .before .before .before .pre .3 (c .before .before .before .loop .m) k (omega arith) h) j (omega arith))
+    (lineSums-halves (c .before .idct-raw-4 .ensures), omega arith, omega (arith, passNeeds-row (c .before .before .before .before .pre .0) (c .before .before .before .loop .m) (omega arith), c .before .before .before .loop .inv .1 .long), c .before .before .before .before .pre .1, c .before .before .before .before .pre .2, λ j l. outputs-fit (λ x. roundShift x (c .before .before .before .before .args .s)) (c .before .idct-raw-4 .ensures) (omega arith) (λ k h. c .before .before .before .before .pre .3 (c .before .before .before .loop .m) k (omega arith) h) j (omega arith))
 
 add-m : tie.Need-add-m Inv-loop μ-loop
 add-m c = omega arith

@@ -12,9 +12,9 @@ use Rattle.integers.specs.Shift.{roundShift}
 use Rattle.integers.specs.Within.{Within}
 use Rattle.integers.proofs.BoundLaws.{within-eq, within-le, within-lit-mul, within-fits}
 use Rattle.h265.specs.Range.{clipCoeff}
+use Rattle.h265.proofs.RangeLaws.{size-bound, size-square}
 use Rattle.stages_wide.specs.Parts.{limitedAt}
 use Rattle.stages_wide.proofs.PartsLaws.{limited-within}
-use Rattle.stages_wide.proofs.SizeLaws.{size-most, square-most}
 use Rattle.stages_wide.proofs.DcLaws.{first-inside, dcValue, filled-dc}
 use Rattle.stages_wide.proofs.blocks.dc_fill.Statement.{statement}
 use Rattle.stages_wide.proofs.blocks.dc_fill.Tie as tie
@@ -26,7 +26,7 @@ product-fits : {z : ℤ} → Within (2 ^ 22) z → SFits w32 (pos 64 *ℤ z)
 product-fits h = within-fits {b = 480 * 2 ^ 22} tt (product-within h)
 
 shared-slice-copy-out-limited : tie.Need-shared-slice-copy-out-limited
-shared-slice-copy-out-limited c = first-inside (omega (arith, size-most (c .args .n) (c .pre .0))) (c .pre .1 .source)
+shared-slice-copy-out-limited c = first-inside (omega (arith, size-bound (c .args .n) (c .pre .0))) (c .pre .1 .source)
 
 limited-requires : tie.Need-limited-requires
 limited-requires c κs = search needs
@@ -78,7 +78,7 @@ rounded-requires-2 c κs =
     (simp (toZ-ofZ, g-fits c, product-fits (g-within c)) (product-within (g-within c)), c .before .before .before .before .pre .1 .least, c .before .before .before .before .pre .1 .most)
 
 mul-fill : tie.Need-mul-fill
-mul-fill c = omega (arith, square-most (c .before .before .before .before .before .args .n) (c .before .before .before .before .before .pre .0))
+mul-fill c = omega (arith, size-square (c .before .before .before .before .before .args .n) (c .before .before .before .before .before .pre .0))
 
 fill-requires : tie.Need-fill-requires
 fill-requires c κs = search needs
@@ -97,7 +97,7 @@ last-is c =
 returns : tie.Need-returns
 returns c =
     let k = c .before .before .before .before .before .before .before .before .args in
-    filled-dc (k .n) (k .range) (k .shift) (k .coeff .now) (omega (arith, size-most (k .n) (c .before .before .before .before .before .before .before .before .pre .0))) (c .before .before .before .before .before .before .before .before .pre .2)
+    filled-dc (k .n) (k .range) (k .shift) (k .coeff .now) (omega (arith, size-bound (k .n) (c .before .before .before .before .before .before .before .before .pre .0))) (c .before .before .before .before .before .before .before .before .pre .2)
     (last-is (c .before .before .before)) (simp (toZ-ofZ, last-fits (c .before .before .before)) at (c .before .fill .ensures))
 
 pub dc-fill-spec : {M : Type 1} → statement M

@@ -3,8 +3,8 @@ use borrow.Author.Needs.{needs}
 use mathlib.Core.Path.{_≡_}
 use native.Mathlib.Omega.{arith}
 use Rattle.transform_1d.specs.MatrixOf.{matrixOf}
-use Rattle.stages_wide.proofs.SizeLaws.{size-else}
-use Rattle.stages_wide.proofs.ResultLaws.{stagesAsk-size, filled-sized}
+use Rattle.h265.proofs.RangeLaws.{size-else}
+use Rattle.stages_wide.proofs.ResultLaws.{stagesNeeds-size, filled-sized}
 use Rattle.stages_wide.proofs.blocks.dct_sized.Statement.{statement}
 use Rattle.stages_wide.proofs.blocks.dct_sized.Tie as tie
 
@@ -12,16 +12,16 @@ is-32 : (c : tie.At-match-rest) → c .before .args .n ≡ 32
 is-32 c = let r = c .match .rest in size-else (c .before .args .n) (c .before .pre .0) (r .0 .0 .1) (r .0 .1) (r .1)
 
 both-4-requires : tie.Need-both-4-requires
-both-4-requires c κs = stagesAsk-size (c .before .match .keys1) (c .before .before .pre .1) (omega (arith, c .before .before .pre .1 .columns))
+both-4-requires c κs = stagesNeeds-size (c .before .match .keys1) (c .before .before .pre .1) (omega (arith, c .before .before .pre .1 .columns))
 
 stages-8-requires : tie.Need-stages-8-requires
-stages-8-requires c κs = stagesAsk-size (c .before .match .keys2) (c .before .before .pre .1) (omega (arith, c .before .before .pre .1 .columns))
+stages-8-requires c κs = stagesNeeds-size (c .before .match .keys2) (c .before .before .pre .1) (omega (arith, c .before .before .pre .1 .columns))
 
 stages-16-requires : tie.Need-stages-16-requires
-stages-16-requires c κs = stagesAsk-size (c .before .match .keys3) (c .before .before .pre .1) (omega (arith, c .before .before .pre .1 .columns))
+stages-16-requires c κs = stagesNeeds-size (c .before .match .keys3) (c .before .before .pre .1) (omega (arith, c .before .before .pre .1 .columns))
 
 stages-32-requires : tie.Need-stages-32-requires
-stages-32-requires c κs = stagesAsk-size (is-32 (c .before)) (c .before .before .pre .1) (omega (arith, c .before .before .pre .1 .columns))
+stages-32-requires c κs = stagesNeeds-size (is-32 (c .before)) (c .before .before .pre .1) (omega (arith, c .before .before .pre .1 .columns))
 
 same-length : tie.Need-same-length
 same-length c = search needs

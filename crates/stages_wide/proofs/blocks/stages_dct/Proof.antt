@@ -4,19 +4,19 @@ use mathlib.Core.Path.{refl}
 use native.Mathlib.Omega.{arith}
 use Rattle.h265.specs.Matrix.{transMatrix}
 use Rattle.coefficients.proofs.RowsLaws.{rowsUsed-more}
-use Rattle.stages_wide.proofs.SizeLaws.{size-most}
-use Rattle.stages_wide.proofs.ResultLaws.{stagesAsk-size, filled-count}
+use Rattle.h265.proofs.RangeLaws.{size-bound}
+use Rattle.stages_wide.proofs.ResultLaws.{stagesNeeds-size, filled-count}
 use Rattle.stages_wide.proofs.blocks.stages_dct.Statement.{statement}
 use Rattle.stages_wide.proofs.blocks.stages_dct.Tie as tie
 
 rows-used-requires : tie.Need-rows-used-requires
 rows-used-requires c κs =
-    let m = size-most (c .before .args .n) (c .before .pre .0) in (c .before .pre .1 .source, omega (arith, m), m .1)
+    let m = size-bound (c .before .args .n) (c .before .pre .0) in (c .before .pre .1 .source, omega (arith, m), m .1)
 
 dc-fill-requires : tie.Need-dc-fill-requires
 dc-fill-requires c κs =
-    let m = size-most (c .before .before .before .before .args .n) (c .before .before .before .before .pre .0) in
-    (c .before .before .before .before .pre .0, stagesAsk-size refl (c .before .before .before .before .pre .1) (omega (arith, m)), rowsUsed-more (c .before .if2 .taken) (omega (arith, m)) (c .before .before .rows-used .ensures))
+    let m = size-bound (c .before .before .before .before .args .n) (c .before .before .before .before .pre .0) in
+    (c .before .before .before .before .pre .0, stagesNeeds-size refl (c .before .before .before .before .pre .1) (omega (arith, m)), rowsUsed-more (c .before .if2 .taken) (omega (arith, m)) (c .before .before .rows-used .ensures))
 
 same-length : tie.Need-same-length
 same-length c = search needs

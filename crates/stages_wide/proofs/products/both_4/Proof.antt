@@ -4,7 +4,7 @@ use native.Mathlib.Omega.{arith}
 use Rattle.transform_1d.specs.MatrixOf.{matrixOf}
 use Rattle.transform_1d.proofs.RowsLaws.{zeros-getD}
 use Rattle.stages_wide.proofs.ResultLaws.{filled-stages}
-use Rattle.stages_wide.proofs.ProductsLaws.{limitedAsk-four, four-rows}
+use Rattle.stages_wide.proofs.ProductsLaws.{limitedNeeds-four, four-rows}
 use Rattle.stages_wide.proofs.products.both_4.Statement.{statement}
 use Rattle.stages_wide.proofs.products.both_4.Tie as tie
 
@@ -12,13 +12,13 @@ slice-aggregate-stage-4 : tie.Need-slice-aggregate-stage-4
 slice-aggregate-stage-4 c = search needs
 
 stage-4-requires : tie.Need-stage-4-requires
-stage-4-requires c κs = let a = c .before .pre in limitedAsk-four (a .columns) (omega arith) (omega arith) (a .rangeMost) (a .source) (omega arith)
+stage-4-requires c κs = let a = c .before .pre in limitedNeeds-four (a .columns) (omega arith) (omega arith) (a .rangeMost) (a .source) (omega arith)
 
 slice-aggregate-stage-4-2 : tie.Need-slice-aggregate-stage-4-2
 slice-aggregate-stage-4-2 c = search needs
 
 stage-4-requires-2 : tie.Need-stage-4-requires-2
-stage-4-requires-2 c κs = let a = c .before .before .before .before .before .pre in limitedAsk-four (omega arith) (a .least) (a .most) (a .rangeMost) (omega (arith, c .before .before .before .stage-4 .ensures .long)) (a .room)
+stage-4-requires-2 c κs = let a = c .before .before .before .before .before .pre in limitedNeeds-four (omega arith) (a .least) (a .most) (a .rangeMost) (omega (arith, c .before .before .before .stage-4 .ensures .long)) (a .room)
 
 same-length : tie.Need-same-length
 same-length c = search needs

@@ -13,7 +13,7 @@ use Rattle.transform_1d.specs.MatrixOf.{matrixOf}
 use Rattle.transform_1d.specs.Rows.{Filled}
 use Rattle.transform_1d.proofs.RowsLaws.{filled-zero, filled-all}
 use Rattle.stages_wide.specs.Products.{matrixValue}
-use Rattle.stages_wide.proofs.ProductsLaws.{wideValues-picked, picked-four, roundAsk-outputs, filled-products}
+use Rattle.stages_wide.proofs.ProductsLaws.{wideValues-picked, picked-four, roundNeeds-outputs, filled-products}
 use Rattle.stages_wide.proofs.products.columns_4.Statement.{statement}
 use Rattle.stages_wide.proofs.products.columns_4.Tie as tie
 
@@ -87,7 +87,7 @@ mul-put-rounded c = omega (arith, c .before .before .before .before .before .bef
 put-rounded-requires : tie.Need-put-rounded-requires Inv-loop μ-loop
 put-rounded-requires c κs =
     let a = c .before .before .before .before .before .before .before .before .before .pre in
-    (roundAsk-outputs (c .before .before .line-4 .ensures) (a .shiftLeast) (a .shiftMost), omega (arith, a .room, c .before .before .before .before .before .before .before .before .loop .inv .1 .long))
+    (roundNeeds-outputs (c .before .before .line-4 .ensures) (a .shiftLeast) (a .shiftMost), omega (arith, a .room, c .before .before .before .before .before .before .before .before .loop .inv .1 .long))
 
 add-c : tie.Need-add-c Inv-loop μ-loop
 add-c c = omega arith

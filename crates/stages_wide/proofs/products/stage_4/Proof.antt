@@ -1,7 +1,7 @@
 -- `stages_wide::products::stage_4` meets its contract: the lines run over the limited values.
 use borrow.Author.Needs.{needs}
 use Rattle.transform_1d.specs.MatrixOf.{matrixOf}
-use Rattle.stages_wide.proofs.ProductsLaws.{limitedAsk-products, filled-limited}
+use Rattle.stages_wide.proofs.ProductsLaws.{limitedNeeds-products, filled-limited}
 use Rattle.stages_wide.proofs.products.stage_4.Statement.{statement}
 use Rattle.stages_wide.proofs.products.stage_4.Tie as tie
 
@@ -17,7 +17,7 @@ slice-aggregate-columns-4 c = search needs
 columns-4-requires : tie.Need-columns-4-requires
 columns-4-requires c κs =
     let k = c .before .before .before .before .before .args in
-    let p = c .before .before .before .limit .ensures in limitedAsk-products (k .range) 16 16 (k .s .now) p (c .before .before .before .before .before .pre) (p .long)
+    let p = c .before .before .before .limit .ensures in limitedNeeds-products (k .range) 16 16 (k .s .now) p (c .before .before .before .before .before .pre) (p .long)
 
 same-length : tie.Need-same-length
 same-length c = search needs

@@ -2,7 +2,7 @@
 use native.Mathlib.Omega.{arith}
 use borrow.Author.Needs.{needs}
 use Rattle.h265.specs.Matrix.{transMatrix}
-use Rattle.stages_wide.proofs.ProductsLaws.{column-values, roundAsk-outputs, put-line}
+use Rattle.stages_wide.proofs.ProductsLaws.{column-values, roundNeeds-outputs, put-line}
 use Rattle.stages_wide.proofs.sizes.column_8.Statement.{statement}
 use Rattle.stages_wide.proofs.sizes.column_8.Tie as tie
 
@@ -10,7 +10,7 @@ line-requires : tie.Need-line-8-requires
 line-requires c κs = let s = c .before .before .before in column-values (s .args .coeff .now) (s .args .column) (s .pre .0 .rangeMost) (c .before .limited-column .ensures)
 
 round-requires : tie.Need-put-rounded-requires
-round-requires c κs = (roundAsk-outputs (c .before .before .line-8 .ensures) (omega arith) (omega arith), omega arith)
+round-requires c κs = (roundNeeds-outputs (c .before .before .line-8 .ensures) (omega arith) (omega arith), omega arith)
 
 returns : tie.Need-returns
 returns c =

@@ -3,12 +3,12 @@ use native.Mathlib.Omega.{arith}
 use borrow.Author.Needs.{needs}
 use Rattle.transform_1d.specs.MatrixOf.{matrixOf}
 use Rattle.stages_wide.proofs.MovesLaws.{put-rows}
-use Rattle.stages_wide.proofs.ProductsLaws.{limitedAsk-four, four-rows}
+use Rattle.stages_wide.proofs.ProductsLaws.{limitedNeeds-four, four-rows}
 use Rattle.stages_wide.proofs.sizes.columns_4.Statement.{statement}
 use Rattle.stages_wide.proofs.sizes.columns_4.Tie as tie
 
 stage-requires : tie.Need-stage-4-requires
-stage-requires c κs = let p = c .before .pre in limitedAsk-four (omega arith) (omega arith) (omega arith) (p .rangeMost) (p .source) (omega arith)
+stage-requires c κs = let p = c .before .pre in limitedNeeds-four (omega arith) (omega arith) (omega arith) (p .rangeMost) (p .source) (omega arith)
 
 put-requires : tie.Need-put-columns-requires
 put-requires c κs = let p = c .before .before .before .before .before .pre in (p .rangeMost, omega arith, omega (arith, c .before .before .before .stage-4 .ensures .long), p .room)

@@ -3,13 +3,13 @@ use native.Mathlib.Omega.{arith}
 use borrow.Author.Needs.{needs}
 use Rattle.transform_1d.specs.MatrixOf.{matrixOf}
 use Rattle.stages_wide.proofs.MovesLaws.{turned-rows}
-use Rattle.stages_wide.proofs.ProductsLaws.{limitedAsk-four, four-rows}
+use Rattle.stages_wide.proofs.ProductsLaws.{limitedNeeds-four, four-rows}
 use Rattle.stages_wide.proofs.sizes.rows_4.Statement.{statement}
 use Rattle.stages_wide.proofs.sizes.rows_4.Tie as tie
 
 stage-requires : tie.Need-stage-4-requires
 stage-requires c κs =
-    let p = c .before .before .before .before .before .pre in limitedAsk-four (omega arith) (p .least) (p .most) (p .rangeMost) (omega (arith, c .before .before .before .turn .ensures .long)) (p .room)
+    let p = c .before .before .before .before .before .pre in limitedNeeds-four (omega arith) (p .least) (p .most) (p .rangeMost) (omega (arith, c .before .before .before .turn .ensures .long)) (p .room)
 
 returns : tie.Need-returns
 returns c =

@@ -1,0 +1,1 @@
+// Laws of the rules of an edited block, in proofs/. There is no code here.

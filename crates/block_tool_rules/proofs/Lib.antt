@@ -1,0 +1,2 @@
+-- The examples.
+pub mod ExamplesLaws

@@ -1,0 +1,3 @@
+pub mod Modification
+pub mod Residual
+pub mod Examples

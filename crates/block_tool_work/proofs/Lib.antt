@@ -1,0 +1,5 @@
+pub mod AccumulationLaws
+pub mod RotationLaws
+pub mod ModificationLaws
+pub mod SkipLaws
+pub mod ResidualLaws

@@ -1,6 +1,0 @@
-pub mod Examples
-pub mod AccumulationLaws
-pub mod RotationLaws
-pub mod ModificationLaws
-pub mod SkipLaws
-pub mod ResidualLaws

@@ -1,3 +1,0 @@
-pub mod Modification
-pub mod Residual
-pub mod Work

@@ -1,0 +1,4 @@
+pub mod Block
+pub mod Record
+pub mod Feed
+pub mod Examples

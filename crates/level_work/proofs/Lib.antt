@@ -1,0 +1,2 @@
+-- Laws of scaling by a source.
+pub mod ScaledLaws

@@ -1,0 +1,3 @@
+-- Laws of the listing's rules, and the examples.
+pub mod SupplyLaws
+pub mod ExamplesLaws

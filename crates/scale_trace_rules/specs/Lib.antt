@@ -1,0 +1,4 @@
+pub mod Block
+pub mod Supply
+pub mod Trace
+pub mod Examples

@@ -1,0 +1,2 @@
+-- Laws of the signed numbers in the syntax.
+pub mod ValueLaws

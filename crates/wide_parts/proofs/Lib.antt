@@ -1,0 +1,2 @@
+-- Laws of the two parts of a value.
+pub mod SplitLaws
