@@ -8,8 +8,8 @@
 #include <stdint.h>
 
 /* MAJOR * 10000 + MINOR * 100 + PATCH. While MAJOR is 0, a new MINOR may change layouts and meanings; CHANGELOG.md says which. */
-#define RESIDUAL_VERSION_NUMBER 100
-#define RESIDUAL_VERSION "0.1.0"
+#define RESIDUAL_VERSION_NUMBER 200
+#define RESIDUAL_VERSION "0.2.0"
 
 #define RESIDUAL_REFUSALS(ROW) \
     ROW(1, SIZE_INVALID, "the size is none of 4, 8, 16, 32") \

@@ -3,7 +3,7 @@ ghost use mathlib.Core.Path.{_≡_};
 
 #[no_mangle]
 pub extern "C" fn residual_version() -> u32
-    ensures { λ r. ⌜ r ≡ 100 ⌝ }
+    ensures { λ r. ⌜ r ≡ 200 ⌝ }
 {
-    100
+    200
 }
