@@ -1,4 +1,6 @@
 // Bits of bytes, the high bit of each byte first, and Exp-Golomb codes in them. Internal: the crates above call these and meet what they require.
+#![tactic(auto)]
+
 ghost use Rattle.std.specs.Prelude.{◌≡◌, ◌+◌, ◌^◌, ◌≤◌};
 ghost use Rattle.bits.specs.Bits.{is_there, bit_at, bits_number};
 ghost use Rattle.bits.specs.ExpGolomb.{leading_zeros, unsigned_code, behind};

@@ -1,5 +1,7 @@
 // Exp-Golomb codes put into a buffer of bits, a bit an element, and such bits as bytes. Internal: the crates above call these and meet
 // what they require.
+#![tactic(auto)]
+
 ghost use Rattle.std.specs.Prelude.{◌≡◌, ◌+◌, ◌*◌, ◌≤◌, length};
 ghost use Rattle.integers.specs.Lists.{overwrite};
 ghost use Rattle.text.specs.Text.{Wrote, WroteUpTo};

@@ -1,5 +1,7 @@
 // The record of an edited block (docs/RULES.md, "The edited block"), and what the calls hand back with it. What an opening and an edit leave stands in
 // specs/, with small examples of it.
+#![tactic(auto)]
+
 ghost use Rattle.std.specs.Prelude.{◌≡◌};
 ghost use Rattle.block_rules.specs.Edit.{zero_source, zero_block};
 

@@ -1,4 +1,6 @@
 // Whether and how the residuals of a block are summed up. What the block tools give stands in specs/, with small examples of it.
+#![tactic(auto)]
+
 #[derive(Drop)]
 pub enum Accumulate {
     Off,

@@ -1,4 +1,6 @@
 // What the block tools stand on: rotation and accumulation of a block where it stands, their refusals, and levels copied as they are.
+#![tactic(auto)]
+
 ghost use Rattle.std.specs.Prelude.{◌≡◌, ◌≤◌, length};
 ghost use Rattle.integers.specs.Lists.{overwrite};
 ghost use Rattle.block_tool_work.specs.Work.{at};

@@ -1,4 +1,6 @@
 // The block tools of the range extensions with 32-bit output: rotation by half a turn, accumulated residuals, and the bypass.
+#![tactic(auto)]
+
 mod bypass;
 mod skip;
 

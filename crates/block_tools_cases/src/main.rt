@@ -2,6 +2,8 @@
 // one, 2 the bypass. Then come the size, eight bytes, QP', four, and a byte each for depth, flag, DC, rotation and way of accumulation; the list after its length; the number
 // of levels, and how they are made: 0 as they follow, else by `fill`, small or over 16 bits; and the output's length, all lengths of eight bytes. An output is lent with
 // 999 throughout. The text goes on with the answer, for transform skip the count of limited coefficients, two running sums over the output, and the output where it is short. tests/block_tools_cases.py writes cases and text.
+#![tactic(auto)]
+
 use block_tools::Accumulate;
 use libc::STDIN_FILENO;
 use parameters::QpPrime;

@@ -1,5 +1,7 @@
 // What the calls of an edited block stand on: the refusals that they share, the column count, the opening with any source, and the stages of an
 // opening and of an edit.
+#![tactic(auto)]
+
 ghost use Rattle.std.specs.Prelude.{◌≡◌, ◌+◌, ◌*◌, ◌<◌, length, set};
 ghost use Rattle.block_rules.specs.Edit.{opened_buffers, opened, edited_buffers, buffers, Opens};
 ghost use Rattle.block_rules.specs.Work.{EditNeeds, Staged};

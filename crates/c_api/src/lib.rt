@@ -1,4 +1,6 @@
 // The library for C and Rust: the entry points that take and give plain data (docs/ARCHITECTURE.md names those that do not) under the prefix residual_, those of pictures under picture_, with numbers and slices as arguments and one record of numbers as answer. include/residual.h and include/picture.h declare the same for C.
+#![tactic(auto)]
+
 mod answers;
 mod edits;
 mod feeds;

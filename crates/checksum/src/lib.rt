@@ -1,4 +1,6 @@
 // The checksum form of the decoded picture hash, H.265 Annex D.
+#![tactic(auto)]
+
 ghost use Rattle.std.specs.Prelude.{◌≡◌, ◌+◌, ◌*◌, ◌<◌, ◌≤◌, min, length};
 ghost use Rattle.checksum.specs.Answers.{checksum_outcome};
 ghost use Rattle.checksum.specs.Checksum.{xor_mask, sample_term, run_term, total, row_total, picture_checksum, checksummed};

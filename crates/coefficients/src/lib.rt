@@ -1,4 +1,6 @@
 // The range of coefficients, where a block has one outside it and on which side, and which rows are in use. Internal: the crates above call these and meet what they require.
+#![tactic(auto)]
+
 ghost use Rattle.std.specs.Prelude.{◌≡◌, true, false, ℕ, ◌+◌, ◌*◌, ◌<◌, ◌≤◌, T, pos, get_or, length};
 ghost use Rattle.integers.specs.Search.{first_where};
 ghost use Rattle.std.specs.Int.Signed.{lt_z, mag};

@@ -1,5 +1,7 @@
 // Which coefficient makes this sample: what each coefficient of a block adds to one sample of the residual, before anything is rounded or limited.
 // Refuses 1, 4, 6, 7 and 8, in that order.
+#![tactic(auto)]
+
 ghost use Rattle.refusal.specs.Written.{Writes};
 ghost use Rattle.contributions.specs.Sample.{contributed};
 

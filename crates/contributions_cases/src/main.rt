@@ -1,6 +1,8 @@
 // Replays contributions from standard input. A case is a text, which is written as it is; the kind, 0 or 1 for DCT or DST, the size, and the row and the column of the
 // sample, eight bytes each; then coefficients after their length of eight bytes, and the length of the output, which is lent with 7 throughout. The text goes on with the
 // answer and the output. tests/contributions_cases.py writes cases and text.
+#![tactic(auto)]
+
 use libc::{STDIN_FILENO, STDOUT_FILENO};
 use transform_1d::Kind;
 

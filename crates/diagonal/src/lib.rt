@@ -1,4 +1,6 @@
 // The up-right diagonal order, as tables. Internal: the crates above walk blocks by them.
+#![tactic(auto)]
+
 ghost use Rattle.std.specs.Prelude.{◌≡◌};
 ghost use Rattle.diagonal.specs.Scan.{up_right};
 

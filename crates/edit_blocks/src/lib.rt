@@ -1,5 +1,7 @@
 // For each index of a block the values of its coefficient that give the residual a target at every wanted sample.
 // Internal: no refusal; callers meet each `requires`.
+#![tactic(auto)]
+
 mod spans; // the values of one coefficient, and of every index
 
 ghost use Rattle.std.specs.Prelude.{◌≡◌, length, ◌*◌};

@@ -1,4 +1,6 @@
 // Which edits make the mark go? For each index of a block the values of its coefficient with which the residual has a target at every wanted sample.
+#![tactic(auto)]
+
 ghost use Rattle.edit_search.specs.Found.{Finds, edits_found};
 
 use refusal::Answer;

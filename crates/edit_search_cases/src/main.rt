@@ -2,6 +2,8 @@
 // and 2 with one; the kind, 0 or 1 for DCT or DST; size, eight bytes, QP', four, depth, flag and DC, a byte each; then list, coefficients or levels, target and
 // flags, each after its length of eight bytes, and the lengths of both outputs. An output is lent with 7 throughout. The text goes on with the answer and both
 // outputs. tests/edit_search_cases.py, which asks every value of the range, writes cases and text.
+#![tactic(auto)]
+
 use libc::STDIN_FILENO;
 use parameters::QpPrime;
 use refusal::Answer;

@@ -1,6 +1,8 @@
 // Which values of one coefficient give one sample of the residual. Internal: callers meet each `requires`.
 // With everything else as it is, a sample never falls, or never rises, as the value grows: limit and rounding shift keep the order. So
 // the values that give a target stand together, and both ends of them are found by halves.
+#![tactic(auto)]
+
 ghost use Rattle.std.specs.Prelude.{◌≡◌, true, false, ◌≤◌, ◌<◌, ◌+ℤ◌, ◌*ℤ◌};
 ghost use Rattle.integers.specs.Shift.{round_shift};
 ghost use Rattle.integers.specs.Within.{Within};

@@ -1,4 +1,6 @@
 // A transform block that is opened once and then changed one coefficient at a time (docs/RULES.md, "The edited block").
+#![tactic(auto)]
+
 ghost use Rattle.refusal.specs.Written.{Writes};
 ghost use Rattle.block_rules.specs.Opening.{on_coefficients, opened_as};
 ghost use Rattle.block_rules.specs.Edit.{with_columns, edited, refreshed, buffers, Opens, Edits};

@@ -1,4 +1,6 @@
 // A block that is opened and then edited by a list, lent as slices: what holds of every list of edits, as the contract of one call.
+#![tactic(auto)]
+
 ghost use Rattle.std.specs.Prelude.{length};
 ghost use Rattle.block_rules.specs.Edit.{buffers};
 ghost use Rattle.block_rules.specs.Opening.{on_coefficients};

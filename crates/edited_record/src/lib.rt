@@ -1,4 +1,6 @@
 // One edit of a coefficient with the record lent, and with the record by value. Refuses as `edited_block::edit_core`.
+#![tactic(auto)]
+
 ghost use Rattle.block_rules.specs.Edit.{edited, buffers, Edits};
 
 use block_rules::{EditedBlock, Opened};

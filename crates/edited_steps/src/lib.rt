@@ -1,4 +1,6 @@
 // Edits of an open block, lent as slices, made one after the other, and their answers put into slices: what a call with a list of edits ends in.
+#![tactic(auto)]
+
 ghost use Rattle.std.specs.Prelude.{◌≡◌, min, ◌<◌, length};
 ghost use Rattle.refusal.specs.Outcome.{answer};
 ghost use Rattle.block_rules.specs.Edit.{buffers};

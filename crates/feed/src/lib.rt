@@ -1,4 +1,6 @@
 // The feed: records of parameters, lists, levels, edits and readings in, rows of residuals as text out. On slices; `feed_main` is the program.
+#![tactic(auto)]
+
 use refusal::Refusal;
 
 mod stream;

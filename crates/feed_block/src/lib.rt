@@ -1,4 +1,6 @@
 // One block of a feed: opened on its levels, or by transform skip. Internal: callers meet each `requires`.
+#![tactic(auto)]
+
 use edited_block::EditedBlock;
 
 mod block;

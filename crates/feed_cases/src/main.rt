@@ -1,5 +1,7 @@
 // Replays feeds. Each file that the arguments name holds cases: four bytes of length, low byte first, then the bytes of a feed. A
 // case is written as a line with its number in the file and the text of its feed, by `feed::run`.
+#![tactic(auto)]
+
 ghost use Rattle.std.specs.Prelude.{◌≤◌, length};
 ghost use Rattle.text.specs.Text.{Counts};
 

@@ -1,5 +1,7 @@
 // The records of a feed: their kinds, the lengths of their bodies and of their texts, and the values in a body. Internal but for what
 // `feed` passes on.
+#![tactic(auto)]
+
 mod format;
 mod room;
 mod values;

@@ -1,5 +1,7 @@
 // The text of a feed: the rows of a block with the line behind them, and the two lines behind all blocks. Internal but for what `feed`
 // passes on.
+#![tactic(auto)]
+
 mod block_text;
 mod line_text;
 

@@ -1,5 +1,7 @@
 // The feed program: reads a feed from standard input, a record at a time, and writes its text to standard output. Where a read or
 // a write fails it says so on standard error and ends: no `blocks` line and no `refused` line then says that the text is whole.
+#![tactic(auto)]
+
 ghost use Rattle.std.specs.Prelude.{◌≤◌, length};
 ghost use Rattle.text.specs.Text.{Counts};
 

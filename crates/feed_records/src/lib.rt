@@ -1,4 +1,6 @@
 // One record of a feed, below the question of room. Internal: callers meet each `requires`.
+#![tactic(auto)]
+
 mod open_block;
 mod records;
 

@@ -1,4 +1,6 @@
 // What a feed keeps between records, and the records that change nothing else: parameters and lists. Internal but for what `feed` passes on.
+#![tactic(auto)]
+
 use edited_block::EditedBlock;
 use feed_format::Given;
 use refusal::Answer;

@@ -1,4 +1,6 @@
 // Integers by code: what the definitions of specs/ say, on 64 bits. Internal: the crates above call these and meet what they require.
+#![tactic(auto)]
+
 ghost use Rattle.std.specs.Prelude.{◌≡◌, ◌<◌, nat_abs};
 ghost use Rattle.integers.specs.Clip.{clip3};
 ghost use Rattle.integers.specs.Shift.{pow2, shift_right};

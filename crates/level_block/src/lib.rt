@@ -1,4 +1,6 @@
 // A block that is opened on levels and then changed one level at a time (change request R-9).
+#![tactic(auto)]
+
 ghost use Rattle.block_rules.specs.Edit.{buffers, with_columns};
 ghost use Rattle.block_rules.specs.Level.{level_edited, LevelEdits, on_levels, on_scaled_levels, level_opened, LevelOpens};
 

@@ -1,4 +1,6 @@
 // Which level makes the mark go? For each index of a block of levels the levels with which the residual has a target at every wanted sample, without a list and with one.
+#![tactic(auto)]
+
 ghost use Rattle.h265.specs.ScalingFactor.ScalingList.{flat, listed};
 ghost use Rattle.edit_search.specs.Found.{Finds};
 ghost use Rattle.level_edits.specs.Levels.{level_edits_found};

@@ -1,4 +1,6 @@
 // One edit of a level with the record lent, and with the record by value. Refuses as `level_block::edit_level_core`.
+#![tactic(auto)]
+
 ghost use Rattle.block_rules.specs.Edit.{buffers};
 ghost use Rattle.block_rules.specs.Level.{level_edited, LevelEdits};
 

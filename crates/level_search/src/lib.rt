@@ -1,4 +1,6 @@
 // Which levels give the coefficients of a block: scaling asked backwards, without a list and with one.
+#![tactic(auto)]
+
 ghost use Rattle.h265.specs.ScalingFactor.ScalingList.{flat, listed};
 ghost use Rattle.refusal.specs.Written.{Writes};
 ghost use Rattle.level_search.specs.Found.{levels_found};

@@ -1,6 +1,8 @@
 // Replays searches for levels from standard input. A case is a text, which is written as it is, and a byte that says whether there is a list; size, eight bytes, QP', four,
 // depth, flag and DC, a byte each; then list, coefficients and output, the first two with what they hold, each after its length of eight bytes. An output is lent
 // with 7 throughout. The text goes on with the answer and the output. tests/level_search_cases.py, which asks every level of the range, writes cases and text.
+#![tactic(auto)]
+
 use libc::STDIN_FILENO;
 use parameters::QpPrime;
 use refusal::Answer;

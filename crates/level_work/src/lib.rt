@@ -1,4 +1,6 @@
 // What the calls on levels stand on: the refusals that they share, a level scaled by the record's source, and a list as the record keeps it.
+#![tactic(auto)]
+
 ghost use Rattle.std.specs.Prelude.{◌≡◌, Bool, ◌*◌, ◌<◌, length};
 ghost use Rattle.h265.specs.ScalingFactor.{scaling_factor};
 ghost use Rattle.refusal.specs.Condition.{size_refused, depth_refused};

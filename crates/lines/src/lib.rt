@@ -1,5 +1,7 @@
 // The parts of a line of 2 to 32 points, at twice its value, on 16-bit data: products of its odd values, and even and odd part put together.
 // x holds the values of a line; a line of n points reads every st-th of them, where n × st is their number.
+#![tactic(auto)]
+
 ghost use Rattle.std.specs.Prelude.{◌≡◌, ◌*◌, ◌+ℤ◌, ◌*ℤ◌};
 ghost use Rattle.integers.specs.Within.{Within};
 ghost use Rattle.lines.specs.Fold.{value_most, dot_sum, Small, DotNeeds, Folded};

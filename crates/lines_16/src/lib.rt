@@ -1,5 +1,7 @@
 // Lines of 8 and 16 points by even and odd parts, at twice their value, on 16-bit data: l8_4 is the line of 4 points over every second of 8
 // values, l8_odd_8 the odd part of the line of 8 points.
+#![tactic(auto)]
+
 ghost use Rattle.std.specs.Prelude.{◌≡◌, length};
 ghost use Rattle.lines.specs.Fold.{Twice, TwiceOdd};
 

@@ -1,5 +1,7 @@
 // The line of 32 points by even and odd parts, at twice its value, on 16-bit data: l32_4 is the line of 4 points over every eighth of 32
 // values, l32_odd_8 the odd part of the line of 8 points over every fourth.
+#![tactic(auto)]
+
 ghost use Rattle.std.specs.Prelude.{◌≡◌, length};
 ghost use Rattle.integers.specs.Within.{Within};
 ghost use Rattle.lines.specs.Fold.{dot_sum, DotNeeds, Twice, TwiceOdd};

@@ -1,5 +1,7 @@
 // Lines of 8, 16 and 32 points at twice their value of which only the first values are given: 4 of 8, 4 of 16, 8 of 32. The others are zero,
 // as a list is past its end.
+#![tactic(auto)]
+
 ghost use Rattle.std.specs.Prelude.{◌≡◌, ℕ, ◌+◌, ◌*◌, ◌<◌, ◌≤◌, ◌+ℤ◌, ◌*ℤ◌, length};
 ghost use Rattle.integers.specs.Within.{Within};
 ghost use Rattle.lines.specs.Fold.{value_most, dot_sum, Small, DotNeeds, Folded, Twice, TwiceOdd};

@@ -1,6 +1,8 @@
 // One-dimensional inverse transforms of 4 and 8 points on values of up to 23 bits. An output sums up to at most 479 × 2^22 in size, so that
 // 32-bit products and sums are exact.
 // Internal: no depth, no limit, no refusal; callers meet each `requires`.
+#![tactic(auto)]
+
 ghost use Rattle.std.specs.Prelude.{◌≡◌, [], ◌∷◌, ◌+◌, ◌*◌, ◌^◌, nat_abs, ◌+ℤ◌, ◌*ℤ◌};
 ghost use Rattle.integers.specs.Within.{Within};
 ghost use Rattle.h265.specs.Matrix.{trans_matrix, dst_matrix};

@@ -1,5 +1,7 @@
 // Blocks scaled by the list and DC of a number: the library's functions with a list, on the entries where they stand in the table. Each answers with the
 // library's count of limited coefficients.
+#![tactic(auto)]
+
 ghost use Rattle.std.specs.Prelude.{◌≡◌};
 ghost use Rattle.refusal.specs.Outcome.{refused, answer};
 ghost use Rattle.scaling_blocks.specs.Blocks.{bits16, bits32, scaling_ladder, CountWrites};

@@ -1,5 +1,7 @@
 // Places of a table of lists: where one starts, whether a number is held, which is the lowest free one, and what stands there. Internal: the
 // crates above call these and meet what they require.
+#![tactic(auto)]
+
 ghost use Rattle.std.specs.Prelude.{◌≡◌, ◌∷◌, ◌+◌, ◌*◌, ◌≤◌, ◌<◌, length, get_or};
 ghost use Rattle.std.proofs.Math.Seq.{paste};
 ghost use Rattle.integers.specs.Lists.{overwrite};

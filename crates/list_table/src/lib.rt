@@ -1,4 +1,6 @@
 // Two streams of scaling lists (change request R-10: two decks) in one lent table of 24 places: a list stored, dropped and looked up under its number.
+#![tactic(auto)]
+
 ghost use Rattle.std.specs.Prelude.{◌≡◌};
 ghost use Rattle.list_places.specs.Table.{stream_of, short};
 ghost use Rattle.list_table.specs.Calls.{find_answer};

@@ -2,6 +2,8 @@
 // number, where 255 is the largest number there is; where its list begins, and how long it is or the lent one is; DC, or the size of the block; what is lent too
 // short; QP', depth and flag. Its line holds number and place, then a store's number or DC, and lent elements afterwards. The last line is the table.
 // tests/list_table_cases.py writes calls and text.
+#![tactic(auto)]
+
 ghost use Rattle.std.specs.Prelude.{◌≤◌};
 
 use libc::STDIN_FILENO;

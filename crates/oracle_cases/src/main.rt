@@ -3,6 +3,8 @@
 // QP', and a level; the list, the input, and the output that the Rust left. The text goes on with number, row and column, of a block that is
 // scaled the count of limited coefficients, of a level whether it and its result were limited, by a plain writing of the rule, and whether every value is the Rust's.
 // `harness record` writes cases and text.
+#![tactic(auto)]
+
 ghost use Rattle.std.specs.Prelude.{◌≤◌};
 
 use c_api::{Answered, CountAnswered};

@@ -1,4 +1,6 @@
 // The range of coefficients, QP' and the numbers by which a block is scaled. Refuses 1 and 2, in that order.
+#![tactic(auto)]
+
 ghost use Rattle.std.specs.Prelude.{◌≡◌, ◌≤◌, T, pos, nat_abs};
 ghost use Rattle.h265.specs.Range.{is_size, log2_size};
 ghost use Rattle.h265.specs.Quantization.{qp_bd_offset, clip_qp_prime, qp_prime, scale_of_qp};

@@ -1,6 +1,8 @@
 // Replays module 1 from standard input. A case is a text, which is written as it is, and a byte that says which: 0 the range, 1 the offset of QP', 2 QP', 3 the numbers of
 // scaling, 4 those of transform skip. Then come the size, eight bytes, QP or QP', four, and depth and flag, a byte each. The text goes on with the answer and the
 // values. tests/parameters_cases.py writes cases and text.
+#![tactic(auto)]
+
 use libc::{STDIN_FILENO, STDOUT_FILENO};
 use parameters::{
     DequantAnswer, DequantParams, NumberAnswer, Qp, QpPrime, QpPrimeAnswer, TransformSkipAnswer,

@@ -1,4 +1,6 @@
 // Writes a table: for every depth, flag and size the range R, the shift s of scaling, the shift t of transform skip and the largest QP'.
+#![tactic(auto)]
+
 use libc::STDOUT_FILENO;
 use parameters::{NumberAnswer, Qp, QpPrime, QpPrimeAnswer, TransformSkipAnswer};
 

@@ -1,4 +1,6 @@
 // Rebuilt samples in a plane.
+#![tactic(auto)]
+
 mod rebuild;
 mod refuse;
 

@@ -2,6 +2,8 @@
 // size, eight bytes, depth, a byte, and width, height, stride, column and row, eight bytes each; residual and prediction, each after its length of eight bytes. A plane
 // comes as its length, its first sample and the step from sample to sample, two bytes each, modulo 2^16, and samples that stand in its first places, after their number.
 // The text goes on with the answer, and the plane afterwards or the checksum. tests/picture_cases.py writes cases and text.
+#![tactic(auto)]
+
 use checksum::ChecksumAnswer;
 use libc::STDIN_FILENO;
 use refusal::Answer;

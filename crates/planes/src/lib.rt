@@ -1,4 +1,6 @@
 // Row 13: planes that do not hold their picture, and blocks past it.
+#![tactic(auto)]
+
 ghost use Rattle.std.specs.Prelude.{◌≡◌, ◌+◌, ltb};
 ghost use Rattle.planes.specs.Picture.{side_refused, stride_refused, picture_refused, block_outside};
 

@@ -1,4 +1,6 @@
 // Why a call was refused: a variant for each row of the table of refusals, with the place where the row names one.
+#![tactic(auto)]
+
 ghost use Rattle.std.specs.Prelude.{◌≡◌};
 ghost use Rattle.refusal.specs.Condition.{size_refused, depth_refused, width_refused, rotation_refused};
 ghost use Rattle.refusal.specs.Refusal.{parts, number, place, row, column};

@@ -1,4 +1,6 @@
 // How far a residual may be from the exact product of its coefficients. Refuses 1, 2 and 4, in that order.
+#![tactic(auto)]
+
 ghost use Rattle.std.specs.Prelude.{◌≡◌, ◌≤◌, T};
 ghost use Rattle.h265.specs.Range.{is_size};
 ghost use Rattle.rounding.specs.Exact.{dct_sum, entry_sum, shift_of, rounding_bound};

@@ -1,5 +1,7 @@
 // Replays the rounding bound from standard input. A case is a text, which is written as it is; the kind, 0 or 1 for DCT or DST, the size, eight bytes, depth and flag. The
 // text goes on with the answer and the bound. tests/rounding_cases.py writes cases and text.
+#![tactic(auto)]
+
 use libc::STDIN_FILENO;
 use refusal::Answer;
 use rounding::BoundAnswer;

@@ -1,5 +1,7 @@
 // The listing of one block: for each index the m that scaling uses, and the rule that supplies it; and the room that a listing may take.
 // Internal: callers meet each `requires`.
+#![tactic(auto)]
+
 mod line_text;
 mod room;
 mod rule;

@@ -1,5 +1,7 @@
 // The listing program: reads a feed from standard input, a record at a time, and writes for each index of its blocks which m scaling
 // uses and why. At a refusal it writes the feed's line. Where a read or a write fails it says so on standard error and ends.
+#![tactic(auto)]
+
 ghost use Rattle.std.specs.Prelude.{◌≤◌, length};
 ghost use Rattle.text.specs.Text.{Counts};
 

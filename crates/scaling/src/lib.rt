@@ -1,4 +1,6 @@
 // Scaling of one value: m, one level, and the record that points at a scaling list.
+#![tactic(auto)]
+
 use refusal::Refusal;
 pub use scaling_values::ScaledLevel;
 

@@ -2,6 +2,8 @@
 // 2 and 3 scaling without a list and with one, 4 and 5 transform skip, with 32-bit output, and 6 to 9 the same with 16-bit output. Then come size, index, QP' and level, of
 // 8, 8, 4 and 4 bytes; depth, flag and DC, a byte each; the lengths of list, levels and output, two bytes each; list and levels. An output is lent with 7
 // throughout. The text goes on with the answer, and the value with what was limited, or the count of limited coefficients and the output. tests/scaling_cases.py writes cases and text.
+#![tactic(auto)]
+
 ghost use Rattle.std.specs.Prelude.{◌≤◌};
 
 use libc::STDIN_FILENO;

@@ -1,4 +1,6 @@
 // Scaling lists read from the bitstream: the syntax of H.265 clause 7.3.4.
+#![tactic(auto)]
+
 use refusal::Refusal;
 
 mod coded;

@@ -2,6 +2,8 @@
 // bytes of length, low byte first, a byte that says which slice is lent too short or too long, and the bytes of the stream. A case is written as a line with its
 // number, the answer's number and place and the bits read; then the lists that were read, a line for each with DC first, or whether the lent buffers are
 // as they were.
+#![tactic(auto)]
+
 ghost use Rattle.std.specs.Prelude.{◌≤◌, length};
 ghost use Rattle.text.specs.Text.{Counts};
 

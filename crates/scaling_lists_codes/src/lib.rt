@@ -1,4 +1,6 @@
 // The numbers in the syntax of scaling lists, H.265 clause 7.3.4: each code with its range, and where it is refused the offset at which it begins.
+#![tactic(auto)]
+
 ghost use Rattle.std.specs.Prelude.{◌≡◌, false, ◌+◌, ◌/◌, ◌≤◌};
 ghost use Rattle.bits.specs.declared.Code.{Code};
 ghost use Rattle.bits.specs.ExpGolomb.{signed_number};

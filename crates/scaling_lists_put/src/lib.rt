@@ -1,4 +1,6 @@
 // Scaling lists compared, and put into a buffer of bits. Internal: the crate above calls these and meets what they require.
+#![tactic(auto)]
+
 mod codes;
 mod list;
 mod same;

@@ -1,4 +1,6 @@
 // Which list a reference means, and where it stands: among the defaults, or among the lists read so far.
+#![tactic(auto)]
+
 ghost use Rattle.std.specs.Prelude.{◌≡◌, ◌-◌, ◌*◌, ◌/◌, ◌≤◌, ◌<◌, length};
 ghost use Rattle.scaling_lists_codes.specs.Syntax.{matrix_step, size_id, matrix_id, list_number};
 ghost use Rattle.scaling_lists_taken.specs.Held.{default_number, entries_taken};

@@ -2,6 +2,8 @@
 // is lent too short or too long, two bytes of room for the output, low byte first, 20 lists of 64 bytes with a byte behind them, and 20 DC numbers with a byte
 // behind them. A case is written as a line with its number, the answer's number and place, the bits written and the whole output buffer; or whether the buffer is
 // as it was.
+#![tactic(auto)]
+
 ghost use Rattle.std.specs.Prelude.{◌≤◌};
 
 use libc::{STDIN_FILENO, STDOUT_FILENO};

@@ -1,4 +1,6 @@
 // Scaling and transform skip of whole blocks with 16-bit output, with and without a list, at depths 8 and 9.
+#![tactic(auto)]
+
 ghost use Rattle.std.specs.Prelude.{◌≡◌};
 ghost use Rattle.h265.specs.ScalingFactor.ScalingList.{flat, listed};
 ghost use Rattle.scaling_blocks.specs.Blocks.{bits16, dequantized, transform_skipped, CountWrites};

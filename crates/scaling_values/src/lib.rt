@@ -1,5 +1,7 @@
 // One value of a block: a level scaled, with the m of a list or without a list, and one residual of transform skip.
 // Internal: no refusal; callers meet each `requires`.
+#![tactic(auto)]
+
 pub mod flat;
 pub mod level;
 pub mod listed;

@@ -1,4 +1,6 @@
 // Scaling and transform skip of whole blocks with 32-bit output, with and without a list.
+#![tactic(auto)]
+
 ghost use Rattle.std.specs.Prelude.{◌≡◌};
 ghost use Rattle.h265.specs.ScalingFactor.ScalingList.{flat, listed};
 ghost use Rattle.scaling_blocks.specs.Blocks.{bits32, dequantized, transform_skipped, CountWrites};

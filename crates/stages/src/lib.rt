@@ -1,5 +1,7 @@
 // The inverse transform of a block in two stages, in the plain range: R = 15, so that data are 16 bits wide and sums 32.
 // Internal: no refusal; callers meet each `requires`.
+#![tactic(auto)]
+
 ghost use Rattle.std.specs.Prelude.{◌≡◌, ◌*◌, ◌≤◌, ◌-◌, T, length};
 ghost use Rattle.integers.specs.Lists.{overwrite};
 ghost use Rattle.h265.specs.Range.{is_size};

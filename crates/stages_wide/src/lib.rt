@@ -1,6 +1,8 @@
 // Both stages on 32-bit data, for every range from 15 to 22: extended precision, and blocks that are edited. Every value is limited to the range
 // as it is read.
 // Internal: no refusal; callers meet each `requires`.
+#![tactic(auto)]
+
 mod parts; // values limited to the range, and sums rounded
 mod products; // lines of 4 points in 32-bit products
 mod moves; // blocks turned over, columns taken and put

@@ -1,5 +1,7 @@
 // Text written into a lent buffer at a place; each function answers where the text ends. Internal: callers see that there is room,
 // for which 12 bytes a number are enough.
+#![tactic(auto)]
+
 ghost use Rattle.std.specs.Prelude.{◌≡◌, cond, ◌+◌, ◌*◌, ◌≤◌, ◌<◌, ltb, length, take, drop};
 ghost use Rattle.text.specs.Text.{unsigned_text, signed_text, row_text, block_text, space, line_end, Wrote, WroteUpTo};
 

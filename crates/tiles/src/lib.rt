@@ -1,6 +1,8 @@
 // One stage over an 8 × 8 or a 16 × 16 block on 16-bit data: the line over column c becomes row c, so that each stage reads columns and writes
 // rows. Each function over a tile has one caller, and an array is lent as an array: else the compiler leaves its vectors.
 // Internal: no refusal; callers meet each `requires`.
+#![tactic(auto)]
+
 ghost use Rattle.std.specs.Prelude.{◌≡◌, true, false, ℕ, ◌+◌, ◌*◌, ◌-◌, ◌/◌, ◌%◌, ◌<◌, ◌≤◌, ◌^◌, pos, ◌+ℤ◌, length, get_or};
 ghost use Rattle.integers.specs.Shift.{pow2, shift_right};
 ghost use Rattle.integers.specs.Within.{Within};

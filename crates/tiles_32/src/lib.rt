@@ -1,5 +1,7 @@
 // One stage over a 32 × 32 block on 16-bit data, four lines at a time.
 // Internal: no refusal; callers meet each `requires`.
+#![tactic(auto)]
+
 ghost use Rattle.std.specs.Prelude.{◌≡◌, true, false, ℕ, ◌+◌, ◌*◌, ◌/◌, ◌%◌, ◌<◌, ◌≤◌, ◌^◌, pos, ◌+ℤ◌, length, get_or};
 ghost use Rattle.integers.specs.Shift.{shift_right};
 ghost use Rattle.integers.specs.Within.{Within};

@@ -1,6 +1,8 @@
 // The stages of 8, 16 and 32 points over blocks of which only the first 4, 4 and 8 rows are there: the others are zero. What writes a tile
 // out is here once more, since it has one caller each.
 // Internal: no refusal; callers meet each `requires`.
+#![tactic(auto)]
+
 ghost use Rattle.std.specs.Prelude.{◌≡◌, true, false, ℕ, ◌+◌, ◌*◌, ◌/◌, ◌%◌, ◌<◌, ◌≤◌, ◌^◌, pos, ◌+ℤ◌, length, get_or};
 ghost use Rattle.integers.specs.Shift.{shift_right};
 ghost use Rattle.integers.specs.Within.{Within};

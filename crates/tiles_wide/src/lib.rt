@@ -1,6 +1,8 @@
 // One stage of 8 to 32 points on 32-bit data, for every range from 15 to 22, by the stages on 16-bit data: once where all values fit 16 bits, else
 // on two parts of each. A value is limited to the range as it is read.
 // Internal: no refusal; callers meet each `requires`.
+#![tactic(auto)]
+
 ghost use Rattle.std.specs.Prelude.{◌≡◌, ◌+◌, ◌*◌, ◌<◌, ◌≤◌, length};
 ghost use Rattle.tiles_wide.specs.Pass.{PassNeeds, PassGives};
 

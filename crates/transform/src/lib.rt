@@ -1,4 +1,6 @@
 // The inverse transforms of whole blocks. Refuses 1, 2, 3 (16-bit output), 6, 7, and 9 or 19, lowest number first; 19 has the place of 9.
+#![tactic(auto)]
+
 ghost use Rattle.std.specs.Prelude.{true, false};
 ghost use Rattle.refusal.specs.Written.{Writes};
 ghost use Rattle.transform_1d.specs.declared.Kind.TheVariants.{Dct, Dst};

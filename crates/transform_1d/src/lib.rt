@@ -1,5 +1,7 @@
 // One-dimensional inverse transforms on 16-bit data: the 32-point matrix, the layouts that the kernel reads, and the lines.
 // Internal: no depth, no limit, no refusal but row 4's test; callers meet each `requires`.
+#![tactic(auto)]
+
 ghost use Rattle.std.specs.Prelude.{◌≡◌, ℕ, ◌+◌, ◌*◌, ◌/◌, ◌%◌, ◌<◌, ◌≤◌, ◌^◌, pos, nat_abs, ◌+ℤ◌, ◌*ℤ◌, length, get_or};
 ghost use Rattle.integers.specs.Lists.{tabulate};
 ghost use Rattle.integers.specs.Within.{Within};

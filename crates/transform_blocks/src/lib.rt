@@ -1,5 +1,7 @@
 // The inverse transform of a whole block of any kind, at 16 and at 32 bits: the refusals, lowest number first, then the stages of the range.
 // Internal: callers meet each `requires`.
+#![tactic(auto)]
+
 ghost use Rattle.std.specs.Prelude.{◌≡◌, true, false, min, ◌*◌, ◌≤◌, length};
 ghost use Rattle.integers.specs.Lists.{overwrite};
 ghost use Rattle.h265.specs.Transform.{row_order, residual};

@@ -2,6 +2,8 @@
 // 2 and 3 the DST, 4 and 5 both with 16-bit output. Then come size and column count, eight bytes each, and depth, a byte; how many coefficients there are, eight bytes, and
 // the coefficients; and the output's length. An output is lent with 7 throughout, so that what a call leaves alone is seen. The text goes on with the answer and
 // the output. tests/transform_cases.py writes cases and text.
+#![tactic(auto)]
+
 use libc::STDIN_FILENO;
 use refusal::Answer;
 

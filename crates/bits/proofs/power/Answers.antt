@@ -4,14 +4,7 @@ use native.Mathlib.Nat.{one-mul, mod-eq_of_lt}
 use native.Mathlib.Omega.{arith}
 use borrow.Author.Rules.{rules}
 use lib.Pow.{pow_mono}
-use Rattle.bits.proofs.power.Statement.{statement}
-use Rattle.bits.proofs.power.Tie as tie
+use Rattle.bits.proofs.power.Goals as goal
 
-shl-result : tie.Need-overflow-shl-result
-shl-result c = search rules
-
-returns : tie.Need-returns
+pub returns : goal.returns
 returns c = rw (one-mul (2 ^ c.args.n)) (mod-eq_of_lt (omega (arith, pow_mono {i = c.args.n} {j = 32} c.requires)))
-
-pub power_spec : {M : Type 1} → statement M
-power_spec = tie.close (tie.spec shl-result returns)
