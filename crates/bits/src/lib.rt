@@ -6,7 +6,7 @@ ghost use Rattle.bits.specs.Bits.{is_there, bit_at, bits_number};
 ghost use Rattle.bits.specs.ExpGolomb.{leading_zeros, unsigned_code, behind};
 
 // What stands at an offset: a number and the offset behind its code; or a code with more than 32 leading zeros; or the bits end in it.
-#[derive(Drop)]
+#[derive(Clone, Copy)]
 pub enum Code {
     Number(u64, usize),
     TooLong,

@@ -11,7 +11,7 @@ use scaling_blocks::CountAnswer;
 use transform_1d::Kind;
 
 // What the coefficients come from: levels, with what they are scaled by. What an opening is not given is 0.
-#[derive(Drop)]
+#[derive(Clone, Copy)]
 pub struct Source {
     pub levels: bool,
     pub qp_prime: QpPrime,
@@ -21,7 +21,7 @@ pub struct Source {
 }
 
 // What an opening fixes, and how many columns are in use. The buffers stay with the caller.
-#[derive(Drop)]
+#[derive(Clone, Copy)]
 pub struct EditedBlock {
     pub kind: Kind,
     pub size: usize,
@@ -32,49 +32,49 @@ pub struct EditedBlock {
 }
 
 // What an opening answers, or an edit that takes the record by value, with the record afterwards.
-#[derive(Drop)]
+#[derive(Clone, Copy)]
 pub struct Opened {
     pub answer: Answer,
     pub block: EditedBlock,
 }
 
 // What an edit answers, with the column count afterwards.
-#[derive(Drop)]
+#[derive(Clone, Copy)]
 pub struct Edited {
     pub answer: Answer,
     pub columns: usize,
 }
 
 // Whether a level was limited, and after that its result.
-#[derive(Drop)]
+#[derive(Clone, Copy)]
 pub struct Limits {
     pub level: bool,
     pub result: bool,
 }
 
 // The answer to a level edit.
-#[derive(Drop)]
+#[derive(Clone, Copy)]
 pub enum LimitsAnswer {
     Done(Limits),
     Refused(Refusal),
 }
 
 // What a level edit answers, with the column count afterwards.
-#[derive(Drop)]
+#[derive(Clone, Copy)]
 pub struct LevelEdited {
     pub answer: LimitsAnswer,
     pub columns: usize,
 }
 
 // The same of an edit that takes the record by value, with the record afterwards.
-#[derive(Drop)]
+#[derive(Clone, Copy)]
 pub struct LevelEditedBlock {
     pub answer: LimitsAnswer,
     pub block: EditedBlock,
 }
 
 // What an opening on levels answers, how many coefficients were limited, and the record.
-#[derive(Drop)]
+#[derive(Clone, Copy)]
 pub struct LevelsOpened {
     pub answer: CountAnswer,
     pub block: EditedBlock,

@@ -10,7 +10,7 @@ use parameters::QpPrime;
 use refusal::Answer;
 use scaling_blocks::CountAnswer;
 
-#[derive(Drop)]
+#[derive(Clone, Copy)]
 struct Case {
     which: u8,
     n: usize,

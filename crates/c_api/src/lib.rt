@@ -61,7 +61,7 @@ pub use version::residual_version;
 // What a call answers: 0, or a refusal's number with its place: a row and a column for a coefficient, else one number. The other records
 // add the values, zeros on refusal.
 #[repr(C)]
-#[derive(Drop)]
+#[derive(Clone, Copy)]
 pub struct Answered {
     pub number: u32,
     pub row: u8,
@@ -71,7 +71,7 @@ pub struct Answered {
 
 // How many coefficients of a block were limited.
 #[repr(C)]
-#[derive(Drop)]
+#[derive(Clone, Copy)]
 pub struct CountAnswered {
     pub number: u32,
     pub row: u8,
@@ -82,7 +82,7 @@ pub struct CountAnswered {
 
 // The coefficient of a level, whether the level was limited, and whether after that the result was.
 #[repr(C)]
-#[derive(Drop)]
+#[derive(Clone, Copy)]
 pub struct LevelAnswered {
     pub number: u32,
     pub row: u8,
@@ -94,7 +94,7 @@ pub struct LevelAnswered {
 }
 
 #[repr(C)]
-#[derive(Drop)]
+#[derive(Clone, Copy)]
 pub struct NumberAnswered {
     pub number: u32,
     pub row: u8,
@@ -104,7 +104,7 @@ pub struct NumberAnswered {
 }
 
 #[repr(C)]
-#[derive(Drop)]
+#[derive(Clone, Copy)]
 pub struct SignedAnswered {
     pub number: u32,
     pub row: u8,
@@ -115,7 +115,7 @@ pub struct SignedAnswered {
 
 // The number under which a list was stored.
 #[repr(C)]
-#[derive(Drop)]
+#[derive(Clone, Copy)]
 pub struct StoreAnswered {
     pub number: u32,
     pub row: u8,
@@ -126,7 +126,7 @@ pub struct StoreAnswered {
 
 // How many bits were read.
 #[repr(C)]
-#[derive(Drop)]
+#[derive(Clone, Copy)]
 pub struct BitsAnswered {
     pub number: u32,
     pub row: u8,
@@ -136,7 +136,7 @@ pub struct BitsAnswered {
 }
 
 #[repr(C)]
-#[derive(Drop)]
+#[derive(Clone, Copy)]
 pub struct DequantAnswered {
     pub number: u32,
     pub row: u8,
@@ -150,7 +150,7 @@ pub struct DequantAnswered {
 }
 
 #[repr(C)]
-#[derive(Drop)]
+#[derive(Clone, Copy)]
 pub struct TransformSkipAnswered {
     pub number: u32,
     pub row: u8,
@@ -167,7 +167,7 @@ pub struct TransformSkipAnswered {
 
 // The record of an edited block, as it goes from call to call: `dst` is its kind; from `levels` on, how it was opened and what its levels are scaled by.
 #[repr(C)]
-#[derive(Drop)]
+#[derive(Clone, Copy)]
 pub struct Block {
     pub dst: bool,
     pub size: usize,
@@ -183,7 +183,7 @@ pub struct Block {
 
 // An answer with that record, and how many coefficients an opening on levels limited; 0 for every other call.
 #[repr(C)]
-#[derive(Drop)]
+#[derive(Clone, Copy)]
 pub struct BlockAnswered {
     pub number: u32,
     pub row: u8,
@@ -195,7 +195,7 @@ pub struct BlockAnswered {
 
 // The answer to a level edit: whether the level was limited, and whether after that the result was.
 #[repr(C)]
-#[derive(Drop)]
+#[derive(Clone, Copy)]
 pub struct LevelEditAnswered {
     pub number: u32,
     pub row: u8,
@@ -208,7 +208,7 @@ pub struct LevelEditAnswered {
 
 // What an opening answered, with the record after the last edit, and how many edits were given to the block.
 #[repr(C)]
-#[derive(Drop)]
+#[derive(Clone, Copy)]
 pub struct ListAnswered {
     pub number: u32,
     pub row: u8,
@@ -221,7 +221,7 @@ pub struct ListAnswered {
 
 // Whether there was room, and where the text ends; 0 without room.
 #[repr(C)]
-#[derive(Drop)]
+#[derive(Clone, Copy)]
 pub struct FeedRan {
     pub room: bool,
     pub end: usize,

@@ -7,7 +7,7 @@ ghost use Rattle.checksum.specs.Checksum.{xor_mask, sample_term, run_term, total
 
 use refusal::Refusal;
 
-#[derive(Drop)]
+#[derive(Clone, Copy)]
 pub enum ChecksumAnswer {
     Sum(u32),
     Refused(Refusal),

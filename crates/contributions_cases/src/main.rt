@@ -6,7 +6,7 @@
 use libc::{STDIN_FILENO, STDOUT_FILENO};
 use transform_1d::Kind;
 
-#[derive(Drop)]
+#[derive(Clone, Copy)]
 struct Case {
     dst: bool,
     n: usize,

@@ -9,7 +9,7 @@ use parameters::QpPrime;
 use refusal::Answer;
 use transform_1d::Kind;
 
-#[derive(Drop)]
+#[derive(Clone, Copy)]
 struct Case {
     function: u8,
     dst: bool,

@@ -11,7 +11,7 @@ ghost use Rattle.edit_values.specs.Values.{value_at};
 ghost use Rattle.edit_values.specs.Sample.{sample_by, before, falls, past, Bounded, Split, Narrowed};
 
 // What a sample has of everything but the coefficient's value.
-#[derive(Drop)]
+#[derive(Clone, Copy)]
 pub struct Probe {
     pub range: u32,
     pub shift: u32,
@@ -23,7 +23,7 @@ pub struct Probe {
 }
 
 // Places of the range from `from` up to, and without, `to`.
-#[derive(Drop)]
+#[derive(Clone, Copy)]
 pub struct Span {
     pub from: u32,
     pub to: u32,

@@ -9,7 +9,7 @@ use crate::{compare, edits, lists, settings};
 use edited_block::EditedBlock;
 use libc::STDIN_FILENO;
 
-#[derive(Drop)]
+#[derive(Clone, Copy)]
 struct Edits {
     rows: [usize; 100],
     columns: [usize; 100],
@@ -18,7 +18,7 @@ struct Edits {
     ways: [bool; 100],
 }
 
-#[derive(Drop)]
+#[derive(Clone, Copy)]
 struct Edit {
     row: usize,
     column: usize,
@@ -28,7 +28,7 @@ struct Edit {
 }
 
 // What one edit gave, and whether all of it was as it should be.
-#[derive(Drop)]
+#[derive(Clone, Copy)]
 struct Turned {
     block: EditedBlock,
     right: bool,

@@ -10,7 +10,7 @@ use scaling_blocks::CountAnswer;
 use transform_1d::Kind;
 
 // `way` is 0 for an opening on coefficients, 1 for one on levels and 2 for one on levels with a list, of which `count` entries are lent.
-#[derive(Drop)]
+#[derive(Clone, Copy)]
 pub struct Setting {
     pub kind: Kind,
     pub n: usize,

@@ -14,7 +14,7 @@ use refusal::Answer;
 use scaling_blocks::CountAnswer;
 
 // What the opening answered, with how many coefficients it limited, the record after the last edit, and how many edits were given to the block.
-#[derive(Drop)]
+#[derive(Clone, Copy)]
 pub struct Listed {
     pub answer: CountAnswer,
     pub block: EditedBlock,

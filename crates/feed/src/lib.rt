@@ -12,7 +12,7 @@ pub use feed_lines::{Line, blocks_line, refusal_line};
 pub use feed_state::{State, start};
 pub use stream::{run, step};
 
-#[derive(Drop)]
+#[derive(Clone, Copy)]
 pub enum StepAnswer {
     Done,
     Refused(Refusal),
@@ -20,7 +20,7 @@ pub enum StepAnswer {
 }
 
 // The answer to one record, the state after it, and how many bytes its text took.
-#[derive(Drop)]
+#[derive(Clone, Copy)]
 pub struct Stepped {
     pub answer: StepAnswer,
     pub state: State,
@@ -28,7 +28,7 @@ pub struct Stepped {
 }
 
 // Where the text of a whole feed ends; or the buffer was too short for it, and nothing was written.
-#[derive(Drop)]
+#[derive(Clone, Copy)]
 pub enum Ran {
     Text(usize),
     NoRoom,

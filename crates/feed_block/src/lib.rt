@@ -8,7 +8,7 @@ mod block;
 pub use block::{open_body, skip_body};
 
 // A block of levels that was opened: how many coefficients were limited, and its record.
-#[derive(Drop)]
+#[derive(Clone, Copy)]
 pub struct BlockOpened {
     pub limited: u16,
     pub block: EditedBlock,

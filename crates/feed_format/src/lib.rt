@@ -12,7 +12,7 @@ pub use format::{
 pub use room::{capped_sum, feed_room, least};
 pub use values::{edit_level, entries_of, read_levels};
 
-#[derive(Drop)]
+#[derive(Clone, Copy)]
 pub enum Kind {
     Parameters,
     List,
@@ -23,14 +23,14 @@ pub enum Kind {
     Unknown,
 }
 
-#[derive(Drop)]
+#[derive(Clone, Copy)]
 pub enum Mode {
     Dct,
     Dst,
     Skip,
 }
 
-#[derive(Drop)]
+#[derive(Clone, Copy)]
 pub struct Parameters {
     pub bit_depth: u8,
     pub extended_precision: bool,
@@ -39,7 +39,7 @@ pub struct Parameters {
 }
 
 // The parameters, once there are any.
-#[derive(Drop)]
+#[derive(Clone, Copy)]
 pub enum Given {
     Nothing,
     These(Parameters),

@@ -9,7 +9,7 @@ pub use block_text::{put_reading, put_rows};
 pub use line_text::{blocks_line, put_blocks, put_refused, refusal_line};
 
 // One line of text: the first `end` bytes.
-#[derive(Drop)]
+#[derive(Clone, Copy)]
 pub struct Line {
     pub bytes: [u8; 40],
     pub end: usize,

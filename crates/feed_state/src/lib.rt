@@ -14,7 +14,7 @@ pub use states::{kept, moved, one_more, start, with_closed, with_open};
 // What a feed keeps between records. Entries and DC count while `listed` holds, the block's record while `editing` does: then the
 // block of the latest levels record can be edited and read, and its levels, coefficients, intermediate and residual are in buffers
 // that stay with the caller. The offset is that of the next record's kind, in bytes from the feed's first.
-#[derive(Drop)]
+#[derive(Clone, Copy)]
 pub struct State {
     pub given: Given,
     pub listed: bool,
@@ -27,7 +27,7 @@ pub struct State {
 }
 
 // The answer to one record below the question of room, the state after it, and the place in the buffer where its text ends.
-#[derive(Drop)]
+#[derive(Clone, Copy)]
 pub struct Taken {
     pub answer: Answer,
     pub state: State,

@@ -7,7 +7,7 @@ use libc::STDIN_FILENO;
 use parameters::QpPrime;
 use refusal::Answer;
 
-#[derive(Drop)]
+#[derive(Clone, Copy)]
 struct Case {
     listed: bool,
     n: usize,

@@ -9,14 +9,14 @@ ghost use Rattle.list_table.specs.Answers.{Stores, Drops, Finds};
 use refusal::{Answer, Refusal};
 
 // The number under which a list was stored.
-#[derive(Drop)]
+#[derive(Clone, Copy)]
 pub enum StoreAnswer {
     Stored(usize),
     Refused(Refusal),
 }
 
 // The DC of a list that was handed out.
-#[derive(Drop)]
+#[derive(Clone, Copy)]
 pub enum ListAnswer {
     Dc(u8),
     Refused(Refusal),

@@ -13,7 +13,7 @@ pub const SHORT_LEVELS: u8 = 2;
 pub const SHORT_OUT: u8 = 3;
 
 // A block to scale by a number.
-#[derive(Drop)]
+#[derive(Clone, Copy)]
 pub struct Asked {
     pub stream: usize,
     pub number: usize,

@@ -11,7 +11,7 @@ use c_api::{Answered, CountAnswered};
 use libc::STDIN_FILENO;
 
 // `byte` is DC or m, `qp` is QP or QP', `count` the column count or an index.
-#[derive(Drop)]
+#[derive(Clone, Copy)]
 struct Case {
     function: u8,
     bit_depth: u8,

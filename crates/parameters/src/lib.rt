@@ -10,13 +10,13 @@ ghost use Rattle.parameters.specs.Parameters.{max_log2_transform_dynamic_range, 
 use refusal::Refusal;
 
 // A quantization parameter, and the same with the depth's offset: code that scales takes the second.
-#[derive(Drop)]
+#[derive(Clone, Copy)]
 pub struct Qp(pub i32);
 
-#[derive(Drop)]
+#[derive(Clone, Copy)]
 pub struct QpPrime(pub i32);
 
-#[derive(Drop)]
+#[derive(Clone, Copy)]
 pub struct DequantParams {
     pub factor: i64,
     pub add: i64,
@@ -25,32 +25,32 @@ pub struct DequantParams {
     pub clip_max: i64,
 }
 
-#[derive(Drop)]
+#[derive(Clone, Copy)]
 pub struct TransformSkipParams {
     pub dequant: DequantParams,
     pub tr_add: i32,
     pub tr_shift: i32,
 }
 
-#[derive(Drop)]
+#[derive(Clone, Copy)]
 pub enum NumberAnswer {
     Value(u32),
     Refused(Refusal),
 }
 
-#[derive(Drop)]
+#[derive(Clone, Copy)]
 pub enum QpPrimeAnswer {
     Value(QpPrime),
     Refused(Refusal),
 }
 
-#[derive(Drop)]
+#[derive(Clone, Copy)]
 pub enum DequantAnswer {
     Params(DequantParams),
     Refused(Refusal),
 }
 
-#[derive(Drop)]
+#[derive(Clone, Copy)]
 pub enum TransformSkipAnswer {
     Params(TransformSkipParams),
     Refused(Refusal),

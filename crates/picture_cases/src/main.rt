@@ -8,7 +8,7 @@ use checksum::ChecksumAnswer;
 use libc::STDIN_FILENO;
 use refusal::Answer;
 
-#[derive(Drop)]
+#[derive(Clone, Copy)]
 struct Case {
     which: u8,
     n: usize,

@@ -5,7 +5,7 @@ ghost use Rattle.std.specs.Prelude.{◌≡◌};
 ghost use Rattle.refusal.specs.Condition.{size_refused, depth_refused, width_refused, rotation_refused};
 ghost use Rattle.refusal.specs.Refusal.{parts, number, place, row, column};
 
-#[derive(Drop)]
+#[derive(Clone, Copy)]
 pub enum Refusal {
     SizeInvalid,
     DepthInvalid,
@@ -35,7 +35,7 @@ pub enum Refusal {
 }
 
 // The answer of a call that hands nothing back but what it wrote.
-#[derive(Drop)]
+#[derive(Clone, Copy)]
 pub enum Answer {
     Done,
     Refused(Refusal),
@@ -43,7 +43,7 @@ pub enum Answer {
 
 // A refusal's number in the table, and the place that it names: one number (an index or an offset), or the row and column of a
 // coefficient; 0 where it names none.
-#[derive(Drop)]
+#[derive(Clone, Copy)]
 pub struct RefusalParts {
     number: u8,
     place: usize,

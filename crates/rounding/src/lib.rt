@@ -9,7 +9,7 @@ ghost use Rattle.rounding.specs.Bound.{bound_outcome, rounding_bound_of};
 use refusal::Refusal;
 use transform_1d::Kind;
 
-#[derive(Drop)]
+#[derive(Clone, Copy)]
 pub enum BoundAnswer {
     Bound(u32),
     Refused(Refusal),

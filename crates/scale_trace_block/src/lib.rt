@@ -10,7 +10,7 @@ pub use line_text::put_lines;
 pub use room::{list_room, listing_room, size_of};
 
 // The rule that supplies m, with the position in the list where the rule has one.
-#[derive(Drop)]
+#[derive(Clone, Copy)]
 pub enum Source {
     None,
     Four(usize),

@@ -8,7 +8,7 @@ ghost use Rattle.text.specs.Text.{Counts};
 use feed::{Line, State, StepAnswer};
 use libc::{STDERR_FILENO, STDIN_FILENO, STDOUT_FILENO};
 
-#[derive(Drop)]
+#[derive(Clone, Copy)]
 struct Progress {
     going: bool,
     state: State,

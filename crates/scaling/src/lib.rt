@@ -12,20 +12,20 @@ pub use factor::scaling_coeff;
 pub use level::scale_level;
 pub use matrix::coeff;
 
-#[derive(Drop)]
+#[derive(Clone, Copy)]
 pub enum FactorAnswer {
     Factor(u8),
     Refused(Refusal),
 }
 
-#[derive(Drop)]
+#[derive(Clone, Copy)]
 pub enum LevelAnswer {
     Level(ScaledLevel),
     Refused(Refusal),
 }
 
 // A scaling matrix: it points at the caller's list.
-#[derive(Drop)]
+#[derive(Clone, Copy)]
 pub struct ScalingMatrix<'a> {
     pub list: &'a [u8],
     pub dc: u8,

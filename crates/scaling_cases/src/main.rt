@@ -12,7 +12,7 @@ use refusal::Answer;
 use scaling::{FactorAnswer, LevelAnswer};
 use scaling_blocks::CountAnswer;
 
-#[derive(Drop)]
+#[derive(Clone, Copy)]
 struct Case {
     which: u8,
     n: usize,

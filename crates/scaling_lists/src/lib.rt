@@ -12,7 +12,7 @@ mod taken;
 pub use reader::read_scaling_lists;
 
 // How many bits were read.
-#[derive(Drop)]
+#[derive(Clone, Copy)]
 pub enum ReadAnswer {
     Read(usize),
     Refused(Refusal),

@@ -11,7 +11,7 @@ use bits::Code;
 use refusal::Refusal;
 
 // A number that was read and the bit offset behind it, or why there is none.
-#[derive(Drop)]
+#[derive(Clone, Copy)]
 pub enum Part {
     Value(u8, usize),
     Refused(Refusal),

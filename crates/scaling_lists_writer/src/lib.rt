@@ -9,7 +9,7 @@ mod writer;
 pub use writer::write_scaling_lists;
 
 // How many bits were written.
-#[derive(Drop)]
+#[derive(Clone, Copy)]
 pub enum WriteAnswer {
     Written(usize),
     Refused(Refusal),

@@ -9,7 +9,7 @@ pub mod long;
 pub mod skip;
 
 // The coefficient of a level, whether the level was limited, and whether the result was.
-#[derive(Drop)]
+#[derive(Clone, Copy)]
 pub struct ScaledLevel {
     pub value: i32,
     pub level_limited: bool,
@@ -17,7 +17,7 @@ pub struct ScaledLevel {
 }
 
 // The coefficient of a level in 32 bits, and 1 where the level or the result was limited.
-#[derive(Drop)]
+#[derive(Clone, Copy)]
 pub struct FlatLevel {
     pub value: i32,
     pub limited: u32,
@@ -25,7 +25,7 @@ pub struct FlatLevel {
 
 // The numbers of a block without a list: `low` and `top` are the least and the largest level that nothing limits, `under` and `over` the
 // coefficients past them.
-#[derive(Drop)]
+#[derive(Clone, Copy)]
 pub struct FlatParams {
     pub base: i32,
     pub add: i32,
@@ -38,7 +38,7 @@ pub struct FlatParams {
 
 // The numbers of a block with a list where R = 15, without the power of two that the factor and the shift share: `base` is the odd part of what
 // m is multiplied by, and a product is shifted `down` with the rounding `add`, or `up` with none; between `low` and `top` nothing limits it.
-#[derive(Drop)]
+#[derive(Clone, Copy)]
 pub struct ListedParams {
     pub base: i32,
     pub add: i32,
@@ -50,7 +50,7 @@ pub struct ListedParams {
 
 // The same at every range. A product with its rounding is held in two parts, of which the one that counts in 128s tells by `low` and `top` what is
 // limited; `least` and `most` are the range's ends.
-#[derive(Drop)]
+#[derive(Clone, Copy)]
 pub struct LongParams {
     pub base: i32,
     pub add: i32,
@@ -63,7 +63,7 @@ pub struct LongParams {
 }
 
 // A number as 128 times `over` and `rest`, which is from 0 to 127.
-#[derive(Drop)]
+#[derive(Clone, Copy)]
 pub struct Parts {
     pub over: i32,
     pub rest: i32,

@@ -12,7 +12,7 @@ ghost use Rattle.transform_1d.specs.Kernel.{pair_most, row_pair, SumsRoom, Added
 ghost use Rattle.transform_1d.specs.Rows.{Placed};
 
 // The kind of a transform: a DCT of 4 to 32 points, or the 4-point DST.
-#[derive(Drop)]
+#[derive(Clone, Copy)]
 pub enum Kind {
     Dct,
     Dst,

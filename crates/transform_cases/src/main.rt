@@ -7,7 +7,7 @@
 use libc::STDIN_FILENO;
 use refusal::Answer;
 
-#[derive(Drop)]
+#[derive(Clone, Copy)]
 struct Case {
     which: u8,
     n: usize,

@@ -1,0 +1,16 @@
+-- `feed_format::format::dst_refused` meets its contract: an arm for each mode.
+use borrow.Author.Rules.{rules}
+use Rattle.feed_format.specs.Format.{dst_refused}
+use Rattle.feed_format.proofs.format.dst_refused.Goals as goal
+
+pub returns-in-Dst : goal.returns-in-Dst
+unfolding dst_refused
+returns-in-Dst c = rw c.enum_told-1.given.1
+
+pub returns-in-Dct : goal.returns-in-Dct
+unfolding dst_refused
+returns-in-Dct c = rw c.enum_told-in-Dct-1.given.1
+
+pub returns-in-Skip : goal.returns-in-Skip
+unfolding dst_refused
+returns-in-Skip c = rw c.enum_told-in-Skip-1.given.1

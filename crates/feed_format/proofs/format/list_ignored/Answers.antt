@@ -1,0 +1,16 @@
+-- `feed_format::format::list_ignored` meets its contract: an arm for each mode.
+use borrow.Author.Rules.{rules}
+use Rattle.feed_format.specs.Format.{list_ignored}
+use Rattle.feed_format.proofs.format.list_ignored.Goals as goal
+
+pub returns-in-Dct : goal.returns-in-Dct
+unfolding list_ignored
+returns-in-Dct c = rw c.enum_told-1.given.1
+
+pub returns-in-Dst : goal.returns-in-Dst
+unfolding list_ignored
+returns-in-Dst c = rw c.enum_told-in-Dst-1.given.1
+
+pub returns-in-Skip : goal.returns-in-Skip
+unfolding list_ignored
+returns-in-Skip c = rw c.enum_told-in-Skip-1.given.1

@@ -1,0 +1,48 @@
+-- `feed_format::room::feed_room` meets its contract: what is counted and what the rest asks are what the whole asks.
+use mathlib.Core.Path.{◌≡◌, sym, ap, ◌∙◌}
+use mathlib.Core.Bool.{Bool}
+use Prim.Native.Nat.{◌-◌}
+use native.Mathlib.Omega.{arith}
+use borrow.Author.Rules.{rules}
+use lib.ListN.{length, get_or}
+use Rattle.feed_format.specs.Format.{kind_of, is_unknown, record_room}
+use Rattle.feed_format.specs.Room.{feed_room}
+use Rattle.feed_format.proofs.RoomLaws.{RoomLeft, room_start, room_more, room_unknown, room_end}
+use Rattle.feed_format.proofs.room.feed_room.Goals as goal
+use Rattle.feed_format.proofs.room.feed_room.Goals.{After-is_unknown}
+
+pub loop-at-init : goal.loop-at-init
+loop-at-init c = room_start record_room _
+
+pub bounds-input-at : goal.bounds-input-at
+bounds-input-at c = omega arith
+
+known : {b : Bool} (c : After-is_unknown) → c.is_unknown.result ≡ b → is_unknown (kind_of (get_or c.args.input.now c.loop-at.at 0)) ≡ b
+known c e = sym (c.is_unknown.ensures ∙ ap is_unknown c.kind_of.ensures) ∙ e
+
+pub returns-then-is_unknown : goal.returns-then-is_unknown
+unfolding feed_room
+returns-then-is_unknown c = c.capped_sum.ensures ∙ sym (room_unknown c.loop-at.invariant c.loop-at-test.true (known (goal.at.returns-then-is_unknown c).After-is_unknown c.if-is_unknown.true))
+
+pub record_room-requires : goal.record_room-requires
+record_room-requires c κs = search rules
+
+pub overflow_add-at : goal.overflow_add-at
+overflow_add-at c = omega arith
+
+pub record_length-requires : goal.record_length-requires
+record_length-requires c κs = search rules
+
+pub overflow_add-at-in-loop-at : goal.overflow_add-at-in-loop-at
+overflow_add-at-in-loop-at c = omega arith
+
+pub loop-at-smaller : goal.loop-at-smaller
+loop-at-smaller c = omega (arith, c.least-at.ensures, c.loop-at-test.true)
+
+pub loop-at-preserved : goal.loop-at-preserved
+loop-at-preserved c =
+    room_more c.loop-at.invariant _ c.loop-at-test.true (known (goal.at.loop-at-preserved c).After-is_unknown c.if-is_unknown.false) (rw c.record_length.ensures.0 at c.least-at.ensures) _ (rw c.record_room.ensures.0 at c.capped_sum-room.ensures)
+
+pub returns : goal.returns
+unfolding feed_room
+returns c = c.capped_sum-2.ensures ∙ sym (room_end c.loop-at.invariant c.loop-at-test.false)

@@ -1,0 +1,14 @@
+-- `lines::dot_8` meets its contract: the loop has stored the sums of the pairs passed. The measure is what is left of the 4.
+use mathlib.Core.Path.{refl}
+use Prim.Native.Nat.{◌+◌, ◌*◌, ◌-◌, ◌<◌, ◌≤◌}
+use native.Mathlib.Omega.{arith}
+use borrow.Author.Rules.{rules}
+use Rattle.lines.proofs.FoldLaws.{trip_within, entry_fits, pair_out}
+use Rattle.lines.proofs.DotLaws.{Pairs, pairs_none, pairs_next, quarters, place, total32, total_fits, dot_total}
+use Rattle.lines.proofs.dot_8.Given as goal
+
+abbrev pub invariant-loop-k : goal.invariant-loop-k
+invariant-loop-k l = Pairs l.t l.st l.x 4 l.k l.s
+
+abbrev pub decreases-loop-k : goal.decreases-loop-k
+decreases-loop-k l = 4 - l.k

@@ -1,0 +1,11 @@
+-- `refusal::rotation_refused` meets its contract: the two tests are the definition's.
+use Rattle.refusal.specs.Condition.{rotation_refused}
+use Rattle.refusal.proofs.rotation_refused.Goals as goal
+
+pub returns-then-rotate : goal.returns-then-rotate
+unfolding rotation_refused
+returns-then-rotate c = rw c.if-rotate.true
+
+pub returns : goal.returns
+unfolding rotation_refused
+returns c = rw c.if-rotate.false

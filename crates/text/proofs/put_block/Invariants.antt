@@ -1,0 +1,16 @@
+-- `text::put_block` meets its contract: the rows from the present one on are left to write, and each took at most 12 bytes a number.
+use mathlib.Core.Path.{◌≡◌}
+use Prim.Native.Nat.{◌+◌, ◌-◌, ◌*◌, ◌≤◌}
+use native.Mathlib.Omega.{arith}
+use lib.ListN.{drop}
+use Rattle.text.specs.Text.{rows_text, block_text}
+use Rattle.text.proofs.WroteLaws.{Left}
+use Rattle.text.proofs.BlockLaws.{next_row, row_fits, rows_all, rows_start, rows_more, block_done}
+use Rattle.text.proofs.put_block.Given as goal
+
+abbrev pub invariant-loop-row : goal.invariant-loop-row
+invariant-loop-row l = (l.row ≤ l.n) × (l.from ≡ l.row * l.n) × (l.end ≤ l.initial.out-1 + 12 * (l.row * l.n))
+    × Left l.at l.initial.out-1 (block_text l.n l.values) l.out-1 l.end (rows_text (l.n - l.row) l.n (drop l.from l.values))
+
+abbrev pub decreases-loop-row : goal.decreases-loop-row
+decreases-loop-row l = l.n - l.row

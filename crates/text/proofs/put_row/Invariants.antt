@@ -1,0 +1,16 @@
+-- `text::put_row` meets its contract: the numbers from i on are left to write, and each took at most 12 bytes with what follows it.
+use Prim.Native.Nat.{◌+◌, ◌-◌, ◌*◌, ◌≤◌}
+use native.Mathlib.Omega.{arith}
+use borrow.Author.Rules.{rules}
+use lib.ListN.{take, drop}
+use Rattle.text.specs.Text.{row_text}
+use Rattle.text.proofs.WroteLaws.{Left, left_start}
+use Rattle.text.proofs.BlockLaws.{row-length, row_at, row_more, row_done}
+use Rattle.text.proofs.put_row.Given as goal
+
+abbrev pub invariant-loop-i : goal.invariant-loop-i
+invariant-loop-i l = (l.i ≤ l.n) × (l.end ≤ l.initial.out-1 + 12 * l.i)
+    × Left l.at l.initial.out-1 (row_text (take l.n (drop l.from l.values))) l.out-1 l.end (row_text (drop l.i (take l.n (drop l.from l.values))))
+
+abbrev pub decreases-loop-i : goal.decreases-loop-i
+decreases-loop-i l = l.n - l.i

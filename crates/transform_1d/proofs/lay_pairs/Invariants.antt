@@ -1,0 +1,19 @@
+-- `transform_1d::lay_pairs` meets its contract: two places a turn, the even one from the first row and the odd one from the second.
+-- The measure is what is left of the sixteen pairs.
+use mathlib.Core.Path.{◌≡◌, refl, ap}
+use Prim.Native.Nat.{ℕ, ◌+◌, ◌*◌, ◌/◌, ◌%◌, ◌≤◌, ◌-◌}
+use native.Mathlib.Omega.{arith}
+use lib.IntN.{pos}
+use lib.ListN.{get_or, length-set}
+use mir.Syntax.{w16}
+use mir.Val.{SFits}
+use mir.Facts.{to_z-of_z}
+use Rattle.transform_1d.specs.Rows.{Placed}
+use Rattle.transform_1d.proofs.RowsLaws.{placed_zero, placed_suc, placed_all}
+use Rattle.transform_1d.proofs.lay_pairs.Given as goal
+
+abbrev pub invariant-loop-j : goal.invariant-loop-j
+invariant-loop-j l = (l.j ≤ 16) × Placed l.initial.r (2 * l.j) (λ i. get_or l.t (l.from + 64 * (i % 2) + i / 2) (pos 0)) l.at l.r
+
+abbrev pub decreases-loop-j : goal.decreases-loop-j
+decreases-loop-j l = 16 - l.j
