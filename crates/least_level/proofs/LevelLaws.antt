@@ -12,7 +12,7 @@ use mathlib.Core.Path.{◌≡◌, refl, sym, ap, subst, ◌∙◌}
 use mathlib.Core.Bool.{Bool, true, false, not, ◌||◌, cond, and-eq-true_iff}
 use Prim.Native.Nat.{ℕ, suc, ◌^◌, ◌≤◌}
 use native.Mathlib.Omega.{arith}
-use borrow.Author.Tests.{eqb-true, eq-eqb, ltb-true, ltb-false, lt-ltb, not-true, not_false}
+use borrow.Author.Tests.{eqb-true, eq-eqb, ltb-true, ltb-false, lt-ltb, not-true, not-false}
 use lib.Dec.{T, ltb}
 use lib.Pow.{pow_pos}
 use lib.IntN.{ℤ, pos, negsuc, neg_ℤ, nat_abs}
@@ -106,7 +106,7 @@ module _ (f : ℤ → ℤ) (r : ℕ) (x : ℤ) where
   least_level_found e = by_sign (gives f r x (pos (least_size f r x))) refl
     where
       found : size_gives (least_size f r x) ≡ true
-      found = least_size_lem.holds (ltb-true (least_size f r x) (suc (2 ^ r)) (not_false (ltb (least_size f r x) (suc (2 ^ r))) e))
+      found = least_size_lem.holds (ltb-true (least_size f r x) (suc (2 ^ r)) (not-false (ltb (least_size f r x) (suc (2 ^ r))) e))
 
       by_sign : (t : Bool) → gives f r x (pos (least_size f r x)) ≡ t
           → LeastLevel f r x (cond t (pos (least_size f r x)) (neg_ℤ (pos (least_size f r x))))

@@ -11,12 +11,6 @@ use Rattle.text.proofs.put_block.Goals as goal
 pub loop-row-init : goal.loop-row-init
 loop-row-init c = (omega arith, omega arith, omega arith, rows_start _ _ _ _)
 
-pub put_row-end-requires : goal.put_row-end-requires
-put_row-end-requires c =
-    let l = c.loop-row in
-    let h = row_fits l.row c.args.n c.loop-row-test.true in
-    (omega arith, omega (arith, l.invariant.3.long))
-
 pub overflow_add-from : goal.overflow_add-from
 overflow_add-from c =
     let t = c in

@@ -9,8 +9,8 @@ use Rattle.text.proofs.BlockLaws.{next_row, row_fits, rows_all, rows_start, rows
 use Rattle.text.proofs.put_block.Given as goal
 
 abbrev pub invariant-loop-row : goal.invariant-loop-row
-invariant-loop-row l = (l.row ≤ l.n) × (l.from ≡ l.row * l.n) × (l.end ≤ l.initial.out-1 + 12 * (l.row * l.n))
-    × Left l.at l.initial.out-1 (block_text l.n l.values) l.out-1 l.end (rows_text (l.n - l.row) l.n (drop l.from l.values))
+invariant-loop-row l = (l.row ≤ l.n) × (l.from ≡ l.row * l.n) × (l.end ≤ l.at + 12 * (l.row * l.n))
+    × Left l.initial.out l.at (block_text l.n l.values) l.out l.end (rows_text (l.n - l.row) l.n (drop l.from l.values))
 
 abbrev pub decreases-loop-row : goal.decreases-loop-row
 decreases-loop-row l = l.n - l.row

@@ -7,7 +7,7 @@ use Rattle.text.proofs.WroteLaws.{Left, left_start, bytes_more, bytes_done}
 use Rattle.text.proofs.put_bytes.Given as goal
 
 abbrev pub invariant-loop-i : goal.invariant-loop-i
-invariant-loop-i l = (l.i ≤ length l.bytes) × (l.end ≡ l.initial.out + l.i) × Left l.at l.initial.out l.bytes l.out l.end (drop l.i l.bytes)
+invariant-loop-i l = (l.i ≤ length l.bytes) × (l.end ≡ l.at + l.i) × Left l.initial.out l.at l.bytes l.out l.end (drop l.i l.bytes)
 
 abbrev pub decreases-loop-i : goal.decreases-loop-i
 decreases-loop-i l = length l.bytes - l.i

@@ -26,43 +26,12 @@ put_signed-end-requires c = omega (arith, c.loop-i.invariant.2.long)
 pub separator-requires : goal.separator-requires
 separator-requires c = omega arith
 
-pub bounds-out-end : goal.bounds-out-end
-bounds-out-end c =
-    let e = c in
-    omega (arith, e.put_signed-end.ensures.bound, e.put_signed-end.auto.1.0, e.loop-i.invariant.2.long)
-
-pub overflow_add-end : goal.overflow_add-end
-overflow_add-end c =
-    let e = c in
-    omega (arith, e.put_signed-end.ensures.bound, e.put_signed-end.auto.1.0, e.loop-i.invariant.2.long)
-
 pub overflow_add-i : goal.overflow_add-i
 overflow_add-i c = omega arith
 
 pub loop-i-smaller : goal.loop-i-smaller
 loop-i-smaller c = omega arith
 
-pub loop-i-preserved : goal.loop-i-preserved
-loop-i-preserved c =
-    let e = c in
-    let l = e.loop-i in
-    let a = e.args in
-    let p = e.requires in (
-      omega arith,
-      omega (arith, e.put_signed-end.ensures.bound),
-      row_more (take a.n (drop a.from a.values.now)) l.i a.n _ _ (omega arith)
-          (row-length a.values.now a.from a.n p.0) l.invariant.2 (record { sfits = e.put_signed-arg-1.given })
-          (row_at a.values.now a.from a.n l.i (omega arith)) c.separator.ensures e.put_signed-end.ensures.wrote,
-    )
-
 pub shape_of-out : goal.shape_of-out
 shape_of-out c = c.loop-i.invariant.2.long
 
-pub returns : goal.returns
-returns c =
-    let a = c.args in
-    let e = row-length a.values.now a.from a.n c.requires.0 in
-    record {
-      wrote = row_done (take a.n (drop a.from a.values.now)) c.loop-i.i (rw e c.loop-i-test.false) c.loop-i.invariant.2;
-      bound = omega arith;
-    }

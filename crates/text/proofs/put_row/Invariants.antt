@@ -9,8 +9,8 @@ use Rattle.text.proofs.BlockLaws.{row-length, row_at, row_more, row_done}
 use Rattle.text.proofs.put_row.Given as goal
 
 abbrev pub invariant-loop-i : goal.invariant-loop-i
-invariant-loop-i l = (l.i ≤ l.n) × (l.end ≤ l.initial.out-1 + 12 * l.i)
-    × Left l.at l.initial.out-1 (row_text (take l.n (drop l.from l.values))) l.out-1 l.end (row_text (drop l.i (take l.n (drop l.from l.values))))
+invariant-loop-i l = (l.i ≤ l.n) × (l.end ≤ l.at + 12 * l.i)
+    × Left l.initial.out l.at (row_text (take l.n (drop l.from l.values))) l.out l.end (row_text (drop l.i (take l.n (drop l.from l.values))))
 
 abbrev pub decreases-loop-i : goal.decreases-loop-i
 decreases-loop-i l = l.n - l.i

@@ -15,9 +15,6 @@ short c = let s = c in magnitude_length s.args.z s.ranges.z c.magnitude-size.ens
 pub put_unsigned-requires : goal.put_unsigned-requires
 put_unsigned-requires c = simp length-set (omega (arith, short (goal.at.put_unsigned-requires c).After-magnitude-size))
 
-pub shape_of-out-then-z-lt0 : goal.shape_of-out-then-z-lt0
-shape_of-out-then-z-lt0 c = c.put_unsigned.auto.1.0 ∙ simp length-set
-
 pub returns-then-z-lt0 : goal.returns-then-z-lt0
 returns-then-z-lt0 c =
     let e = c in

@@ -17,7 +17,7 @@ use Rattle.transform_1d.proofs.KernelLaws.{row_pair_even, row_pair_odd, added_ze
 use Rattle.transform_1d.proofs.add_rows.Given as goal
 
 abbrev pub invariant-loop-j : goal.invariant-loop-j
-invariant-loop-j l = (l.j ≤ 16) × Added (row_pair l.at l.a (to_z w16 l.b) (to_z w16 l.d) (to_z w16 l.f) (to_z w16 l.initial.z)) l.t l.j l.z
+invariant-loop-j l = (l.j ≤ 16) × Added (row_pair l.t l.at (to_z w16 l.a) (to_z w16 l.b) (to_z w16 l.d) (to_z w16 l.f)) l.initial.z l.j l.z
 
 abbrev pub decreases-loop-j : goal.decreases-loop-j
 decreases-loop-j l = 16 - l.j

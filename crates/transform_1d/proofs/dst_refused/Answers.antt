@@ -5,8 +5,8 @@ use Rattle.transform_1d.proofs.dst_refused.Goals as goal
 
 pub returns-in-Dct : goal.returns-in-Dct
 unfolding dst_refused
-returns-in-Dct c = rw c.enum_told-1.given.1
+returns-in-Dct c = rw c.in-Dct.is
 
 pub returns-in-Dst : goal.returns-in-Dst
 unfolding dst_refused
-returns-in-Dst c = rw c.enum_told-in-Dst-1.given.1
+returns-in-Dst c = rw c.in-Dst.is

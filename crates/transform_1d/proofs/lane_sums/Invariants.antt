@@ -7,7 +7,7 @@ use Rattle.transform_1d.proofs.LanesLaws.{line_needs_group}
 use Rattle.transform_1d.proofs.lane_sums.Given as goal
 
 abbrev pub invariant-loop-q : goal.invariant-loop-q
-invariant-loop-q l = (l.q ≤ l.groups) × HalfSums l.t l.s l.base l.stride l.q l.z-1
+invariant-loop-q l = (l.q ≤ l.groups) × HalfSums l.t l.s l.base l.stride l.q l.z
 
 abbrev pub decreases-loop-q : goal.decreases-loop-q
 decreases-loop-q l = l.groups - l.q

@@ -30,8 +30,8 @@ pub lay_pairs-requires : goal.lay_pairs-requires
 lay_pairs-requires c =
     (omega (arith, ap length c.trans_matrix-t.ensures ∙ tabulate-length 1024 _), omega (arith, c.loop-i.invariant.1.long))
 
-pub overflow_add-i : goal.overflow_add-i
-overflow_add-i c = omega arith
+pub overflow_add-i-in-loop-i : goal.overflow_add-i-in-loop-i
+overflow_add-i-in-loop-i c = omega arith
 
 pub loop-i-smaller : goal.loop-i-smaller
 loop-i-smaller c = omega arith

@@ -12,7 +12,7 @@ use Rattle.transform_1d.proofs.LanesLaws.{pair_entry, filled-lanes}
 use Rattle.transform_1d.proofs.lanes_32.Given as goal
 
 abbrev pub invariant-loop-i : goal.invariant-loop-i
-invariant-loop-i l = (l.i ≤ 16) × Filled 32 32 (pair_entry l.t-1) l.i l.initial.r-1 l.r-1
+invariant-loop-i l = (l.i ≤ 16) × Filled 32 32 (pair_entry l.t) l.i l.initial.r l.r
 
 abbrev pub decreases-loop-i : goal.decreases-loop-i
 decreases-loop-i l = 16 - l.i

@@ -13,7 +13,7 @@ use Rattle.transform_1d.proofs.RowsLaws.{placed_zero, placed_suc, placed_all}
 use Rattle.transform_1d.proofs.lay_pairs.Given as goal
 
 abbrev pub invariant-loop-j : goal.invariant-loop-j
-invariant-loop-j l = (l.j ≤ 16) × Placed l.initial.r (2 * l.j) (λ i. get_or l.t (l.from + 64 * (i % 2) + i / 2) (pos 0)) l.at l.r
+invariant-loop-j l = (l.j ≤ 16) × Placed l.at (2 * l.j) (λ i. get_or l.t (l.from + 64 * (i % 2) + i / 2) (pos 0)) l.initial.r l.r
 
 abbrev pub decreases-loop-j : goal.decreases-loop-j
 decreases-loop-j l = 16 - l.j

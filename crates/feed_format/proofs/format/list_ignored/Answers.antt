@@ -5,12 +5,12 @@ use Rattle.feed_format.proofs.format.list_ignored.Goals as goal
 
 pub returns-in-Dct : goal.returns-in-Dct
 unfolding list_ignored
-returns-in-Dct c = rw c.enum_told-1.given.1
+returns-in-Dct c = rw c.in-Dct.is
 
 pub returns-in-Dst : goal.returns-in-Dst
 unfolding list_ignored
-returns-in-Dst c = rw c.enum_told-in-Dst-1.given.1
+returns-in-Dst c = rw c.in-Dst.is
 
 pub returns-in-Skip : goal.returns-in-Skip
 unfolding list_ignored
-returns-in-Skip c = rw c.enum_told-in-Skip-1.given.1
+returns-in-Skip c = rw c.in-Skip.is

@@ -24,24 +24,14 @@ pub returns-then-is_unknown : goal.returns-then-is_unknown
 unfolding feed_room
 returns-then-is_unknown c = c.capped_sum.ensures ∙ sym (room_unknown c.loop-at.invariant c.loop-at-test.true (known (goal.at.returns-then-is_unknown c).After-is_unknown c.if-is_unknown.true))
 
-pub record_room-requires : goal.record_room-requires
-record_room-requires c κs = search rules
-
 pub overflow_add-at : goal.overflow_add-at
 overflow_add-at c = omega arith
-
-pub record_length-requires : goal.record_length-requires
-record_length-requires c κs = search rules
 
 pub overflow_add-at-in-loop-at : goal.overflow_add-at-in-loop-at
 overflow_add-at-in-loop-at c = omega arith
 
 pub loop-at-smaller : goal.loop-at-smaller
 loop-at-smaller c = omega (arith, c.least-at.ensures, c.loop-at-test.true)
-
-pub loop-at-preserved : goal.loop-at-preserved
-loop-at-preserved c =
-    room_more c.loop-at.invariant _ c.loop-at-test.true (known (goal.at.loop-at-preserved c).After-is_unknown c.if-is_unknown.false) (rw c.record_length.ensures.0 at c.least-at.ensures) _ (rw c.record_room.ensures.0 at c.capped_sum-room.ensures)
 
 pub returns : goal.returns
 unfolding feed_room

@@ -39,20 +39,14 @@ offset_bounds-levels-i c = omega arith
 pub bounds-levels-i : goal.bounds-levels-i
 bounds-levels-i c = omega (arith, stored_length c.loop-i.invariant.2)
 
-pub overflow_add-at : goal.overflow_add-at
-overflow_add-at c = omega arith
+pub overflow_add-at-in-loop-i-3 : goal.overflow_add-at-in-loop-i-3
+overflow_add-at-in-loop-i-3 c = omega arith
 
 pub overflow_add-i : goal.overflow_add-i
 overflow_add-i c = omega arith
 
 pub loop-i-smaller : goal.loop-i-smaller
 loop-i-smaller c = omega arith
-
-pub loop-i-preserved : goal.loop-i-preserved
-loop-i-preserved c =
-    let l = c.loop-i in
-    let a = c.args in
-    (omega arith, omega arith, stored_more l.invariant.2 (omega arith) (round_trip (sfits_of c.level.type_inv) ∙ c.level.ensures ∙ level-at a.body.now l.at l.i l.invariant.1))
 
 pub shape_of-levels : goal.shape_of-levels
 shape_of-levels c = stored_length c.loop-i.invariant.2

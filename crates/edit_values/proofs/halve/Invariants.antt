@@ -1,0 +1,14 @@
+-- `edit_values::halve` meets its contract. The loop's invariant: no place below `low` is past, and every place from `high` on is.
+use mathlib.Core.Path.{◌≡◌, sym, ◌∙◌}
+use mathlib.Core.Bool.{true, false}
+use Prim.Native.Nat.{ℕ, ◌≤◌, ◌<◌, ◌-◌}
+use native.Mathlib.Omega.{arith}
+use Rattle.edit_values.specs.Sample.{past}
+use Rattle.edit_values.proofs.OrderedLaws.{past_mono, past-none}
+use Rattle.edit_values.proofs.halve.Given as goal
+
+abbrev pub invariant-loop-low : goal.invariant-loop-low
+invariant-loop-low l = (l.from ≤ l.low) × (l.low ≤ l.high) × (l.high ≤ l.to) × ((o : ℕ) → l.from ≤ o → o < l.low → past l.p l.strict o ≡ false) × ((o : ℕ) → l.high ≤ o → o < l.to → past l.p l.strict o ≡ true)
+
+abbrev pub decreases-loop-low : goal.decreases-loop-low
+decreases-loop-low l = l.high - l.low

@@ -1,0 +1,26 @@
+-- `edit_values::sample` meets its contract: both stages, each a sum and its rounding shift.
+use mathlib.Core.Path.{◌≡◌, ◌∙◌}
+use borrow.Author.Rules.{rules, sfits_of}
+use Rattle.integers.proofs.MachineLaws.{round_trip}
+use Rattle.integers.proofs.BoundLaws.{within_le}
+use Rattle.edit_values.specs.Sample.{stage_one_by, sample_by}
+use Rattle.edit_values.proofs.ProbeLaws.{entry-one_fits, entry_two_fits, rest_one_fits, rest_two_fits}
+use native.Mathlib.Omega.{arith}
+use Rattle.edit_values.proofs.sample.Goals as goal
+use Rattle.edit_values.proofs.sample.Goals.{After-stage_one-between}
+
+pub mac-requires-2 : goal.mac-requires-2
+mac-requires-2 c =
+    let d = c in
+    let s = d in
+    rw (round_trip (rest_two_fits s.requires.0), round_trip (entry_two_fits s.requires.0), round_trip (sfits_of d.stage_one-between.type_inv))
+    (s.requires.0.rest_two, s.requires.0.entry_two, within_le (omega arith) d.stage_one-between.ensures.1)
+
+between_is : (c : After-stage_one-between) → let a = c.args in c.stage_one-between.result ≡ stage_one_by a.p a.value
+unfolding stage_one_by
+between_is c =
+    let m = c in
+    let s = m in
+    c.stage_one-between.ensures.0
+    ∙ rw (round_trip (sfits_of m.mac.type_inv), m.mac.ensures.0, round_trip (rest_one_fits s.requires.0), round_trip (entry-one_fits s.requires.0), round_trip s.ranges.value)
+
