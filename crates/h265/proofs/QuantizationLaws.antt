@@ -5,7 +5,7 @@
 use mathlib.Core.Path.{◌≡◌}
 use mathlib.Core.Bool.{Bool, true, ◌&&◌}
 use mathlib.Core.List.{List, [], ◌∷◌}
-use Prim.Native.Nat.{ℕ, zero, suc, ◌+◌, ◌*◌, ◌-◌, ◌/◌, ◌%◌, ◌^◌, ◌≤◌, ◌<◌}
+use Prim.Native.Nat.{ℕ, zero, suc, ◌+◌, ◌*◌, ◌-◌, ◌/◌, ◌%◌, ◌^◌, ◌≤◌}
 use native.Mathlib.Nat.{mul-le-mul}
 use native.Mathlib.Omega.{arith}
 use lib.Pow.{pow_mono}
@@ -14,8 +14,6 @@ use lib.Dec.{T, leb, leb→le}
 use lib.ListN.{get_or}
 use lib.Signed.{◌≤ℤ◌, ◌<ℤ◌}
 use mir.Facts.{and_yes}
-use Rattle.integers.specs.Clip.{clip3}
-use Rattle.integers.specs.Within.{Within}
 use Rattle.integers.proofs.LinearLaws.{parts_add, parts_neg, le_in, le_out, lt_in, lt_out}
 use Rattle.integers.proofs.BoundLaws.{within_pos}
 use Rattle.integers.proofs.ClipLaws.{clip3_low, clip3_high, clip3_id, clip3_within}

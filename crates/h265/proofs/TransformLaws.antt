@@ -6,16 +6,15 @@
 --   row_order-at              a function in row order, at a row and a column
 --   block_at_overwrite, block_at_append   what stands at a row and a column of a block that was written, or that begins a list
 --   columns_read_in           a column below the count
-use mathlib.Core.Path.{◌≡◌, refl, sym, ap, ap₂, ◌∙◌}
+use mathlib.Core.Path.{◌≡◌, ap, ap₂, ◌∙◌}
 use mathlib.Core.List.{List, ◌++◌}
-use Prim.Native.Nat.{ℕ, zero, suc, ◌+◌, ◌-◌, ◌*◌, ◌/◌, ◌%◌, ◌≤◌, ◌<◌}
-use native.Mathlib.Nat.{mod-lt, div-lt_iff_lt-mul, div-add-mod', not-suc-le-zero}
+use Prim.Native.Nat.{ℕ, zero, suc, ◌+◌, ◌*◌, ◌/◌, ◌%◌, ◌<◌}
+use native.Mathlib.Nat.{mod-lt, div-lt_iff_lt-mul, not-suc-le-zero}
 use native.Mathlib.Omega.{arith}
 use borrow.Author.Tests.{lt-ltb}
 use lib.Arith.{digits_lt, digits_div, digits_mod}
 use lib.IntN.{ℤ, pos, ◌*ℤ◌}
-use lib.ListN.{length, get_or, get_or-append}
-use Rattle.integers.specs.Clip.{clip3}
+use lib.ListN.{length, get_or-append}
 use Rattle.integers.specs.Lists.{overwrite}
 use Rattle.integers.specs.Shift.{round_shift}
 use Rattle.integers.proofs.ClipLaws.{clip3_idem}

@@ -2,19 +2,18 @@
 --   round_shift-left        a shift to the left by no less than to the right is exact
 --   round_shift_right       one to the right by more is the rounding shift by the difference
 --   skip_is_the_clauses    the statement
-use mathlib.Core.Path.{◌≡◌, refl, sym, ap, ap₂, ◌∙◌, subst}
+use mathlib.Core.Path.{◌≡◌, sym, ap, ap₂, ◌∙◌, subst}
 use mathlib.Core.Bool.{Bool, true, false}
 use Prim.Native.Nat.{ℕ, zero, suc, ◌+◌, ◌-◌, ◌*◌, ◌^◌, ◌≤◌, ◌<◌}
 use native.Mathlib.Nat.{lt_of_mul-lt-mul_left, mul_comm, div-eq_of_lt}
 use native.Mathlib.Omega.{arith}
-use lib.Dec.{T}
 use lib.Pow.{pow_pos, pow-add, pow-lt}
 use lib.IntN.{ℤ, pos, negsuc, neg_ℤ, ◌+ℤ◌, ◌-ℤ◌, ◌*ℤ◌, +ℤ_comm, +ℤ_idl, *ℤ_comm, pos-*ℤ-pos}
 use lib.Signed.{shr_z, ◌≤ℤ◌, ≤ℤ_refl}
 use Rattle.integers.specs.Shift.{pow2, shift_right, round_shift}
 use Rattle.integers.proofs.LinearLaws.{pos_part, neg_part, parts_ext, parts_add, parts_neg, parts_mul, le_in, le_out}
 use Rattle.integers.proofs.OrderLaws.{*ℤ_assoc, *ℤ-+ℤ, one-*ℤ, ≤ℤ_antisym, *ℤ_mono, le_shr_z, shr_shift}
-use Rattle.h265.specs.Range.{is_size, log2_size, transform_range}
+use Rattle.h265.specs.Range.{log2_size, transform_range}
 use Rattle.h265.specs.TransformSkip.{ts_shift, ts_residual, clause_bd_shift, clause_ts_shift, clause_residual, SkipIsTheClauses}
 
 *ℤ_cancel : {x y : ℤ} (k : ℕ) → 0 < k → (pos k *ℤ x) ≤ℤ (pos k *ℤ y) → x ≤ℤ y

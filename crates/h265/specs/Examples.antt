@@ -4,14 +4,14 @@
 --   Case           what a definition gives, and what the requirements say
 --   examples       the list of cases
 --   ExamplesHold   the statement: every definition gives what is expected of it
-use Rattle.std.specs.Prelude.{◌≡◌, Bool, true, false, cond, List, [], ◌∷◌, ◌++◌, map, ℕ, ◌*◌, ℤ, pos, negsuc, neg_ℤ, nat_abs, replicate}
+use Rattle.std.specs.Prelude.{◌≡◌, Bool, true, false, cond, List, [], ◌∷◌, ◌++◌, map, ℕ, ℤ, pos, negsuc, neg_ℤ, nat_abs, replicate}
 use Rattle.integers.specs.Lists.{tabulate}
 use Rattle.h265.specs.Range.{log2_size, transform_range}
 use Rattle.h265.specs.Quantization.{qp_prime, clip_qp_prime}
 use Rattle.h265.specs.ScalingFactor.{ScalingList, scaling_factor}
 use Rattle.h265.specs.ScalingFactor.ScalingList.{flat, listed}
 use Rattle.h265.specs.Scaling.{bd_shift, scaled_at}
-use Rattle.h265.specs.Limited.{level_limited, result_limited, limited_at, limited_count}
+use Rattle.h265.specs.Limited.{level_limited, result_limited, limited_count}
 use Rattle.h265.specs.TransformSkip.{ts_shift, ts_residual, skipped_at}
 use Rattle.h265.specs.Matrix.{trans_matrix, dst_matrix, abs_sum}
 use Rattle.h265.specs.Transform.{row_order, columns_read, stage_one_sum, stage_one_value, intermediate, residual}

@@ -4,7 +4,7 @@
 --   qp_prime b qp    QP' = QP + 6 × (B - 8), limited
 --   level_scale k    40, 45, 51, 57, 64, 72 for k = 0 .. 5
 --   scale_of_qp q     level_scale[QP' mod 6] × 2^(QP' div 6)
-use Rattle.std.specs.Prelude.{[], ◌∷◌, ℕ, ◌+◌, ◌-◌, ◌*◌, ◌/◌, ◌%◌, ◌^◌, ℤ, pos, nat_abs, ◌+ℤ◌, get_or}
+use Rattle.std.specs.Prelude.{[], ◌∷◌, ℕ, ◌+◌, ◌-◌, ◌*◌, ◌/◌, ◌%◌, ◌^◌, ℤ, pos, ◌+ℤ◌, get_or}
 use Rattle.integers.specs.Clip.{clip3}
 
 unfoldable pub qp_bd_offset : ℕ → ℕ

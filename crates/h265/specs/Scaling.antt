@@ -3,7 +3,7 @@
 --   scaled_value s q m level    (level × m × level_scale[QP' mod 6] × 2^(QP' div 6) + 2^(s-1)) >> s: before the limit
 --   scale_level r s q m level   one level, limited, scaled and limited again
 --   scaled_at                   the coefficient at an index of a block of levels
-use Rattle.std.specs.Prelude.{Bool, List, ℕ, ◌+◌, ◌-◌, ◌*◌, ℤ, pos, nat_abs, ◌*ℤ◌, get_or}
+use Rattle.std.specs.Prelude.{Bool, List, ℕ, ◌+◌, ◌-◌, ℤ, pos, nat_abs, ◌*ℤ◌, get_or}
 use Rattle.integers.specs.Shift.{round_shift}
 use Rattle.h265.specs.Range.{log2_size, transform_range, clip_coeff}
 use Rattle.h265.specs.Quantization.{clip_qp_prime, scale_of_qp}

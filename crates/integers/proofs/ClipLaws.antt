@@ -3,15 +3,15 @@
 --   clip3_between                     the result lies in the range
 --   clip3_idem, clip3_mono            a second limit changes nothing; the limit keeps the order
 --   clip3_within                      the result is no larger in size than the range's ends
-use mathlib.Core.Path.{◌≡◌, refl, ◌∙◌}
+use mathlib.Core.Path.{◌≡◌, refl}
 use mathlib.Core.Bool.{Bool, true, false, cond}
-use Prim.Native.Nat.{ℕ, ◌≤◌}
+use Prim.Native.Nat.{ℕ}
 use native.Mathlib.Omega.{arith}
-use lib.IntN.{ℤ, pos, negsuc}
+use lib.IntN.{ℤ}
 use lib.Signed.{lt_z, ◌≤ℤ◌, ◌<ℤ◌, ≤ℤ_refl}
 use Rattle.integers.specs.Clip.{clip3}
 use Rattle.integers.specs.Within.{Within}
-use Rattle.integers.proofs.LinearLaws.{pos_part, neg_part, le_in}
+use Rattle.integers.proofs.LinearLaws.{le_in}
 use Rattle.integers.proofs.OrderLaws.{≤ℤ_trans, <ℤ-≤ℤ}
 use Rattle.integers.proofs.MachineLaws.{lt_z_true, lt_z_false, lt_z_of_lt, lt_z_of_le}
 use Rattle.integers.proofs.BoundLaws.{within_out, within_in}

@@ -2,13 +2,13 @@
 --   le_shift_right                         a ≤ x >> s exactly when a × 2^s ≤ x
 --   shift_right_zero, -mono, -within       no shift; order; size
 --   round_shift_mono, -within              the same of the rounding shift
-use mathlib.Core.Path.{◌≡◌, refl, ap, ap₂}
+use mathlib.Core.Path.{◌≡◌, ap}
 use mathlib.Core.Logic.{◌↔◌}
-use Prim.Native.Nat.{ℕ, ◌+◌, ◌-◌, ◌^◌, ◌≤◌}
+use Prim.Native.Nat.{ℕ, ◌+◌, ◌-◌, ◌^◌}
 use native.Mathlib.Nat.{div-one, le_refl}
 use lib.Pow.{pow_pos}
-use lib.IntN.{ℤ, pos, negsuc, ◌+ℤ◌, ◌*ℤ◌}
-use lib.Signed.{shr_z, ◌≤ℤ◌, ≤ℤ_refl}
+use lib.IntN.{ℤ, pos, negsuc, ◌*ℤ◌}
+use lib.Signed.{◌≤ℤ◌, ≤ℤ_refl}
 use Rattle.integers.specs.Shift.{pow2, shift_right, round_shift}
 use Rattle.integers.specs.Within.{Within}
 use Rattle.integers.proofs.OrderLaws.{le_shr_z, shr_z_mono, +ℤ_mono}

@@ -1,6 +1,5 @@
 -- `bits::bit` meets its contract: a shift of the byte, and 0 where there is no byte.
 use mathlib.Core.Path.{refl, sym}
-use borrow.Author.Rules.{rules}
 use Rattle.bits.specs.Bits.{bit_at}
 use Rattle.bits.proofs.BitsLaws.{bit_at_past}
 use Rattle.bits.proofs.bit.Goals as goal

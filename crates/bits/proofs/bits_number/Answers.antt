@@ -1,8 +1,7 @@
 -- `bits::bits_number` meets its contract. The loop's invariant: the number of the first i bits.
 use mathlib.Core.Path.{◌≡◌, refl, ap, ◌∙◌}
-use Prim.Native.Nat.{◌-◌, ◌≤◌, ◌<◌}
+use Prim.Native.Nat.{◌<◌}
 use native.Mathlib.Omega.{arith}
-use borrow.Author.Rules.{rules}
 use lib.Pow.{pow_mono}
 use Rattle.bits.specs.Bits.{bits_number}
 use Rattle.bits.proofs.BitsLaws.{bits_number_small, bits_number_add_one}

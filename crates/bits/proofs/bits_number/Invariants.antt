@@ -1,11 +1,7 @@
 -- `bits::bits_number` meets its contract. The loop's invariant: the number of the first i bits.
-use mathlib.Core.Path.{◌≡◌, refl, ap, ◌∙◌}
-use Prim.Native.Nat.{◌-◌, ◌≤◌, ◌<◌}
-use native.Mathlib.Omega.{arith}
-use borrow.Author.Rules.{rules}
-use lib.Pow.{pow_mono}
+use mathlib.Core.Path.{◌≡◌}
+use Prim.Native.Nat.{◌-◌, ◌≤◌}
 use Rattle.bits.specs.Bits.{bits_number}
-use Rattle.bits.proofs.BitsLaws.{bits_number_small, bits_number_add_one}
 use Rattle.bits.proofs.bits_number.Given as goal
 
 abbrev pub invariant-loop-i : goal.invariant-loop-i

@@ -2,7 +2,6 @@
 use Prim.Native.Nat.{◌^◌}
 use native.Mathlib.Nat.{one-mul, mod-eq_of_lt}
 use native.Mathlib.Omega.{arith}
-use borrow.Author.Rules.{rules}
 use lib.Pow.{pow_mono}
 use Rattle.bits.proofs.power.Goals as goal
 

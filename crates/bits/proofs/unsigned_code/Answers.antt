@@ -2,7 +2,6 @@
 use mathlib.Core.Path.{sym, ◌∙◌}
 use Prim.Native.Nat.{◌+◌}
 use native.Mathlib.Omega.{arith}
-use borrow.Author.Rules.{rules}
 use lib.Pow.{pow_pos, pow_mono}
 use Rattle.bits.proofs.BitsLaws.{bits_number_small}
 use Rattle.bits.proofs.ExpGolombLaws.{code_number_lem, code_cut, code_long, code_lost}

@@ -1,10 +1,5 @@
 -- `text::put_block` meets its contract: the rows from the present one on are left to write, and each took at most 12 bytes a number.
-use mathlib.Core.Path.{◌≡◌}
-use Prim.Native.Nat.{◌+◌, ◌-◌, ◌*◌, ◌≤◌}
 use native.Mathlib.Omega.{arith}
-use lib.ListN.{drop}
-use Rattle.text.specs.Text.{rows_text, block_text}
-use Rattle.text.proofs.WroteLaws.{Left}
 use Rattle.text.proofs.BlockLaws.{next_row, row_fits, rows_all, rows_start, rows_more, block_done}
 use Rattle.text.proofs.put_block.Goals as goal
 

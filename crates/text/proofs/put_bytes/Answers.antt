@@ -1,9 +1,6 @@
 -- `text::put_bytes` meets its contract: the bytes from i on are left to write at the end reached.
-use mathlib.Core.Path.{◌≡◌}
-use Prim.Native.Nat.{◌+◌, ◌-◌, ◌≤◌}
 use native.Mathlib.Omega.{arith}
-use lib.ListN.{length, drop}
-use Rattle.text.proofs.WroteLaws.{Left, left_start, bytes_more, bytes_done}
+use Rattle.text.proofs.WroteLaws.{left_start, bytes_more, bytes_done}
 use Rattle.text.proofs.put_bytes.Goals as goal
 
 pub loop-i-init : goal.loop-i-init

@@ -1,9 +1,8 @@
 -- `text::put_bytes` meets its contract: the bytes from i on are left to write at the end reached.
 use mathlib.Core.Path.{◌≡◌}
 use Prim.Native.Nat.{◌+◌, ◌-◌, ◌≤◌}
-use native.Mathlib.Omega.{arith}
 use lib.ListN.{length, drop}
-use Rattle.text.proofs.WroteLaws.{Left, left_start, bytes_more, bytes_done}
+use Rattle.text.proofs.WroteLaws.{Left}
 use Rattle.text.proofs.put_bytes.Given as goal
 
 abbrev pub invariant-loop-i : goal.invariant-loop-i

@@ -1,11 +1,8 @@
 -- `text::put_row` meets its contract: the numbers from i on are left to write, and each took at most 12 bytes with what follows it.
 use Prim.Native.Nat.{◌+◌, ◌-◌, ◌*◌, ◌≤◌}
-use native.Mathlib.Omega.{arith}
-use borrow.Author.Rules.{rules}
 use lib.ListN.{take, drop}
 use Rattle.text.specs.Text.{row_text}
-use Rattle.text.proofs.WroteLaws.{Left, left_start}
-use Rattle.text.proofs.BlockLaws.{row-length, row_at, row_more, row_done}
+use Rattle.text.proofs.WroteLaws.{Left}
 use Rattle.text.proofs.put_row.Given as goal
 
 abbrev pub invariant-loop-i : goal.invariant-loop-i

@@ -1,7 +1,5 @@
 -- `text::put_signed` meets its contract: a minus sign where the number is negative, then the digits of its size.
-use mathlib.Core.Path.{◌∙◌}
 use native.Mathlib.Omega.{arith}
-use borrow.Author.Rules.{rules}
 use Prim.Native.Nat.{◌≤◌}
 use lib.ListN.{length, length-set}
 use Rattle.text.specs.Text.{unsigned_text}

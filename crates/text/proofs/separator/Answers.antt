@@ -1,5 +1,4 @@
 -- `text::separator` meets its contract: the test is the definition's.
-use borrow.Author.Rules.{rules}
 use borrow.Author.Tests.{lt-ltb, le-ltb}
 use Rattle.text.proofs.separator.Goals as goal
 
