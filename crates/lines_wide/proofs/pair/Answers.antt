@@ -11,8 +11,8 @@ use mir.Facts.{to_z-of_z}
 use Rattle.integers.specs.Within.{Within}
 use Rattle.integers.proofs.BoundLaws.{within_add, within_mul, within_le, within_fits}
 use Rattle.lines_wide.specs.Values.{Term}
-use Rattle.lines_wide.proofs.pair.Statement.{statement}
-use Rattle.lines_wide.proofs.pair.Tie as tie
+use Rattle.lines_wide.proofs.pair.Goals as goal
+use Rattle.lines_wide.proofs.pair.Goals.{Start}
 
 product_fits : {u x : ℤ} → Term u x → SFits w32 (u *ℤ x)
 product_fits f = within_fits {b = 90 * 2 ^ 22} tt (within_mul f.entry f.value)
@@ -20,7 +20,7 @@ product_fits f = within_fits {b = 90 * 2 ^ 22} tt (within_mul f.entry f.value)
 product_within : {u x : ℤ} → Term u x → Within (nat_abs u * 2 ^ 22) (u *ℤ x)
 product_within {u} f = let g : Within (nat_abs u) u = record { within = le_refl (nat_abs u) } in within_mul g f.value
 
-module _ (c : tie.Start) where
+module _ (c : Start) where
   sum_fits : SFits w32 (c.args.u *ℤ c.args.x +ℤ c.args.v *ℤ c.args.y)
   sum_fits =
       within_fits {b = 180 * 2 ^ 22} tt
@@ -29,20 +29,17 @@ module _ (c : tie.Start) where
   sum_within : Within ((nat_abs c.args.u + nat_abs c.args.v) * 2 ^ 22) (c.args.u *ℤ c.args.x +ℤ c.args.v *ℤ c.args.y)
   sum_within = within_le (omega arith) (within_add (product_within c.requires.0) (product_within c.requires.1))
 
-mul-result : tie.Need-overflow-mul-result
-mul-result c = simp (to_z-of_z, c.ranges.u, c.ranges.x) (product_fits c.requires.0)
+pub overflow_mul-result : goal.overflow_mul-result
+overflow_mul-result c = simp (to_z-of_z, c.ranges.u, c.ranges.x) (product_fits c.requires.0)
 
-mul-result-2 : tie.Need-overflow-mul-result-2
-mul-result-2 c = simp (to_z-of_z, c.ranges.v, c.ranges.y) (product_fits c.requires.1)
+pub overflow_mul-result-2 : goal.overflow_mul-result-2
+overflow_mul-result-2 c = simp (to_z-of_z, c.ranges.v, c.ranges.y) (product_fits c.requires.1)
 
-add-result : tie.Need-overflow-add-result
-add-result c =
+pub overflow_add-result : goal.overflow_add-result
+overflow_add-result c =
     simp (to_z-of_z, c.ranges.u, c.ranges.x, c.ranges.v, c.ranges.y, product_fits c.requires.0, product_fits c.requires.1) (sum_fits c)
 
-returns : tie.Need-returns
+pub returns : goal.returns
 returns c =
     simp (to_z-of_z, c.ranges.u, c.ranges.x, c.ranges.v, c.ranges.y, product_fits c.requires.0, product_fits c.requires.1, sum_fits c)
     (refl, sum_within c)
-
-pub pair_spec : {M : Type 1} → statement M
-pair_spec = tie.close (tie.spec mul-result mul-result-2 add-result returns)
