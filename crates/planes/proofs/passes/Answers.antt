@@ -5,11 +5,10 @@ use native.Mathlib.Decide.{dec_lt}
 use native.Mathlib.Omega.{arith}
 use borrow.Author.Tests.{lt-ltb, le-ltb}
 use lib.Dec.{ltb}
-use Rattle.planes.proofs.passes.Statement.{statement}
-use Rattle.planes.proofs.passes.Tie as tie
+use Rattle.planes.proofs.passes.Goals as goal
 
-returns : tie.Need-returns
-returns c = rw (lt-ltb c.before.args.side (c.before.args.first + c.before.args.k) (omega arith))
+pub returns-then-side-k : goal.returns-then-side-k
+returns-then-side-k c = rw (lt-ltb c.args.side (c.args.first + c.args.k) (omega arith))
 
 moved : (side first k : ℕ) → k ≤ side → ltb (side - k) first ≡ ltb side (first + k)
 moved side first k h =
@@ -18,8 +17,5 @@ moved side first k h =
       | no q ↦ le-ltb (side - k) first (omega arith) ∙ sym (le-ltb side (first + k) (omega arith))
     ]
 
-returns-2 : tie.Need-returns-2
-returns-2 c = moved c.before.args.side c.before.args.first c.before.args.k c.if1.false
-
-pub passes_spec : {M : Type 1} → statement M
-passes_spec = tie.close (tie.spec returns returns-2)
+pub returns : goal.returns
+returns c = moved c.args.side c.args.first c.args.k c.if-side-k.false
