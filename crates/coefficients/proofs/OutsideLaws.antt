@@ -7,11 +7,10 @@
 --   first_outside-inside   what a search that found none says of each place
 --   outside_at-row       the test at row k and column c
 --   none-part, none_row   a part of a row without one, and a whole row
-use mathlib.Core.Path.{◌≡◌, refl, sym, ap, ap₂, ◌∙◌}
-use mathlib.Core.Bool.{Bool, true, false, ◌&&◌, ◌||◌}
+use mathlib.Core.Path.{◌≡◌, refl, sym, ap, ◌∙◌}
+use mathlib.Core.Bool.{Bool, true, false, ◌&&◌}
 use mathlib.Core.List.{List}
-use mathlib.Core.Logic.{⊎_elim}
-use Prim.Native.Nat.{ℕ, zero, suc, ◌+◌, ◌*◌, ◌-◌, ◌/◌, ◌%◌, ◌^◌, min, ◌≤◌, ◌<◌}
+use Prim.Native.Nat.{ℕ, ◌+◌, ◌*◌, ◌-◌, ◌%◌, ◌^◌, ◌≤◌, ◌<◌}
 use native.Mathlib.Nat.{not-suc-le-zero, suc-mul, lt_of_lt_of_le}
 use native.Mathlib.Numerals.{add-one}
 use native.Mathlib.Decide.{ℕ_discrete, dec_lt}
@@ -19,7 +18,7 @@ use native.Mathlib.Omega.{arith}
 use borrow.Author.Tests.{lt-ltb, le-ltb}
 use lib.Arith.{digits_mod, digits_lt}
 use lib.Dec.{ltb}
-use lib.Bits.{bit_and, bit_or, and_le_l, and_le_r, or_add_and}
+use lib.Bits.{bit_or, and_le_l, and_le_r, or_add_and}
 use lib.IntN.{ℤ, pos, negsuc, neg_ℤ, ◌-ℤ◌}
 use lib.ListN.{get_or}
 use lib.Pow.{pow_pos, pow_mono}
@@ -30,7 +29,7 @@ use Rattle.integers.specs.Within.{Within}
 use Rattle.integers.proofs.BoundLaws.{within_fits, within_le}
 use Rattle.integers.proofs.LinearLaws.{parts_add, parts_neg, le_out}
 use Rattle.integers.proofs.MachineLaws.{lt_z_of_le}
-use Rattle.integers.proofs.SearchLaws.{None, First, first_where_first}
+use Rattle.integers.proofs.SearchLaws.{None, first_where_first}
 use Rattle.h265.specs.Range.{coeff_min, coeff_max, outside_range}
 use Rattle.coefficients.specs.Outside.{outside_at, first_outside}
 

@@ -11,7 +11,7 @@ use mathlib.Core.Bool.{Bool, true, false, not, ◌&&◌, cond}
 use mathlib.Core.List.{List, [], ◌∷◌}
 use Prim.Native.Nat.{ℕ, ◌*◌, ◌%◌, ◌≤◌, ◌<◌}
 use native.Mathlib.Omega.{arith}
-use borrow.Author.Tests.{ltb-false, lt-ltb, le-ltb, eqb-true, not_false}
+use borrow.Author.Tests.{ltb-false, lt-ltb, le-ltb, eqb-true, not-false}
 use lib.Dec.{T, ltb, eqb}
 use lib.IntN.{ℤ, pos}
 use lib.ListN.{length, get_or}
@@ -109,7 +109,7 @@ module _ (kind : Kind) (n b : ℕ) (x : Bool) (d target : List ℤ) (wanted : Li
     where
       four : (k : Kind) → dst_refused k n ≡ false → k ≡ Dst → n ≡ 4
       four Dct f q = cc
-      four Dst f q = eqb-true n 4 (not_false (eqb n 4) (unfold dst_refused in f))
+      four Dst f q = eqb-true n 4 (not-false (eqb n 4) (unfold dst_refused in f))
 
   -- ---- an answer of 0
   module _ (z : answer_by.answer.number ≡ 0) where

@@ -16,7 +16,7 @@ use native.Mathlib.Omega.{arith}
 use borrow.Author.Tests.{not-true, ltb-true, ltb-false}
 use lib.Dec.{T, ltb}
 use lib.IntN.{ℤ, pos, negsuc, ◌+ℤ◌, ◌*ℤ◌}
-use lib.Signed.{lt_z, ◌≤ℤ◌, ◌<ℤ◌, ≤ℤ_refl, <ℤ-≤ℤ_trans}
+use lib.Signed.{lt_z, ◌≤ℤ◌, ≤ℤ_refl, <ℤ-≤ℤ_trans}
 use Rattle.integers.specs.Shift.{round_shift}
 use Rattle.integers.proofs.LinearLaws.{parts_mul, le_in, le_out, lt_in, lt_out}
 use Rattle.integers.proofs.OrderLaws.{≤ℤ_trans, ≤ℤ_antisym, +ℤ_mono, *ℤ_mono}

@@ -1,6 +1,5 @@
 -- What 64 bits hold of a probe.
 --   entry-one_fits .. target_fits   each field
-use mathlib.Core.Path.{◌≡◌}
 use mir.Syntax.{w64}
 use mir.Val.{SFits}
 use Rattle.integers.proofs.BoundLaws.{within_fits}

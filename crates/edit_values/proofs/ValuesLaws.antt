@@ -4,21 +4,19 @@
 --   none-passes                where none does, least and most are 1 and 0
 --   passes_between             where what passes stands together, a value of the range passes exactly where it lies between least and most
 --   range_ends                 where every value passes, they are the ends of the range
-use mathlib.Core.Path.{◌≡◌, refl, sym, ap, subst, ◌∙◌}
+use mathlib.Core.Path.{◌≡◌, refl, ap, ◌∙◌}
 use mathlib.Core.Logic.{◌↔◌}
 use mathlib.Core.Bool.{Bool, true, false, cond}
-use Prim.Native.Nat.{ℕ, ◌+◌, ◌*◌, ◌^◌, ◌≤◌, ◌<◌}
+use Prim.Native.Nat.{ℕ, ◌+◌, ◌^◌, ◌≤◌, ◌<◌}
 use native.Mathlib.Omega.{arith}
 use borrow.Author.Tests.{ltb-true, ltb-false, lt-ltb}
 use lib.Dec.{ltb}
-use lib.Pow.{pow_pos}
 use lib.IntN.{ℤ, pos, negsuc, neg_ℤ, nat_abs, ◌+ℤ◌, ◌-ℤ◌}
 use lib.Signed.{◌≤ℤ◌}
 use Rattle.integers.specs.Search.{first_where}
 use Rattle.integers.proofs.LinearLaws.{pos_part, neg_part, parts_add, parts_neg, parts_ext, eq_in, le_in, le_out}
 use Rattle.integers.proofs.OrderLaws.{≤ℤ_antisym}
-use Rattle.integers.proofs.MachineLaws.{lt_z_of_le}
-use Rattle.integers.proofs.SearchLaws.{First, first_where_first}
+use Rattle.integers.proofs.SearchLaws.{first_where_first}
 use Rattle.h265.specs.Range.{coeff_min, coeff_max, outside_range}
 use Rattle.h265.proofs.RangeLaws.{coeff_min-≤-coeff_max, outside_range_false}
 use Rattle.edit_values.specs.Values.{value_count, least_where, most_where}

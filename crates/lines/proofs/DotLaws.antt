@@ -5,9 +5,9 @@
 --   place             the last value that pair k reads is in range
 --   total32 n s       s(0) + .. + s(n), as the machine leaves it
 --   total_fits, dot_total    no sum wraps, and the total is the dot product
-use mathlib.Core.Path.{◌≡◌, refl, sym, ap, ap₂, ◌∙◌, subst}
+use mathlib.Core.Path.{◌≡◌, sym, ap, ap₂, ◌∙◌}
 use mathlib.Core.List.{List}
-use Prim.Native.Nat.{ℕ, zero, suc, ◌+◌, ◌*◌, ◌-◌, ◌/◌, ◌^◌, ◌≤◌, ◌<◌}
+use Prim.Native.Nat.{ℕ, zero, suc, ◌+◌, ◌*◌, ◌/◌, ◌^◌, ◌≤◌, ◌<◌}
 use native.Mathlib.Nat.{not-suc-le-zero, suc-mul, mul-le-mul_left, mul-div_cancel_left}
 use native.Mathlib.Decide.{ℕ_discrete}
 use native.Mathlib.Omega.{arith}
@@ -95,7 +95,7 @@ module _ {b : ℕ} {s : List ℤ} (p : Small b s) where
       let i = total_is n g in
       let w = within_add i.1 (p.at (suc n)) in
       let t = to_z-of_z (one_fits (suc n) (omega arith)) in
-      let e : total32 (suc n) s ≡ total32 n s +ℤ get_or s (suc n) (pos 0) = ap (λ (x : ℤ). to_z w32 (of_z w32 (total32 n s +ℤ x))) t ∙ to_z-of_z (sfits_abs (omega (arith, w.within, suc-mul n b))) in
+      let e : total32 (suc n) s ≡ total32 n s +ℤ get_or s (suc n) (pos 0) = ap (λ (x : ℤ). to_z w32 (of_z w32 (total32 n s +ℤ x))) t ∙ to_z-of_z {w = w32} (sfits_abs (omega (arith, w.within, suc-mul n b))) in
       (e ∙ ap (λ (x : ℤ). x +ℤ get_or s (suc n) (pos 0)) i.0, within_eq e (within_le (omega (arith, suc-mul n b)) w))
 
   pub total_fits : (n : ℕ) → T (ltb (b + suc n * b) (2 ^ 31)) → SFits w32 (total32 n s +ℤ to_z w32 (of_z w32 (get_or s (suc n) (pos 0))))

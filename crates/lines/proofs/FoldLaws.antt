@@ -3,28 +3,26 @@
 --   FoldedTo, folded_none, -next, -all   the loop that adds and subtracts the parts
 --   fold                     the one law: twice the h-point line and twice the odd part make twice the 2h-point line
 --   dot_out, odds            dot products by the literal columns are the odd part
-use mathlib.Core.Path.{◌≡◌, refl, sym, ap, ap₂, ◌∙◌, subst}
-use mathlib.Core.Bool.{cond, ◌&&◌}
+use mathlib.Core.Path.{◌≡◌, sym, ap, ap₂, ◌∙◌, subst}
+use mathlib.Core.Bool.{◌&&◌}
 use mathlib.Core.List.{List, [], ◌∷◌}
 use Prim.Native.Nat.{ℕ, zero, suc, ◌+◌, ◌*◌, ◌-◌, ◌/◌, ◌^◌, ◌≤◌, ◌<◌}
 use native.Mathlib.Nat.{not-suc-le-zero, zero-add}
 use native.Mathlib.Decide.{ℕ_discrete, dec_lt}
 use native.Mathlib.Omega.{arith}
-use borrow.Author.Tests.{lt-ltb, le-ltb}
 use lib.Dec.{T, ltb, leb, ltb→lt, leb→le}
-use lib.IntN.{ℤ, pos, negsuc, neg_ℤ, ◌+ℤ◌, ◌-ℤ◌, ◌*ℤ◌}
+use lib.IntN.{ℤ, pos, negsuc, ◌+ℤ◌, ◌-ℤ◌, ◌*ℤ◌}
 use lib.ListN.{get_or, length, set, length-set, get_or-eq_default}
 use lib.Seq.{get_or-set_same, get_or-set_other}
 use mir.Syntax.{w16, w32}
-use mir.Val.{to_z, of_z, SFits, hbits}
+use mir.Val.{to_z, of_z, SFits}
 use mir.Facts.{to_z-of_z, and_yes}
-use Rattle.integers.specs.Lists.{tabulate}
 use Rattle.integers.specs.Sum.{sum}
 use Rattle.integers.specs.Within.{Within}
 use Rattle.integers.proofs.LinearLaws.{split, ring, diff_ext}
 use Rattle.integers.proofs.OrderLaws.{*ℤ-+ℤ, *ℤ_assoc}
 use Rattle.integers.proofs.BoundLaws.{within_add, within_neg, within_fits, within_eq, within_le, within_pos, all_within, table_within}
-use Rattle.integers.proofs.ListsLaws.{tabulate-get_or, tabulate-length}
+use Rattle.integers.proofs.ListsLaws.{tabulate-get_or}
 use Rattle.integers.proofs.SumLaws.{sum_cong, sum_scale}
 use Rattle.h265.specs.Matrix.{folding_values, folding, folded_entry, folded_angle, trans_matrix32, trans_matrix}
 use Rattle.h265.specs.Transform.{transform_line}
@@ -201,7 +199,7 @@ pub dot_out : (h st : ℕ) {xs t : List ℤ} (m : ℕ) {r : ℤ} → t ≡ odd_c
     → (r ≡ dot_sum h t st xs) × Within (h * value_most) r → OddOut h st xs m (to_z w32 (of_z w32 r))
 unfolding dot_sum odd_sum odd_column
 dot_out h st {xs} {t} m {r} e f (d, w) =
-    let trip : to_z w32 (of_z w32 r) ≡ r = to_z-of_z (within_fits f w) in
+    let trip : to_z w32 (of_z w32 r) ≡ r = to_z-of_z {w = w32} (within_fits f w) in
     record {
       is = trip
           ∙ d
@@ -251,7 +249,7 @@ pub dot_two : (st : ℕ) (xs t : List ℤ) {r : ℤ}
     → (to_z w32 (of_z w32 r) ≡ dot_sum 2 t st xs) × Within 11796480 (to_z w32 (of_z w32 r))
 unfolding dot_sum sum
 dot_two st xs t {r} e =
-    let trip : to_z w32 (of_z w32 r) ≡ r = to_z-of_z (within_fits tt e.1) in (
+    let trip : to_z w32 (of_z w32 r) ≡ r = to_z-of_z {w = w32} (within_fits tt e.1) in (
       trip
           ∙ e.0
           ∙ ap₂ (λ (i j : ℕ). get_or t 0 (pos 0) *ℤ get_or xs i (pos 0) +ℤ get_or t 1 (pos 0) *ℤ get_or xs j (pos 0)) (let f : st ≡ st * 1 = omega arith in f) (let f : 3 * st ≡ st * 3 = omega arith in f)
@@ -268,10 +266,10 @@ unfolding transform_line sum trans_matrix trans_matrix32 folded_entry folded_ang
 line_two st {xs} {r} {s} e f = record { at = at; small = record { at = small } }
   where
     trip_r : to_z w32 (of_z w32 r) ≡ r
-    trip_r = to_z-of_z (within_fits tt e.1)
+    trip_r = to_z-of_z {w = w32} (within_fits tt e.1)
 
     trip_s : to_z w32 (of_z w32 s) ≡ s
-    trip_s = to_z-of_z (within_fits tt f.1)
+    trip_s = to_z-of_z {w = w32} (within_fits tt f.1)
 
     plus : (a b : ℤ) → pos 128 *ℤ a +ℤ pos 128 *ℤ b ≡ pos 2 *ℤ (pos 0 +ℤ pos 64 *ℤ a +ℤ pos 64 *ℤ b)
     plus a b = rw (← split a, ← split b) (simp ring (diff_ext _ _ _ _ (omega arith)))

@@ -20,7 +20,7 @@ use lib.Count.{count_trailing_zeros}
 use lib.Dec.{ltb, ltb→lt, lit<}
 use lib.IntN.{ℤ, pos, negsuc, neg_ℤ, nat_abs, ◌+ℤ◌, ◌-ℤ◌, ◌*ℤ◌, +ℤ_comm, +ℤ_idr, pos-*ℤ-pos}
 use lib.ListN.{get_or}
-use lib.Pow.{pow-add, pow_mono, pow_pos, pow-lt, shl-shr, shr_shr}
+use lib.Pow.{pow-add, pow_mono, pow_pos, pow-lt, shl-shr, shr-shr}
 use lib.Signed.{shr_z, lt_z, ◌≤ℤ◌, ◌<ℤ◌}
 use mir.Syntax.{w16, w32}
 use mir.Val.{SFits}
@@ -388,7 +388,7 @@ raised_end_is {p} g h =
     let j : ℕ = r - u - 7 in
     let one : 2 ^ r - 1 + 1 ≡ 2 ^ r = omega (arith, pow_pos r) in
     let sum : r ≡ j + (u + 7) = omega (arith, g.power) in
-    shr_shr (2 ^ r - 1 + 1) u 7
+    shr-shr (2 ^ r - 1 + 1) u 7
     ∙ ap (λ (k : ℕ). k / 2 ^ (u + 7)) (one ∙ ap (λ (k : ℕ). 2 ^ k) sum ∙ pow-add 2 j (u + 7))
     ∙ shl-shr (2 ^ j) (u + 7)
 

@@ -6,10 +6,9 @@
 --   Laid, laid, laid_32      all that a block needs of a layout: length, small entries, the matrix that it reads back as
 use mathlib.Core.Path.{◌≡◌, refl, sym, ap, ap₂, subst}
 use mathlib.Core.List.{List}
-use mathlib.Core.Bool.{Bool, true, ◌&&◌}
+use mathlib.Core.Bool.{Bool, ◌&&◌}
 use Prim.Native.Nat.{ℕ, zero, suc, ◌+◌, ◌*◌, ◌-◌, ◌/◌, ◌≤◌, ◌<◌}
-use native.Mathlib.Nat.{not-suc-le-zero, add-mul, mul-le-mul, mul-le-mul_right, le_trans, le_refl}
-use native.Mathlib.Decide.{ℕ_discrete}
+use native.Mathlib.Nat.{add-mul, mul-le-mul, mul-le-mul_right, le_trans, le_refl}
 use native.Mathlib.Omega.{arith}
 use lib.Dec.{T}
 use lib.IntN.{ℤ, pos, nat_abs, ◌+ℤ◌, ◌*ℤ◌}

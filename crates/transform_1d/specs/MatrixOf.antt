@@ -1,7 +1,7 @@
 -- The matrix of a kind of transform. docs/RULES.md, "Inverse transforms".
 --   matrix_of kind n    the n-point DCT's matrix, or the DST's, which has 4 points only
 --   MatrixExamples     a row of each, as an example: proved as `matrix_examples` in proofs/KindLaws
-use Rattle.std.specs.Prelude.{◌≡◌, List, [], ◌∷◌, ℕ, ℤ, pos, negsuc}
+use Rattle.std.specs.Prelude.{◌≡◌, [], ◌∷◌, ℕ, ℤ, pos, negsuc}
 use Rattle.integers.specs.Lists.{tabulate}
 use Rattle.h265.specs.Matrix.{trans_matrix, dst_matrix}
 use Rattle.transform_1d.specs.declared.Kind.{Kind}

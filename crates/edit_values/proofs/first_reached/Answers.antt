@@ -1,7 +1,6 @@
 -- `edit_values::first_reached` meets its contract: where the first place reaches the target, every place does.
-use mathlib.Core.Path.{◌≡◌, sym, ◌∙◌}
+use mathlib.Core.Path.{sym, ◌∙◌}
 use native.Mathlib.Omega.{arith}
-use borrow.Author.Rules.{rules}
 use mathlib.Core.Bool.{false}
 use Rattle.edit_values.proofs.OrderedLaws.{past_mono}
 use Rattle.edit_values.proofs.first_reached.Goals as goal

@@ -1,9 +1,6 @@
 -- `edit_values::halve` meets its contract. The loop's invariant: no place below `low` is past, and every place from `high` on is.
-use mathlib.Core.Path.{◌≡◌, sym, ◌∙◌}
-use mathlib.Core.Bool.{true, false}
-use Prim.Native.Nat.{ℕ, ◌≤◌, ◌<◌, ◌-◌}
+use mathlib.Core.Path.{sym, ◌∙◌}
 use native.Mathlib.Omega.{arith}
-use Rattle.edit_values.specs.Sample.{past}
 use Rattle.edit_values.proofs.OrderedLaws.{past_mono, past-none}
 use Rattle.edit_values.proofs.halve.Goals as goal
 

@@ -1,9 +1,4 @@
 -- `edit_values::narrow` meets its contract: at the target is reached and not passed.
-use mathlib.Core.Path.{◌≡◌}
-use mathlib.Core.Bool.{Bool, true, false}
-use Prim.Native.Nat.{ℕ, ◌≤◌, ◌<◌}
-use native.Mathlib.Omega.{arith}
-use borrow.Author.Rules.{rules}
 use Rattle.edit_values.proofs.OrderedLaws.{split_narrowed}
 use Rattle.edit_values.proofs.narrow.Goals as goal
 

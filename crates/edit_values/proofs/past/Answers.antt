@@ -1,7 +1,7 @@
 -- `edit_values::past` meets its contract: the sample at the place, and the test of the order in the sample's direction.
 use mathlib.Core.Path.{◌≡◌, ap, ◌∙◌}
 use mathlib.Core.Bool.{not}
-use borrow.Author.Rules.{rules, sfits_of}
+use borrow.Author.Rules.{sfits_of}
 use Rattle.integers.proofs.MachineLaws.{round_trip}
 use Rattle.edit_values.specs.Values.{value_at}
 use Rattle.edit_values.specs.Sample.{sample_by, past}

@@ -1,10 +1,8 @@
 -- `edit_values::stage_one` meets its contract: the ends are those of the range.
 use mathlib.Core.Path.{◌≡◌, refl}
-use Prim.Native.Nat.{◌^◌}
-use borrow.Author.Rules.{rules, sfits_of}
+use borrow.Author.Rules.{sfits_of}
 use lib.IntN.{pos, ◌-ℤ◌}
 use lib.Pow.{pow_mono}
-use Rattle.integers.specs.Within.{Within}
 use Rattle.integers.proofs.MachineLaws.{round_trip}
 use Rattle.integers.proofs.BoundLaws.{within_le, within_fits}
 use Rattle.h265.specs.Range.{coeff_min, coeff_max, clip_coeff}

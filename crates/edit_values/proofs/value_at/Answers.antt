@@ -1,9 +1,8 @@
 -- `edit_values::value_at` meets its contract: a place of at most 2^23 less at most 2^22.
 use mathlib.Core.Path.{◌≡◌, refl}
-use Prim.Native.Nat.{◌^◌, ◌≤◌}
 use native.Mathlib.Omega.{arith}
-use borrow.Author.Rules.{rules, sfits_of}
-use lib.IntN.{ℤ, pos, ◌+ℤ◌, ◌-ℤ◌}
+use borrow.Author.Rules.{sfits_of}
+use lib.IntN.{◌-ℤ◌}
 use lib.Pow.{pow_mono}
 use mir.Syntax.{w64}
 use mir.Val.{to_z, of_z}

@@ -1,5 +1,4 @@
 -- `lines::dot_2` meets its contract: it is one pair of products.
-use borrow.Author.Rules.{rules}
 use Rattle.lines.proofs.FoldLaws.{trip_within, entry_fits, pair_out, dot_two}
 use Rattle.lines.proofs.dot_2.Goals as goal
 

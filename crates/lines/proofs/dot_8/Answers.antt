@@ -1,10 +1,9 @@
 -- `lines::dot_8` meets its contract: the loop has stored the sums of the pairs passed. The measure is what is left of the 4.
 use mathlib.Core.Path.{refl}
-use Prim.Native.Nat.{◌+◌, ◌*◌, ◌-◌, ◌<◌, ◌≤◌}
+use Prim.Native.Nat.{◌+◌, ◌*◌, ◌<◌, ◌≤◌}
 use native.Mathlib.Omega.{arith}
-use borrow.Author.Rules.{rules}
 use Rattle.lines.proofs.FoldLaws.{trip_within, entry_fits, pair_out}
-use Rattle.lines.proofs.DotLaws.{Pairs, pairs_none, pairs_next, quarters, place, total32, total_fits, dot_total}
+use Rattle.lines.proofs.DotLaws.{pairs_none, pairs_next, quarters, place, total32, total_fits, dot_total}
 use Rattle.lines.proofs.dot_8.Goals as goal
 use Rattle.lines.proofs.dot_8.Goals.{In-loop-k}
 

@@ -1,7 +1,6 @@
 -- `lines::fold_32` meets its contract: the loop has stored the sums and the differences of the places passed. The measure is the places left.
-use Prim.Native.Nat.{◌-◌}
 use native.Mathlib.Omega.{arith}
-use Rattle.lines.proofs.FoldLaws.{plus_fits, minus_fits, FoldedTo, folded_none, folded_next, folded_all}
+use Rattle.lines.proofs.FoldLaws.{plus_fits, minus_fits, folded_none, folded_next, folded_all}
 use mathlib.Core.Path.{refl}
 use Rattle.lines.proofs.fold_32.Goals as goal
 
@@ -16,3 +15,6 @@ loop-m-preserved c = folded_next 16 c.loop-m.invariant (omega arith) c.requires.
 
 pub returns : goal.returns
 returns c = folded_all c.loop-m.invariant (omega arith)
+
+pub loop-m-init : goal.loop-m-init
+loop-m-init c = folded_none 16 tt refl

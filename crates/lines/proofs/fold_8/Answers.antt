@@ -1,8 +1,6 @@
 -- `lines::fold_8` meets its contract: the loop has stored the sums and the differences of the places passed. The measure is the places left.
-use Prim.Native.Nat.{◌-◌}
 use native.Mathlib.Omega.{arith}
-use Rattle.lines.proofs.FoldLaws.{plus_fits, minus_fits, FoldedTo, folded_none, folded_next, folded_all}
-use mathlib.Core.Path.{refl}
+use Rattle.lines.proofs.FoldLaws.{plus_fits, minus_fits, folded_next, folded_all}
 use Rattle.lines.proofs.fold_8.Goals as goal
 
 pub overflow_add-z : goal.overflow_add-z

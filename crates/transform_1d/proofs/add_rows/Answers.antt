@@ -1,7 +1,7 @@
 -- `transform_1d::add_rows` meets its contract: the loop has added the four rows' products in the lanes passed, and left the others.
 -- The measure is what is left of the sixteen lanes.
 use mathlib.Core.Path.{◌≡◌, ap, ◌∙◌, subst}
-use Prim.Native.Nat.{ℕ, ◌+◌, ◌*◌, ◌^◌, ◌≤◌, ◌-◌}
+use Prim.Native.Nat.{ℕ, ◌+◌, ◌*◌, ◌^◌}
 use native.Mathlib.Omega.{arith}
 use lib.IntN.{ℤ, pos, ◌+ℤ◌}
 use lib.ListN.{get_or}
@@ -12,7 +12,7 @@ use borrow.Author.Rules.{sfits_of}
 use Rattle.integers.specs.Within.{Within}
 use Rattle.integers.proofs.MachineLaws.{abs_add}
 use Rattle.integers.proofs.BoundLaws.{within_fits}
-use Rattle.transform_1d.specs.Kernel.{pair_most, row_pair, Added}
+use Rattle.transform_1d.specs.Kernel.{pair_most, row_pair}
 use Rattle.transform_1d.proofs.KernelLaws.{row_pair_even, row_pair_odd, added_zero, added_suc, added-all}
 use Rattle.transform_1d.proofs.add_rows.Goals as goal
 use Rattle.transform_1d.proofs.add_rows.Goals.{After-e-1, After-o-1, After-pair-arg-in-loop-j-1, After-pair-arg-in-loop-j-3-1}

@@ -1,5 +1,4 @@
 -- `transform_1d::dst_refused` meets its contract: by the kind.
-use borrow.Author.Rules.{rules}
 use Rattle.transform_1d.specs.Kinds.{dst_refused}
 use Rattle.transform_1d.proofs.dst_refused.Goals as goal
 

@@ -1,7 +1,5 @@
 -- `transform_1d::lane_sums` meets its contract: the loop holds the sums over the groups passed. The measure is what is left of the groups.
-use Prim.Native.Nat.{◌+◌, ◌*◌, ◌≤◌, ◌<◌, ◌-◌}
 use native.Mathlib.Omega.{arith}
-use Rattle.transform_1d.specs.Kernel.{HalfSums}
 use Rattle.transform_1d.proofs.KernelLaws.{half_sums_zero, half_sums_all}
 use Rattle.transform_1d.proofs.LanesLaws.{line_needs_group}
 use Rattle.transform_1d.proofs.lane_sums.Goals as goal

@@ -1,14 +1,8 @@
 -- `transform_1d::lanes_32` meets its contract: the loop has laid out the rows of pairs passed.
 -- The measure is what is left of the sixteen.
-use mathlib.Core.Path.{refl, ◌∙◌, ap}
 use Prim.Native.Nat.{◌≤◌, ◌-◌}
-use native.Mathlib.Omega.{arith}
-use lib.ListN.{length}
-use borrow.Author.Rules.{rules}
-use Rattle.integers.proofs.ListsLaws.{tabulate-length}
 use Rattle.transform_1d.specs.Rows.{Filled}
-use Rattle.transform_1d.proofs.RowsLaws.{filled_zero, filled_suc, filled-all}
-use Rattle.transform_1d.proofs.LanesLaws.{pair_entry, filled-lanes}
+use Rattle.transform_1d.proofs.LanesLaws.{pair_entry}
 use Rattle.transform_1d.proofs.lanes_32.Given as goal
 
 abbrev pub invariant-loop-i : goal.invariant-loop-i

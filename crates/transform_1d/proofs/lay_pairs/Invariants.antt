@@ -1,15 +1,9 @@
 -- `transform_1d::lay_pairs` meets its contract: two places a turn, the even one from the first row and the odd one from the second.
 -- The measure is what is left of the sixteen pairs.
-use mathlib.Core.Path.{◌≡◌, refl, ap}
-use Prim.Native.Nat.{ℕ, ◌+◌, ◌*◌, ◌/◌, ◌%◌, ◌≤◌, ◌-◌}
-use native.Mathlib.Omega.{arith}
+use Prim.Native.Nat.{◌+◌, ◌*◌, ◌/◌, ◌%◌, ◌≤◌, ◌-◌}
 use lib.IntN.{pos}
-use lib.ListN.{get_or, length-set}
-use mir.Syntax.{w16}
-use mir.Val.{SFits}
-use mir.Facts.{to_z-of_z}
+use lib.ListN.{get_or}
 use Rattle.transform_1d.specs.Rows.{Placed}
-use Rattle.transform_1d.proofs.RowsLaws.{placed_zero, placed_suc, placed_all}
 use Rattle.transform_1d.proofs.lay_pairs.Given as goal
 
 abbrev pub invariant-loop-j : goal.invariant-loop-j

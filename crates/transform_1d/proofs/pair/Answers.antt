@@ -1,7 +1,7 @@
 -- `transform_1d::pair` meets its contract: an entry of at most 90 and 16 bits make a product of at most 90 × 2^15, so both products and
 -- their sum fit 32 bits.
 use mathlib.Core.Path.{refl}
-use lib.IntN.{ℤ, ◌*ℤ◌, ◌+ℤ◌}
+use lib.IntN.{◌*ℤ◌, ◌+ℤ◌}
 use mir.Syntax.{w32}
 use mir.Val.{SFits}
 use mir.Facts.{to_z-of_z, sfits_widen}
