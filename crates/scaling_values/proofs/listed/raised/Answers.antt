@@ -1,7 +1,6 @@
 -- `scaling_values::listed::raised` meets its contract: the range's ends, shifted back, fit.
 use mathlib.Core.Path.{◌≡◌, ap, ap₂, ◌∙◌}
 use Prim.Native.Nat.{ℕ, ◌^◌}
-use borrow.Author.Rules.{rules}
 use lib.Dec.{lit<}
 use lib.IntN.{ℤ, pos, negsuc}
 use lib.Signed.{shr_z}
@@ -10,23 +9,7 @@ use mir.Val.{SFits, to_z, of_z}
 use Rattle.integers.specs.Shift.{shift_right}
 use Rattle.integers.proofs.MachineLaws.{round_trip, sfits_shr}
 use Rattle.scaling_values.specs.declared.ListedParams.{ListedParams}
-use Rattle.scaling_values.proofs.listed.raised.Statement.{statement}
-use Rattle.scaling_values.proofs.listed.raised.Tie as tie
-
-sub-t3 : tie.Need-overflow-sub-t3
-sub-t3 c = search rules
-
-cast-t4 : tie.Need-overflow-cast-t4
-cast-t4 c = search rules
-
-shr-t5 : tie.Need-overflow-shr-t5
-shr-t5 c = search rules
-
-cast-t6 : tie.Need-overflow-cast-t6
-cast-t6 c = search rules
-
-shr-t7 : tie.Need-overflow-shr-t7
-shr-t7 c = search rules
+use Rattle.scaling_values.proofs.listed.raised.Goals as goal
 
 abbrev numbers : ℕ → ℤ → ℤ → ℤ → ListedParams
 numbers up base low top = record { base = base; add = pos 0; down = 0; up = up; low = low; top = top }
@@ -34,12 +17,9 @@ numbers up base low top = record { base = base; add = pos 0; down = 0; up = up; 
 trip : (z : ℤ) (u : ℕ) → SFits w32 z → to_z w32 (of_z w32 (shr_z z (2 ^ u))) ≡ shr_z z (2 ^ u)
 trip z u f = round_trip (sfits_shr (2 ^ u) f)
 
-returns : tie.Need-returns
+pub returns : goal.returns
 unfolding shift_right
 returns c =
     let u = c.args.up in
     ap (λ (b : ℤ). numbers u b (to_z w32 (of_z w32 (shr_z (negsuc 32767) (2 ^ u)))) (to_z w32 (of_z w32 (shr_z (pos 32767) (2 ^ u))))) (round_trip c.ranges.base)
     ∙ ap₂ (numbers u c.args.base) (trip (negsuc 32767) u (record { sfits = lit< tt })) (trip (pos 32767) u (record { sfits = lit< tt }))
-
-pub raised_spec : {M : Type 1} → statement M
-raised_spec = tie.close (tie.spec sub-t3 cast-t4 shr-t5 cast-t6 shr-t7 returns)
