@@ -7,17 +7,17 @@
 --   answered_passed     a ladder that answered 0 has passed every rung
 --   found_wrote         an answer of 0: no condition holds, and both buffers are written
 use mathlib.Core.Path.{◌≡◌, refl, sym, ap, ◌∙◌}
-use mathlib.Core.Bool.{Bool, true, false, not, ◌&&◌, cond}
+use mathlib.Core.Bool.{Bool, true, false}
 use mathlib.Core.List.{List, [], ◌∷◌}
 use Prim.Native.Nat.{ℕ, ◌*◌, ◌%◌, ◌≤◌, ◌<◌}
 use native.Mathlib.Omega.{arith}
 use borrow.Author.Tests.{ltb-false, lt-ltb, le-ltb, eqb-true, not-false}
-use lib.Dec.{T, ltb, eqb}
+use lib.Dec.{ltb, eqb}
 use lib.IntN.{ℤ, pos}
 use lib.ListN.{length, get_or}
 use Rattle.integers.specs.Lists.{overwrite}
 use Rattle.integers.proofs.SearchLaws.{first_where_first}
-use Rattle.h265.specs.Range.{is_size, transform_range, outside_range}
+use Rattle.h265.specs.Range.{transform_range, outside_range}
 use Rattle.h265.proofs.TransformLaws.{cell_column}
 use Rattle.refusal.specs.declared.Answer.TheVariants.{Done, Refused}
 use Rattle.refusal.specs.declared.Refusal.{Refusal}
