@@ -2,19 +2,18 @@
 --   dot_short        a dot product by the first g entries is the odd part of the 2h-point line
 --   first_out, firsts   a line of which only the first value is not zero
 --   dot_one          one product
-use mathlib.Core.Path.{◌≡◌, refl, sym, ap, ap₂, ◌∙◌, subst}
+use mathlib.Core.Path.{◌≡◌, sym, ap, ap₂, ◌∙◌, subst}
 use mathlib.Core.List.{List}
-use Prim.Native.Nat.{ℕ, zero, suc, ◌+◌, ◌*◌, ◌/◌, ◌^◌, ◌≤◌, ◌<◌}
+use Prim.Native.Nat.{ℕ, ◌+◌, ◌*◌, ◌/◌, ◌^◌, ◌≤◌, ◌<◌}
 use native.Mathlib.Nat.{zero-add, mul-le-mul_left}
 use native.Mathlib.Decide.{dec_lt}
 use native.Mathlib.Omega.{arith}
-use lib.Dec.{T, ltb, leb, ltb→lt, leb→le}
+use lib.Dec.{T, ltb, leb, leb→le}
 use lib.IntN.{ℤ, pos, ◌+ℤ◌, ◌*ℤ◌}
 use lib.ListN.{get_or, length, get_or-eq_default}
 use mir.Syntax.{w16, w32}
 use mir.Val.{to_z, of_z, SFits}
 use mir.Facts.{to_z-of_z}
-use Rattle.integers.specs.Lists.{tabulate}
 use Rattle.integers.specs.Sum.{sum}
 use Rattle.integers.specs.Within.{Within}
 use Rattle.integers.proofs.LinearLaws.{split, ring, diff_ext}
@@ -24,7 +23,7 @@ use Rattle.integers.proofs.ListsLaws.{tabulate-get_or}
 use Rattle.integers.proofs.SumLaws.{sum_zero, sum_suc, sum_cong, sum_scale, sum-short}
 use Rattle.h265.specs.Matrix.{trans_matrix, trans_matrix32}
 use Rattle.h265.specs.Transform.{transform_line}
-use Rattle.lines.specs.Fold.{value_most, dot_sum, odd_sum, Small, Twice}
+use Rattle.lines.specs.Fold.{value_most, dot_sum, odd_sum, Twice}
 use Rattle.lines.proofs.FoldLaws.{Each, each_at, OddOut, zero_+ℤ}
 use Rattle.lines_quarter.specs.Quarter.{short_column}
 
@@ -48,7 +47,7 @@ module _ (h g st : ℕ) (xs : List ℤ) (m : ℕ) where
       → (r ≡ dot_sum g t st xs) × Within (g * value_most) r → OddOut h st xs m (to_z w32 (of_z w32 r))
   unfolding dot_sum short_column
   dot_short {t} {r} e f l n (d, w) =
-      let trip : to_z w32 (of_z w32 r) ≡ r = to_z-of_z (within_fits f w) in
+      let trip : to_z w32 (of_z w32 r) ≡ r = to_z-of_z {w = w32} (within_fits f w) in
       let most : g ≤ h = leb→le g h l in
       record {
         is = trip
@@ -74,7 +73,7 @@ pub first_out : (n st : ℕ) (xs : List ℤ) (m : ℕ) {r : ℤ} → 0 * (32 / n
     → (r ≡ pos 128 *ℤ to_z w16 (of_z w16 (get_or xs (st * 0) (pos 0)))) × Within value_most r → LineOut n st xs m (to_z w32 (of_z w32 r))
 unfolding transform_line trans_matrix trans_matrix32
 first_out n st xs m {r} row some long fits (d, w) =
-    let trip : to_z w32 (of_z w32 r) ≡ r = to_z-of_z (within_fits tt w) in
+    let trip : to_z w32 (of_z w32 r) ≡ r = to_z-of_z {w = w32} (within_fits tt w) in
     let least : 1 ≤ n = leb→le 1 n some in
     record {
       is = trip
@@ -117,7 +116,7 @@ pub dot_one : (st : ℕ) (xs t : List ℤ) {r : ℤ} → SFits w16 (get_or t 0 (
     → (to_z w32 (of_z w32 r) ≡ dot_sum 1 t st xs) × Within value_most (to_z w32 (of_z w32 r))
 unfolding dot_sum sum
 dot_one st xs t {r} f g e =
-    let trip : to_z w32 (of_z w32 r) ≡ r = to_z-of_z (within_fits tt e.1) in (
+    let trip : to_z w32 (of_z w32 r) ≡ r = to_z-of_z {w = w32} (within_fits tt e.1) in (
       trip
           ∙ e.0
           ∙ ap₂ ◌*ℤ◌ (to_z-of_z f) (to_z-of_z g)

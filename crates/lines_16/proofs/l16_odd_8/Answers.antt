@@ -1,0 +1,17 @@
+-- `lines_16::l16_odd_8` meets its contract: the literal columns are the matrix's odd rows, doubled, by computation.
+use mathlib.Core.Path.{refl}
+use Rattle.integers.specs.Lists.{tabulate, tabulate_from}
+use Rattle.h265.specs.Matrix.{folding_values, folding, folded_entry, folded_angle, trans_matrix32, trans_matrix}
+use Rattle.lines.specs.Fold.{odd_column}
+use Rattle.lines.proofs.FoldLaws.{dot_out, odds, ◌then◌, end}
+use Rattle.lines_16.proofs.l16_odd_8.Goals as goal
+
+pub returns : goal.returns
+unfolding odd_column trans_matrix trans_matrix32 folded_entry folded_angle folding folding_values tabulate tabulate_from
+returns c =
+    odds 4 2 refl
+    (dot_out 4 2 0 refl tt c.dot_4.ensures
+    then dot_out 4 2 1 refl tt c.dot_4-2.ensures
+    then dot_out 4 2 2 refl tt c.dot_4-3.ensures
+    then dot_out 4 2 3 refl tt c.dot_4-4.ensures
+    then end)

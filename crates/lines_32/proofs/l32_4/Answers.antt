@@ -1,0 +1,11 @@
+-- `lines_32::l32_4` meets its contract: the even and the odd part, put together by the one law.
+use mathlib.Core.Path.{refl}
+use Rattle.h265.specs.Matrix.{folding_values, folding, folded_entry, folded_angle, trans_matrix32, trans_matrix}
+use Rattle.integers.proofs.TestLaws.{all_below}
+use Rattle.lines.proofs.SplitLaws.{mirrors}
+use Rattle.lines.proofs.FoldLaws.{fold}
+use Rattle.lines_32.proofs.l32_4.Goals as goal
+
+pub returns : goal.returns
+unfolding mirrors all_below trans_matrix trans_matrix32 folded_entry folded_angle folding folding_values
+returns c = fold 2 8 refl tt c.l32_2-e.ensures c.l32_odd_4-o.ensures c.fold_4.ensures
