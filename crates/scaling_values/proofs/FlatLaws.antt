@@ -9,18 +9,16 @@
 --   flat_for_fits                  an output holds every coefficient where it holds the ends of the range
 --   dequant_of_regular             the numbers of every block are regular
 use mathlib.Core.Path.{◌≡◌, refl, sym, ap, ap₂, subst, ◌∙◌}
-use mathlib.Core.Bool.{Bool, true, false, ◌||◌, ◌&&◌, cond}
+use mathlib.Core.Bool.{Bool, true, false, ◌||◌, cond}
 use mathlib.Core.List.{List}
-use Prim.Native.Nat.{ℕ, zero, suc, ◌+◌, ◌-◌, ◌*◌, ◌^◌, ◌≤◌, ◌<◌}
+use Prim.Native.Nat.{ℕ, ◌+◌, ◌-◌, ◌*◌, ◌^◌, ◌≤◌}
 use native.Mathlib.Nat.{mul_comm, add-mul}
-use native.Mathlib.Decide.{dec_lt}
 use native.Mathlib.Omega.{arith}
-use lib.Dec.{T, ltb, ltb→lt}
+use lib.Dec.{ltb, ltb→lt}
 use lib.IntN.{ℤ, pos, negsuc, neg_ℤ, nat_abs, ◌+ℤ◌, ◌*ℤ◌, +ℤ_idl, pos-*ℤ-pos}
 use lib.ListN.{get_or}
 use lib.Pow.{pow-add, pow_mono, pow_pos, shr-shr}
 use lib.Signed.{shr_z, lt_z, ◌≤ℤ◌, ◌<ℤ◌}
-use mir.Facts.{and_yes}
 use mir.Syntax.{Width}
 use mir.Val.{SFits}
 use Rattle.integers.specs.Clip.{clip3}
