@@ -1,0 +1,30 @@
+-- `feed_lines::line_text::put_last` meets its contract: at most 20 digits, then the line end.
+use native.Mathlib.Omega.{arith}
+use lib.ListN.{length-set}
+use Rattle.text.proofs.WroteLaws.{wrote_one, wrote_more}
+use Rattle.text.proofs.NumberLaws.{unsigned_length}
+use Rattle.feed_lines.proofs.line_text.put_last.Goals as goal
+
+pub put_unsigned-end-requires : goal.put_unsigned-end-requires
+put_unsigned-end-requires c = omega (arith, unsigned_length 19 c.args.n (omega arith))
+
+pub bounds-out-end : goal.bounds-out-end
+bounds-out-end c =
+    let e = c in
+    omega (arith, unsigned_length 19 e.args.n (omega arith), e.put_unsigned-end.ensures.end, e.put_unsigned-end.auto.out)
+
+pub overflow_add-result : goal.overflow_add-result
+overflow_add-result c =
+    let e = c in
+    omega (arith, unsigned_length 19 e.args.n (omega arith), e.put_unsigned-end.ensures.end, e.put_unsigned-end.auto.out)
+
+pub shape_of-out : goal.shape_of-out
+shape_of-out c = simp length-set c.put_unsigned-end.auto.out
+
+pub returns : goal.returns
+returns c =
+    let e = c in
+    record {
+      wrote = wrote_more e.put_unsigned-end.ensures (wrote_one _ _ _);
+      bound = omega (arith, unsigned_length 19 e.args.n (omega arith), e.put_unsigned-end.ensures.end);
+    }
