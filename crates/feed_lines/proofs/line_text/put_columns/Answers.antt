@@ -10,15 +10,13 @@ put_last-requires c = let p = c.put_bytes-word in omega (arith, p.ensures.end, p
 
 pub shape_of-out : goal.shape_of-out
 shape_of-out c =
-    let e = c in
-    e.put_last.auto.out ∙ e.put_bytes-word.auto.out
+    c.put_last.auto.out ∙ c.put_bytes-word.auto.out
 
 pub returns : goal.returns
 unfolding columns_text
 returns c =
-    let e = c in
-    let p = e.put_bytes-word in
+    let p = c.put_bytes-word in
     record {
-      wrote = wrote_more p.ensures e.put_last.ensures.wrote;
-      bound = omega (arith, p.ensures.end, e.put_last.ensures.bound);
+      wrote = wrote_more p.ensures c.put_last.ensures.wrote;
+      bound = omega (arith, p.ensures.end, c.put_last.ensures.bound);
     }

@@ -10,21 +10,18 @@ put_unsigned-end-requires c = omega (arith, unsigned_length 19 c.args.n (omega a
 
 pub bounds-out-end : goal.bounds-out-end
 bounds-out-end c =
-    let e = c in
-    omega (arith, unsigned_length 19 e.args.n (omega arith), e.put_unsigned-end.ensures.end, e.put_unsigned-end.auto.out)
+    omega (arith, unsigned_length 19 c.args.n (omega arith), c.put_unsigned-end.ensures.end, c.put_unsigned-end.auto.out)
 
 pub overflow_add-result : goal.overflow_add-result
 overflow_add-result c =
-    let e = c in
-    omega (arith, unsigned_length 19 e.args.n (omega arith), e.put_unsigned-end.ensures.end, e.put_unsigned-end.auto.out)
+    omega (arith, unsigned_length 19 c.args.n (omega arith), c.put_unsigned-end.ensures.end, c.put_unsigned-end.auto.out)
 
 pub shape_of-out : goal.shape_of-out
 shape_of-out c = simp length-set c.put_unsigned-end.auto.out
 
 pub returns : goal.returns
 returns c =
-    let e = c in
     record {
-      wrote = wrote_more e.put_unsigned-end.ensures (wrote_one _ _ _);
-      bound = omega (arith, unsigned_length 19 e.args.n (omega arith), e.put_unsigned-end.ensures.end);
+      wrote = wrote_more c.put_unsigned-end.ensures (wrote_one _ _ _);
+      bound = omega (arith, unsigned_length 19 c.args.n (omega arith), c.put_unsigned-end.ensures.end);
     }

@@ -15,40 +15,28 @@ short c = unsigned_length 2 c.args.number (omega arith)
 
 pub put_unsigned-end-requires : goal.put_unsigned-end-requires
 put_unsigned-end-requires c =
-    let p = c in
-    omega (arith, short (goal.at.put_unsigned-end-requires c).Start, p.put_bytes-word.ensures.end, p.put_bytes-word.auto.out)
+    omega (arith, short (goal.at.put_unsigned-end-requires c).Start, c.put_bytes-word.ensures.end, c.put_bytes-word.auto.out)
 
 pub bounds-out-end : goal.bounds-out-end
 bounds-out-end c =
-    let e = c in
-    let p = e in
-    omega (arith, short (goal.at.bounds-out-end c).Start, p.put_bytes-word.ensures.end, p.put_bytes-word.auto.out, e.put_unsigned-end.ensures.end, e.put_unsigned-end.auto.out)
+    omega (arith, short (goal.at.bounds-out-end c).Start, c.put_bytes-word.ensures.end, c.put_bytes-word.auto.out, c.put_unsigned-end.ensures.end, c.put_unsigned-end.auto.out)
 
 pub overflow_add-end : goal.overflow_add-end
 overflow_add-end c =
-    let e = c in
-    let p = e in
-    omega (arith, short (goal.at.overflow_add-end c).Start, p.put_bytes-word.ensures.end, p.put_bytes-word.auto.out, e.put_unsigned-end.ensures.end, e.put_unsigned-end.auto.out)
+    omega (arith, short (goal.at.overflow_add-end c).Start, c.put_bytes-word.ensures.end, c.put_bytes-word.auto.out, c.put_unsigned-end.ensures.end, c.put_unsigned-end.auto.out)
 
 pub put_last-requires : goal.put_last-requires
 put_last-requires c =
-    let e = c in
-    let p = e in
-    simp length-set (omega (arith, short (goal.at.put_last-requires c).Start, p.put_bytes-word.ensures.end, p.put_bytes-word.auto.out, e.put_unsigned-end.ensures.end, e.put_unsigned-end.auto.out))
+    simp length-set (omega (arith, short (goal.at.put_last-requires c).Start, c.put_bytes-word.ensures.end, c.put_bytes-word.auto.out, c.put_unsigned-end.ensures.end, c.put_unsigned-end.auto.out))
 
 pub shape_of-out : goal.shape_of-out
 shape_of-out c =
-    let l = c in
-    let e = l in
-    l.put_last.auto.out ∙ simp length-set (e.put_unsigned-end.auto.out ∙ e.put_bytes-word.auto.out)
+    c.put_last.auto.out ∙ simp length-set (c.put_unsigned-end.auto.out ∙ c.put_bytes-word.auto.out)
 
 pub returns : goal.returns
 unfolding refused_text
 returns c =
-    let l = c in
-    let e = l in
-    let p = e in
     record {
-      wrote = wrote_more p.put_bytes-word.ensures (wrote_more e.put_unsigned-end.ensures (wrote_more (wrote_one _ _ 32) l.put_last.ensures.wrote));
-      bound = omega (arith, short (goal.at.returns c).Start, p.put_bytes-word.ensures.end, e.put_unsigned-end.ensures.end, l.put_last.ensures.bound);
+      wrote = wrote_more c.put_bytes-word.ensures (wrote_more c.put_unsigned-end.ensures (wrote_more (wrote_one _ _ 32) c.put_last.ensures.wrote));
+      bound = omega (arith, short (goal.at.returns c).Start, c.put_bytes-word.ensures.end, c.put_unsigned-end.ensures.end, c.put_last.ensures.bound);
     }
