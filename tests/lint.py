@@ -14,8 +14,8 @@ INTERNAL = {"integers", "coefficients", "scaling_values", "scaling_blocks", "blo
 # each function calls one entry point and cites its definition, so that entry point's edits stand for it too
 WRAPPERS = {"c_api"}
 
-# what the programs of cases share, no part of the library: it reads and writes, of which no contract can speak
-SUPPORT = {"cases"}
+# what the programs share, no part of the library: they read and write, of which contracts say little
+SUPPORT = {"streams", "cases"}
 
 # how many statements stand under two names, as tests/same_laws.py counts them: it only goes down
 SAME_LAWS = 0
