@@ -3,7 +3,6 @@ use mathlib.Core.Path.{◌≡◌, ap, ◌∙◌}
 use mathlib.Core.List.{List}
 use Prim.Native.Nat.{◌+◌, ◌*◌, ◌<◌}
 use native.Mathlib.Omega.{arith}
-use borrow.Author.Rules.{rules}
 use lib.Arith.{digits_lt}
 use lib.IntN.{ℤ}
 use lib.ListN.{set, length-set}
@@ -15,28 +14,28 @@ use Rattle.h265.specs.Transform.{row_order}
 use Rattle.h265.proofs.RangeLaws.{size_square}
 use Rattle.stages_wide.specs.Wide.{column_replaced}
 use Rattle.block_rules.specs.Edit.{intermediate_of, residual_of, edited_buffers}
-use Rattle.block_work.proofs.edit_stages.Statement.{statement}
-use Rattle.block_work.proofs.edit_stages.Tie as tie
+use Rattle.block_work.proofs.edit_stages.Goals as goal
+use Rattle.block_work.proofs.edit_stages.Goals.{Start}
 
 -- the place lies in the block
-in_block : (s : tie.Start) → s.args.row * s.args.n + s.args.column < s.args.n * s.args.n
+in_block : (s : Start) → s.args.row * s.args.n + s.args.column < s.args.n * s.args.n
 in_block s = digits_lt {q = s.args.row} {m = s.args.n} {r = s.args.column} {c = s.args.n} s.requires.1 s.requires.2
 
-mul-value : tie.Need-overflow-mul-value
-mul-value c = record { fits = omega (arith, in_block c, size_square c.args.n c.requires.0.size) }
+pub overflow_mul-value : goal.overflow_mul-value
+overflow_mul-value c = record { fits = omega (arith, in_block c, size_square c.args.n c.requires.0.size) }
 
-add-value : tie.Need-overflow-add-value
-add-value c = record { fits = omega (arith, in_block c, size_square c.args.n c.requires.0.size) }
+pub overflow_add-value : goal.overflow_add-value
+overflow_add-value c = record { fits = omega (arith, in_block c, size_square c.args.n c.requires.0.size) }
 
-mul-value-2 : tie.Need-overflow-mul-value-2
-mul-value-2 c = record { fits = omega (arith, in_block c, size_square c.args.n c.requires.0.size) }
+pub offset_bounds-coeff-row : goal.offset_bounds-coeff-row
+offset_bounds-coeff-row c = record { fits = omega (arith, in_block c, size_square c.args.n c.requires.0.size) }
 
-slice-set-from-value : tie.Need-slice-set-from-value
-slice-set-from-value c = omega (arith, in_block c, c.requires.0.coeff)
+pub bounds-coeff-row : goal.bounds-coeff-row
+bounds-coeff-row c = omega (arith, in_block c, c.requires.0.coeff)
 
-column-and-residual-requires : tie.Need-column-and-residual-requires
-column-and-residual-requires c κs =
-    let p = c.before.before.before.requires in
+pub column_and_residual-requires : goal.column_and_residual-requires
+column_and_residual-requires c =
+    let p = c.requires in
     let a = p.0 in (
       record { size = a.size; dst = a.dst; least = a.range.0; most = a.range.1; source = simp length-set a.coeff; room = a.inter },
       omega (arith, p.1, p.2),
@@ -44,20 +43,11 @@ column-and-residual-requires c κs =
       record { least = a.depth.0; most = a.depth.1; above = a.range.2; below = omega (arith, a.range.3) },
     )
 
-same_length : tie.Need-same-length
-same_length c = search rules
-
-same-length-2 : tie.Need-same-length-2
-same-length-2 c = search rules
-
-same-length-3 : tie.Need-same-length-3
-same-length-3 c = search rules
-
-returns : tie.Need-returns
+pub returns : goal.returns
 unfolding edited_buffers intermediate_of residual_of
 returns c =
-    let called = c.before.before.column-and-residual in
-    let s = c.before.before.before.before.before.before in
+    let called = c.column_and_residual in
+    let s = c in
     let n = s.args.n in
     let z : to_z w32 (of_z w32 s.args.value) ≡ s.args.value = to_z-of_z s.ranges.value in
     let e = called.ensures.0
@@ -66,13 +56,6 @@ returns c =
       record {
         inter = e;
         res = called.ensures.1
-            ∙ ap (λ (g : List ℤ). overwrite (n * n) (row_order n (residual_of s.args.kind n s.args.bit-depth s.args.range g)) s.args.residual.now) e;
+            ∙ ap (λ (g : List ℤ). overwrite (n * n) (row_order n (residual_of s.args.kind n s.args.bit_depth s.args.range g)) s.args.residual.now) e;
       },
     )
-
-pub edit_stages_spec : {M : Type 1} → statement M
-edit_stages_spec =
-    tie.close
-    (tie.spec
-    mul-value add-value mul-value-2 slice-set-from-value column-and-residual-requires same_length same-length-2
-    same-length-3 returns)
