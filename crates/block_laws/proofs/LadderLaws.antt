@@ -11,7 +11,7 @@ use mathlib.Core.Bool.{Bool, true, false, ◌||◌, cond}
 use mathlib.Core.List.{List}
 use Prim.Native.Nat.{ℕ, ◌+◌, ◌*◌, ◌≤◌, ◌<◌}
 use native.Mathlib.Omega.{arith}
-use borrow.Author.Tests.{lt-ltb, le-ltb, lt-leb, eqb-true, not_false}
+use borrow.Author.Tests.{lt-ltb, le-ltb, lt-leb, eqb-true, not-false}
 use lib.Dec.{eqb, leb}
 use lib.IntN.{ℤ, pos}
 use lib.ListN.{length, replicate}
@@ -47,7 +47,7 @@ past false f x p = (refl, p)
 dst_four : (k : Kind) (n : ℕ) → dst_refused k n ≡ false → k ≡ Dst → n ≡ 4
 unfolding dst_refused
 dst_four Dct n f q = cc
-dst_four Dst n f q = eqb-true n 4 (not_false (eqb n 4) f)
+dst_four Dst n f q = eqb-true n 4 (not-false (eqb n 4) f)
 
 -- one condition of a ladder that is refused with r
 rung : {A : Type 0} (make : Outcome (Unit {0}) → A) (r : Refusal) (t : Bool) (f : Refusal) (x : Outcome (Unit {0})) (y : A) → refused tt r ≡ cond t (refused tt f) x

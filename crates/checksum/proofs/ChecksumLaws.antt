@@ -5,7 +5,7 @@
 --   xor_mask_run     the mask in a run of 128 columns
 --   run_term_eq      what a sample of a run adds is what its column does
 --   total_zero, total_suc, total_add, total_cong   no term, one more, several more, equal terms
-use Rattle.std.proofs.Common.{◌≡◌, ℕ, zero, suc, ◌+◌, ◌*◌, ◌/◌, ◌%◌, ◌^◌, ◌<◌, ◌≤◌, List, get_or, sym, refl, ap, ◌∙◌, ap₂, add-zero, add_assoc, add-suc, mod-lt, add-one, arith}
+use Rattle.std.proofs.Common.{◌≡◌, ℕ, zero, suc, ◌+◌, ◌*◌, ◌/◌, ◌%◌, ◌^◌, ◌<◌, List, get_or, sym, refl, ap, ◌∙◌, ap₂, add-zero, add_assoc, add-suc, mod-lt, add-one, arith}
 use lib.Arith.{bin_ind}
 use lib.Bits.{bit_xor, differ, xor_lt, xor_step, xor_shr, xor_mod, xor_comm, xor_shifted}
 use Rattle.checksum.specs.Checksum.{xor_mask, sample_term, total, column_term, run_term}

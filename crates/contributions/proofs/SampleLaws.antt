@@ -11,7 +11,7 @@ use mathlib.Core.Bool.{true, false, ◌||◌}
 use mathlib.Core.List.{List, [], ◌∷◌}
 use Prim.Native.Nat.{ℕ, ◌*◌, ◌≤◌, ◌<◌}
 use native.Mathlib.Omega.{arith}
-use borrow.Author.Tests.{ltb-false, leb-false, eqb-true, not_false}
+use borrow.Author.Tests.{ltb-false, leb-false, eqb-true, not-false}
 use lib.Dec.{T, leb, eqb}
 use lib.IntN.{ℤ}
 use lib.ListN.{length}
@@ -73,7 +73,7 @@ sample_asked {kind} {n} {m} {j} {coeff} {out} p =
   where
     four : (k : Kind) → dst_refused k n ≡ false → k ≡ Dst → n ≡ 4
     four Dct f q = cc
-    four Dst f q = eqb-true n 4 (not_false (eqb n 4) (unfold dst_refused in f))
+    four Dst f q = eqb-true n 4 (not-false (eqb n 4) (unfold dst_refused in f))
 
 module _ (kind : Kind) (n m j : ℕ) (d out : List ℤ) where
   abbrev checks : List Rung

@@ -6,29 +6,25 @@
 --   prepared_sample               a sample by the tables is the residual's, with the coefficient replaced
 --   found_least, found_most       so that the ends by the tables are those of the definition
 --   written_least, written_most   and what was written
-use mathlib.Core.Path.{◌≡◌, refl, sym, ap, ap₂, subst, fun_ext, ◌∙◌}
-use mathlib.Core.Bool.{Bool, true, false}
+use mathlib.Core.Path.{◌≡◌, sym, ap, subst, fun_ext, ◌∙◌}
+use mathlib.Core.Bool.{Bool, false}
 use mathlib.Core.List.{List}
-use Prim.Native.Nat.{ℕ, ◌+◌, ◌-◌, ◌*◌, ◌/◌, ◌%◌, ◌^◌, ◌≤◌, ◌<◌}
+use Prim.Native.Nat.{ℕ, ◌+◌, ◌-◌, ◌*◌, ◌/◌, ◌%◌, ◌≤◌, ◌<◌}
 use native.Mathlib.Omega.{arith}
 use lib.Arith.{digits_lt}
-use lib.Dec.{T, ltb}
-use lib.IntN.{ℤ, pos, ◌+ℤ◌, ◌-ℤ◌, ◌*ℤ◌}
-use lib.ListN.{length, get_or}
+use lib.Dec.{T}
+use lib.IntN.{ℤ}
+use lib.ListN.{length}
 use lib.Pow.{pow_mono}
-use lib.Signed.{◌≤ℤ◌}
 use Rattle.integers.specs.Lists.{overwrite}
-use Rattle.integers.specs.Search.{first_where}
 use Rattle.integers.specs.Shift.{round_shift}
 use Rattle.integers.specs.Within.{Within}
-use Rattle.integers.proofs.LinearLaws.{le_in}
-use Rattle.integers.proofs.BoundLaws.{within_le, within_eq, within_out, within_in}
+use Rattle.integers.proofs.BoundLaws.{within_le, within_eq}
 use Rattle.integers.proofs.ListsLaws.{overwrite_cong}
 use Rattle.integers.proofs.SearchLaws.{first_where_cong}
-use Rattle.h265.specs.Matrix.{trans_matrix, dst_matrix}
-use Rattle.h265.specs.Range.{is_size, transform_range, coeff_min, coeff_max, clip_coeff, outside_range}
-use Rattle.h265.specs.Transform.{transform_line, block_at, columns_read, row_order, stage_one_sum, stage_one_value, intermediate, stage_two_sum, stage_two_shift, residual}
-use Rattle.h265.proofs.RangeLaws.{size_bound, coeff_min_within, coeff_max_within, clip_coeff_within, clip_coeff_id, outside_range_false, transform_range_least, transform_range_most, transform_range_depth}
+use Rattle.h265.specs.Range.{is_size, transform_range, clip_coeff, outside_range}
+use Rattle.h265.specs.Transform.{block_at, columns_read, stage_one_sum, stage_one_value, intermediate, stage_two_sum, stage_two_shift, residual}
+use Rattle.h265.proofs.RangeLaws.{size_bound, clip_coeff_within, clip_coeff_id, outside_range_false}
 use Rattle.h265.proofs.TransformLaws.{columns_read_in, cell_row, cell_column, row_order_cong}
 use Rattle.transform_1d.specs.declared.Kind.{Kind}
 use Rattle.transform_1d.specs.declared.Kind.TheVariants.{Dct, Dst}
@@ -39,7 +35,7 @@ use Rattle.edit_values.specs.Values.{least_where, most_where}
 use Rattle.edit_values.specs.Sample.{stage_one_by, sample_by}
 use Rattle.edit_blocks.specs.Edits.{misses_at, has_target, edited_residual, gives_target, least_edit, most_edit}
 use Rattle.edit_tables.specs.Tables.{Holds, StageNeeds}
-use Rattle.edit_blocks.specs.Work.{Tables, tables, probe_at, sampled_by, TablesNeeds, least_by, most_by, edited_by, EditsNeeds}
+use Rattle.edit_blocks.specs.Work.{Tables, tables, probe_at, sampled_by, TablesNeeds, least_by, most_by, edited_by}
 use Rattle.edit_tables.proofs.TableLaws.{cell_index, line_within}
 use Rattle.edit_blocks.proofs.ChangedLaws.{edited_sample}
 

@@ -4,7 +4,7 @@
 --   probe_hit, hit_probe   its sample is at the target exactly where the wanted sample is hit
 --   narrowed_sieved  so that a narrowed span is what is left
 --   unwanted_hit     a sample that is not wanted is hit by every value
-use mathlib.Core.Path.{◌≡◌, refl, sym, ap, subst, ◌∙◌}
+use mathlib.Core.Path.{◌≡◌, sym, ap, subst, ◌∙◌}
 use mathlib.Core.Bool.{true, false, not}
 use mathlib.Core.List.{List}
 use Prim.Native.Nat.{ℕ, ◌+◌, ◌*◌, ◌<◌, ◌≤◌}
@@ -23,7 +23,7 @@ use Rattle.edit_values.specs.Values.{value_count, value_at}
 use Rattle.edit_values.specs.Sample.{sample_by, Bounded, Narrowed}
 use Rattle.edit_values.proofs.OrderedLaws.{not_both}
 use Rattle.edit_blocks.specs.Edits.{is_wanted}
-use Rattle.edit_blocks.specs.Work.{Tables, probe_at, sampled_by, TablesNeeds, Hit, hit_by, Sieved}
+use Rattle.edit_blocks.specs.Work.{Tables, probe_at, sampled_by, TablesNeeds, hit_by, Sieved}
 use Rattle.edit_blocks.proofs.SieveLaws.{sieved_none, sieved_more}
 
 rest_within : {a u x : ℤ} → Within 12079595520 a → Within 90 u → Within 4194304 x → Within 17179869184 (a +ℤ (pos 0 -ℤ u) *ℤ x)

@@ -4,14 +4,14 @@
 --   sieved_least, sieved_most               the ends of what is left after all samples are the least and the most value that pass
 --   hit_all, all_hit                        every sample is hit exactly where the residual has the target
 use mathlib.Core.Path.{◌≡◌, refl, sym, ap, subst, ◌∙◌}
-use mathlib.Core.Bool.{Bool, true, false, not, ◌&&◌, ◌||◌, cond}
+use mathlib.Core.Bool.{Bool, true, false, ◌&&◌, cond}
 use mathlib.Core.List.{List}
-use Prim.Native.Nat.{ℕ, suc, ◌+◌, ◌-◌, ◌*◌, ◌/◌, ◌%◌, ◌^◌, ◌≤◌, ◌<◌}
+use Prim.Native.Nat.{ℕ, ◌+◌, ◌-◌, ◌*◌, ◌%◌, ◌^◌, ◌≤◌, ◌<◌}
 use native.Mathlib.Decide.{ℕ_discrete}
 use native.Mathlib.Nat.{mod-eq_of_lt}
 use native.Mathlib.Omega.{arith}
 use borrow.Author.Tests.{ltb-true, ltb-false, lt-ltb, le-ltb, not-true}
-use lib.Dec.{T, ltb}
+use lib.Dec.{ltb}
 use lib.Pow.{pow_pos, pow_mono}
 use lib.IntN.{ℤ, pos, neg_ℤ, ◌+ℤ◌, ◌-ℤ◌, +ℤ_comm}
 use lib.ListN.{get_or}
@@ -20,14 +20,13 @@ use Rattle.integers.specs.Search.{first_where}
 use Rattle.integers.proofs.LinearLaws.{parts_add, parts_neg, parts_ext}
 use Rattle.integers.proofs.OrderLaws.{≤ℤ_antisym}
 use Rattle.integers.proofs.MachineLaws.{lt_z_false, lt_z_of_le}
-use Rattle.integers.proofs.SearchLaws.{None, first_where_first, first_where-none, first_where_found}
+use Rattle.integers.proofs.SearchLaws.{first_where_first, first_where-none, first_where_found}
 use Rattle.h265.specs.Range.{coeff_min, coeff_max}
-use Rattle.h265.specs.Transform.{block_at, row_order}
-use Rattle.h265.proofs.TransformLaws.{cell_row, cell_column, row_order-at}
+use Rattle.h265.specs.Transform.{row_order}
 use Rattle.edit_values.specs.declared.Span.{Span}
 use Rattle.edit_values.specs.Values.{value_count, value_at, least_where, most_where}
 use Rattle.integers.proofs.TestLaws.{neither}
-use Rattle.edit_blocks.specs.Edits.{is_wanted, HasTarget, differs, misses_at, has_target}
+use Rattle.edit_blocks.specs.Edits.{is_wanted, differs, misses_at, has_target}
 use Rattle.edit_blocks.specs.Work.{Hit, Sieved, least_of, most_of}
 
 module _ {r : ℕ} {hit : ℤ → ℕ → Type 0} where

@@ -10,7 +10,7 @@
 --   least_by, most_by        the least and the most value that give the target at every wanted sample, by the tables
 --   edited_by t n r s d i v    the residual of the block with v at index i
 --   EditsNeeds               what the search of a whole block asks
-use Rattle.std.specs.Prelude.{◌≡◌, Bool, true, false, cond, List, ℕ, ◌+◌, ◌-◌, ◌*◌, ◌/◌, ◌%◌, ◌≤◌, ◌<◌, T, ltb, ℤ, pos, ◌+ℤ◌, ◌-ℤ◌, ◌*ℤ◌, length, get_or, set}
+use Rattle.std.specs.Prelude.{◌≡◌, Bool, true, false, cond, List, ℕ, ◌-◌, ◌*◌, ◌/◌, ◌%◌, ◌≤◌, ◌<◌, T, ltb, ℤ, pos, ◌+ℤ◌, ◌-ℤ◌, ◌*ℤ◌, length, get_or, set}
 use Rattle.integers.specs.Within.{Within}
 use Rattle.h265.specs.Range.{is_size, transform_range, outside_range}
 use Rattle.h265.specs.Transform.{block_at, columns_read, row_order, intermediate, stage_two}
@@ -19,7 +19,7 @@ use Rattle.transform_1d.specs.declared.Kind.TheVariants.{Dst}
 use Rattle.edit_values.specs.declared.Probe.{Probe}
 use Rattle.edit_values.specs.declared.Span.{Span}
 use Rattle.edit_values.specs.Values.{value_at, least_where, most_where}
-use Rattle.edit_values.specs.Sample.{sample_by, Bounded}
+use Rattle.edit_values.specs.Sample.{sample_by}
 use Rattle.edit_blocks.specs.Edits.{is_wanted, has_target}
 
 pub record Tables : Type 0 where

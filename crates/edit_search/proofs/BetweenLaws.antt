@@ -2,18 +2,17 @@
 --   test_has, has_test                  the test of a target and what it says
 --   gives_between, edit_between         one index: a value gives the target exactly where it lies between the ends
 --   edits_lie_between, nothing_wanted   one for each statement
-use mathlib.Core.Path.{◌≡◌, refl, sym, ap, subst, ◌∙◌}
+use mathlib.Core.Path.{◌≡◌, sym, ap, subst, ◌∙◌}
 use mathlib.Core.Logic.{◌↔◌}
 use mathlib.Core.Bool.{Bool, true, false}
 use mathlib.Core.List.{List}
-use Prim.Native.Nat.{ℕ, ◌+◌, ◌-◌, ◌*◌, ◌/◌, ◌%◌, ◌≤◌, ◌<◌}
+use Prim.Native.Nat.{ℕ, ◌+◌, ◌*◌, ◌/◌, ◌%◌, ◌≤◌, ◌<◌}
 use native.Mathlib.Nat.{div-add-mod'}
 use native.Mathlib.Omega.{arith}
 use lib.Arith.{digits_lt}
 use lib.IntN.{ℤ, pos, ◌+ℤ◌, ◌-ℤ◌, ◌*ℤ◌}
-use lib.ListN.{length, get_or, set}
+use lib.ListN.{length, get_or}
 use lib.Signed.{◌≤ℤ◌}
-use Rattle.integers.specs.Lists.{overwrite}
 use Rattle.integers.proofs.ListsLaws.{overwrite-get_or}
 use Rattle.h265.specs.Range.{transform_range, outside_range}
 use Rattle.h265.specs.Transform.{block_at, columns_read, row_order, stage_one_sum, intermediate, stage_two_sum, stage_two_shift, residual}
@@ -25,7 +24,7 @@ use Rattle.edit_values.specs.Sample.{stage_one_by, sample_by, before, falls}
 use Rattle.edit_values.proofs.OrderedLaws.{not_both, sample_ordered, upto_antisym}
 use Rattle.edit_values.proofs.ValuesLaws.{passes_between, range_ends}
 use Rattle.edit_blocks.specs.Edits.{is_wanted, HasTarget, has_target, edited_residual, gives_target, least_edit, most_edit}
-use Rattle.edit_blocks.specs.Work.{Hit, edited_by}
+use Rattle.edit_blocks.specs.Work.{edited_by}
 use Rattle.edit_blocks.proofs.ChangedLaws.{edited_sample}
 use Rattle.edit_blocks.proofs.SieveLaws.{hit_all, all_hit}
 use Rattle.edit_search.specs.Found.{Found, edits_found}

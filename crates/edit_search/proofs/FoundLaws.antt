@@ -7,17 +7,17 @@
 --   answered_passed     a ladder that answered 0 has passed every rung
 --   found_wrote         an answer of 0: no condition holds, and both buffers are written
 use mathlib.Core.Path.{◌≡◌, refl, sym, ap, ◌∙◌}
-use mathlib.Core.Bool.{Bool, true, false, not, ◌&&◌, cond}
+use mathlib.Core.Bool.{Bool, true, false}
 use mathlib.Core.List.{List, [], ◌∷◌}
 use Prim.Native.Nat.{ℕ, ◌*◌, ◌%◌, ◌≤◌, ◌<◌}
 use native.Mathlib.Omega.{arith}
-use borrow.Author.Tests.{ltb-false, lt-ltb, le-ltb, eqb-true, not_false}
-use lib.Dec.{T, ltb, eqb}
+use borrow.Author.Tests.{ltb-false, lt-ltb, le-ltb, eqb-true, not-false}
+use lib.Dec.{ltb, eqb}
 use lib.IntN.{ℤ, pos}
 use lib.ListN.{length, get_or}
 use Rattle.integers.specs.Lists.{overwrite}
 use Rattle.integers.proofs.SearchLaws.{first_where_first}
-use Rattle.h265.specs.Range.{is_size, transform_range, outside_range}
+use Rattle.h265.specs.Range.{transform_range, outside_range}
 use Rattle.h265.proofs.TransformLaws.{cell_column}
 use Rattle.refusal.specs.declared.Answer.TheVariants.{Done, Refused}
 use Rattle.refusal.specs.declared.Refusal.{Refusal}
@@ -109,7 +109,7 @@ module _ (kind : Kind) (n b : ℕ) (x : Bool) (d target : List ℤ) (wanted : Li
     where
       four : (k : Kind) → dst_refused k n ≡ false → k ≡ Dst → n ≡ 4
       four Dct f q = cc
-      four Dst f q = eqb-true n 4 (not_false (eqb n 4) (unfold dst_refused in f))
+      four Dst f q = eqb-true n 4 (not-false (eqb n 4) (unfold dst_refused in f))
 
   -- ---- an answer of 0
   module _ (z : answer_by.answer.number ≡ 0) where

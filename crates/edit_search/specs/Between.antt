@@ -10,7 +10,7 @@ use Rattle.h265.specs.Transform.{block_at, residual}
 use Rattle.transform_1d.specs.declared.Kind.{Kind}
 use Rattle.transform_1d.specs.MatrixOf.{matrix_of}
 use Rattle.edit_blocks.specs.Edits.{is_wanted, HasTarget}
-use Rattle.edit_search.specs.Found.{Found, edits_found}
+use Rattle.edit_search.specs.Found.{edits_found}
 
 -- the residual is the one that the transforms' contracts cite, over all n columns
 abbrev pub has_target_after : Kind → ℕ → ℕ → Bool → List ℤ → List ℤ → List ℕ → ℕ → ℕ → ℤ → Type 0

@@ -3,18 +3,15 @@
 --   entry_within                  the size of its negation
 --   holds_laid, holds_size        a table of a layout's entries holds the matrix; a size by another name
 --   holds_dct, holds_dst          the matrix of a kind
-use mathlib.Core.Path.{◌≡◌, refl, sym, ap, subst, ◌∙◌}
+use mathlib.Core.Path.{◌≡◌, sym, ap, subst, ◌∙◌}
 use mathlib.Core.List.{List}
 use Prim.Native.Nat.{ℕ, ◌-◌, ◌%◌, ◌≤◌, ◌<◌}
 use native.Mathlib.Omega.{arith}
 use borrow.Author.Tests.{eq-eqb, ne_eqb}
-use lib.Dec.{T}
 use lib.IntN.{ℤ, pos, neg_ℤ, ◌-ℤ◌, +ℤ_idl}
 use Rattle.integers.specs.Within.{Within}
 use Rattle.integers.proofs.BoundLaws.{within_neg, within_eq}
 use Rattle.h265.specs.Matrix.{trans_matrix, dst_matrix}
-use Rattle.h265.specs.Range.{is_size}
-use Rattle.h265.proofs.RangeLaws.{size_cases}
 use Rattle.transform_1d.specs.declared.Kind.{Kind}
 use Rattle.transform_1d.specs.declared.Kind.TheVariants.{Dct, Dst}
 use Rattle.transform_1d.specs.MatrixOf.{matrix_of}

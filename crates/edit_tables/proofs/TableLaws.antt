@@ -5,24 +5,21 @@
 --   place                         an index is below 1,024
 --   column_ask, row_ask           sums down a column and along a row
 --   one_cell, two_cell            are those of the two stages
-use mathlib.Core.Path.{◌≡◌, refl, sym, ap, ◌∙◌}
+use mathlib.Core.Path.{◌≡◌, ap, ◌∙◌}
 use mathlib.Core.List.{List}
 use Prim.Native.Nat.{ℕ, ◌+◌, ◌*◌, ◌/◌, ◌%◌, ◌≤◌, ◌<◌}
 use native.Mathlib.Nat.{div-add-mod', mul-le-mul, le_refl}
 use native.Mathlib.Numerals.{add-one}
 use native.Mathlib.Omega.{arith}
 use lib.Arith.{digits_lt}
-use lib.Dec.{T}
 use lib.IntN.{ℤ, pos, ◌+ℤ◌, ◌*ℤ◌}
-use lib.ListN.{length, get_or, replicate, length-replicate}
-use Rattle.integers.specs.Sum.{sum}
+use lib.ListN.{get_or, replicate, length-replicate}
 use Rattle.integers.specs.Within.{Within}
 use Rattle.integers.proofs.BoundLaws.{within_le, within_mul}
 use Rattle.integers.proofs.ListsLaws.{Stored, stored_length, stored_all}
 use Rattle.integers.proofs.SumLaws.{sum_zero, sum_suc, sum_bound, sum_cong}
-use Rattle.h265.specs.Range.{is_size}
 use Rattle.h265.specs.Transform.{transform_line, block_at, row_order, stage_one_sum, stage_two_sum}
-use Rattle.h265.proofs.RangeLaws.{size_bound, size_square}
+use Rattle.h265.proofs.RangeLaws.{size_bound}
 use Rattle.h265.proofs.TransformLaws.{block_at_overwrite, cell_row, cell_column}
 use Rattle.edit_tables.specs.Tables.{Holds, LineNeeds, StageNeeds}
 

@@ -4,7 +4,7 @@
 use mathlib.Core.Path.{◌≡◌, sym, ap, ◌∙◌}
 use mathlib.Core.List.{List, ◌++◌, append-nil}
 use Prim.Native.Nat.{ℕ, ◌≤◌, ◌<◌}
-use lib.ListN.{length, take, drop, get_or, drop_of_length-le}
+use lib.ListN.{length, take, get_or, drop_of_length-le}
 use lib.Seq.{ext_get_or, get_or-take, length-take-le}
 use Rattle.integers.specs.Lists.{tabulate, overwrite}
 use Rattle.integers.proofs.ListsLaws.{tabulate-length, tabulate-get_or}

@@ -12,7 +12,7 @@ use mathlib.Core.Bool.{Bool, true, false, not, cond}
 use mathlib.Core.List.{List, [], ◌∷◌}
 use Prim.Native.Nat.{ℕ, ◌*◌, ◌≤◌, ◌<◌}
 use native.Mathlib.Omega.{arith}
-use borrow.Author.Tests.{eqb-true, not_false}
+use borrow.Author.Tests.{eqb-true, not-false}
 use lib.Dec.{T, eqb}
 use lib.IntN.{ℤ, pos, nat_abs}
 use lib.ListN.{length, get_or, set, replicate}
@@ -135,7 +135,7 @@ module _ (list : ScalingList) (kind : Kind) (n : ℕ) (q : ℤ) (b : ℕ) (x : B
         record {
           invertible = subst Invertible (sym e) (dequant_of_invertible (log2_size n) q b x (known n q b x p.0 p.1.0));
           inside = λ m v. rw e (inside n q b x p.0 p.1.0 m v);
-          list = record { size = size_accepted n p.0; whole = eqb-true (entries_of list) 64 (not_false (eqb (entries_of list) 64) p.1.1.1.0) };
+          list = record { size = size_accepted n p.0; whole = eqb-true (entries_of list) 64 (not-false (eqb (entries_of list) 64) p.1.1.1.0) };
           dst = four kind p.1.1.0;
           depth = depth_accepted b p.1.0;
           given = block_room n (length levels) p.1.1.1.1.0;
@@ -147,7 +147,7 @@ module _ (list : ScalingList) (kind : Kind) (n : ℕ) (q : ℤ) (b : ℕ) (x : B
       where
         four : (k : Kind) → dst_refused k n ≡ false → k ≡ Dst → n ≡ 4
         four Dct f q = cc
-        four Dst f q = eqb-true n 4 (not_false (eqb n 4) (unfold dst_refused in f))
+        four Dst f q = eqb-true n 4 (not-false (eqb n 4) (unfold dst_refused in f))
 
 -- ---- no list
 module _ (kind : Kind) (n : ℕ) (q : ℤ) (b : ℕ) (x : Bool) (levels target : List ℤ) (wanted : List ℕ) (least most : List ℤ) where

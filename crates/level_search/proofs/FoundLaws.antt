@@ -11,7 +11,7 @@ use mathlib.Core.List.{List}
 use Prim.Native.Nat.{ℕ, zero, suc, ◌*◌, ◌/◌, ◌%◌, ◌≤◌, ◌<◌}
 use native.Mathlib.Nat.{mul-le-mul}
 use native.Mathlib.Omega.{arith}
-use borrow.Author.Tests.{ltb-true, ltb-false, not_false}
+use borrow.Author.Tests.{ltb-true, ltb-false, not-false}
 use lib.Dec.{T, ltb}
 use lib.IntN.{ℤ, pos, nat_abs}
 use lib.ListN.{length, get_or, replicate, get_or-replicate}
@@ -113,7 +113,7 @@ module _ (list : ScalingList) (n : ℕ) (q : ℤ) (b : ℕ) (x : Bool) (k : Know
     nearest_is : misses_at numbers list n coeff i ≡ false → nearest_at numbers list n coeff i ≡ least_at list n b x q coeff i
     unfolding misses_at nearest_at least_at
     nearest_is e =
-        sym (least_level_eq f r z (scales_at i) (nearest numbers f z) (found_least (not_false _ e)))
+        sym (least_level_eq f r z (scales_at i) (nearest numbers f z) (found_least (not-false _ e)))
         ∙ ap (λ (g : ℤ → ℤ). least_level g r z) (scaling_is i)
 
   -- ---- the block

@@ -10,20 +10,18 @@ use mathlib.Core.Path.{◌≡◌, refl, sym, ap, ap₂, subst, ◌∙◌}
 use mathlib.Core.Bool.{Bool, true, false, ◌&&◌, cond}
 use mathlib.Core.List.{List}
 use mathlib.Core.Logic.{◌⊎◌, ⊎_elim, inl, inr}
-use Prim.Native.Nat.{ℕ, ◌+◌, ◌-◌, ◌*◌, ◌/◌, ◌%◌, ◌^◌, ◌≤◌, ◌<◌}
+use Prim.Native.Nat.{ℕ, ◌+◌, ◌-◌, ◌*◌, ◌/◌, ◌%◌, ◌≤◌, ◌<◌}
 use native.Mathlib.Nat.{div-add-mod', le_trans, not-suc-le-zero}
 use native.Mathlib.Decide.{ℕ_discrete, dec_lt}
 use native.Mathlib.Omega.{arith}
 use borrow.Author.Tests.{lt-ltb, le-ltb, le-leb, lt-leb}
 use lib.Arith.{digits_div, digits_mod}
 use lib.Bits.{bit_or, or_add_and, and_le_l, and_le_r}
-use lib.Dec.{ltb, leb}
 use lib.IntN.{ℤ, pos, nat_abs, neg_ℤ, ◌+ℤ◌, ◌-ℤ◌}
 use lib.ListN.{length, get_or, set, length-set}
 use lib.Pow.{pow_mono}
 use lib.Seq.{get_or-set_same, get_or-set_other, ext_get_or}
 use lib.Signed.{lt_z, ◌≤ℤ◌, ◌<ℤ◌}
-use Rattle.integers.specs.Clip.{clip3}
 use Rattle.integers.specs.Lists.{tabulate}
 use Rattle.integers.proofs.LinearLaws.{parts_add, parts_neg, le_in, le_out, lt_in, lt_out}
 use Rattle.integers.proofs.MachineLaws.{lt_z_true, lt_z_false}

@@ -8,7 +8,7 @@ use mathlib.Core.Bool.{Bool, true, false, not}
 use mathlib.Core.List.{List}
 use Prim.Native.Nat.{ℕ, ◌+◌, ◌*◌, ◌/◌, ◌%◌, ◌<◌, ◌≤◌}
 use native.Mathlib.Omega.{arith}
-use borrow.Author.Tests.{eq-eqb, ne_eqb, lt-leb, not-true, not_false}
+use borrow.Author.Tests.{eq-eqb, ne_eqb, lt-leb, not-true, not-false}
 use lib.Dec.{T}
 use lib.ListN.{length}
 use Rattle.h265.specs.Range.{is_size, log2_size}
@@ -38,13 +38,13 @@ source_none {x} mode n i z = rw (not-true x z) (record { is = λ es d. refl; low
 
 pub source_skip : {x : Bool} (mode : Mode) (n i : ℕ) → not x ≡ false → list_ignored mode n ≡ true → SourceAt x mode n i Skip
 unfolding block_source
-source_skip {x} mode n i z g = rw (not_false x z) (record { is = λ es d. rw g refl; low = omega arith })
+source_skip {x} mode n i z g = rw (not-false x z) (record { is = λ es d. rw g refl; low = omega arith })
 
 -- a block that is scaled by the list
 module _ {x : Bool} (mode : Mode) (n i : ℕ) (z : not x ≡ false) (g : list_ignored mode n ≡ false) where
   by_list : {src : Source} → ((es : List ℕ) (d : ℕ) → source_is src ≡ rule (factor_source (listed es d) n i)) → position_of src < 64 → SourceAt x mode n i src
   unfolding block_source
-  by_list f h = rw (not_false x z) (record { is = λ es d. rw g (f es d); low = h })
+  by_list f h = rw (not-false x z) (record { is = λ es d. rw g (f es d); low = h })
 
   pub source_four : n ≡ 4 → i < n * n → SourceAt x mode n i (Four i)
   unfolding factor_source
@@ -81,11 +81,11 @@ module _ (x : Bool) (es : List ℕ) (d : ℕ) (mode : Mode) (n i : ℕ) where
 
   pub factor_skip : not x ≡ false → list_ignored mode n ≡ true → ◌≡◌ {A = ℕ} 16 (block_factor (list_in x es d) mode n i)
   unfolding block_factor list_for scaling_factor factor_by factor_source
-  factor_skip z g = rw (not_false x z, g) refl
+  factor_skip z g = rw (not-false x z, g) refl
 
   pub factor-listed : {m : ℕ} → not x ≡ false → list_ignored mode n ≡ false → m ≡ scaling_factor (listed es d) n i → m ≡ block_factor (list_in x es d) mode n i
   unfolding block_factor list_for
-  factor-listed z g e = rw (not_false x z, g) e
+  factor-listed z g e = rw (not-false x z, g) e
 
 pub coeff_accepted : (es : List ℕ) (d n i : ℕ) → LinePrecondition n i (length es) → scaling_coeff es d n i ≡ accepted (scaling_factor (listed es d) n i)
 unfolding scaling_coeff size_refused list_refused

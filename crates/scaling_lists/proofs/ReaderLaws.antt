@@ -8,7 +8,7 @@ use mathlib.Core.Bool.{false, ◌||◌}
 use mathlib.Core.List.{List, [], ◌∷◌, ◌++◌}
 use Prim.Native.Nat.{ℕ, suc, ◌+◌, ◌-◌, ◌*◌, ◌/◌, ◌%◌, ◌≤◌, ◌<◌}
 use native.Mathlib.Omega.{arith}
-use borrow.Author.Tests.{eqb-true, ltb-false, not_false}
+use borrow.Author.Tests.{eqb-true, ltb-false, not-false}
 use lib.Dec.{ltb}
 use lib.ListN.{length, get_or, drop}
 use lib.Seq.{ext_get_or, take-length, paste}
@@ -126,7 +126,7 @@ unfolding lengths_refused list_refused
 lengths_accepted four intra inter e =
     let a = neither (list_refused four) (list_refused intra || list_refused inter) e in
     let b = neither (list_refused intra) (list_refused inter) a.1 in
-    (eqb-true four 64 (not_false _ a.0), eqb-true intra 64 (not_false _ b.0), eqb-true inter 64 (not_false _ b.1))
+    (eqb-true four 64 (not-false _ a.0), eqb-true intra 64 (not-false _ b.0), eqb-true inter 64 (not-false _ b.1))
 
 pub room_accepted : (lists dcs : ℕ) → room_refused lists dcs ≡ false → (1280 ≤ lists) × (20 ≤ dcs)
 unfolding room_refused

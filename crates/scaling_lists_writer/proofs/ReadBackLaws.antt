@@ -6,7 +6,7 @@ use mathlib.Core.Bool.{Bool, true, false, cond, not}
 use mathlib.Core.List.{List}
 use Prim.Native.Nat.{ℕ, ◌+◌, ◌-◌, ◌*◌, ◌/◌, ◌%◌, ◌^◌, ◌≤◌, ◌<◌}
 use native.Mathlib.Omega.{arith}
-use borrow.Author.Tests.{ltb-false, not-true, not_false, eqb-false}
+use borrow.Author.Tests.{ltb-false, not-true, not-false, eqb-false}
 use lib.Dec.{eqb}
 use lib.ListN.{length, get_or}
 use lib.Seq.{ext_get_or}
@@ -49,7 +49,7 @@ module _ (lists dcs : List ℕ) (f : Bytes lists) (g : Bytes dcs) where
   pub writable_held : values_refused (held 20 lists dcs) ≡ false → Writable (held 20 lists dcs)
   unfolding values_refused
   writable_held e =
-      let all = not_false (every 20 (λ j. nonzero (size_id j) (list_at (held 20 lists dcs) j))) e in
+      let all = not-false (every 20 (λ j. nonzero (size_id j) (list_at (held 20 lists dcs) j))) e in
       record {
         proper = λ j h.
             let is = held-list lists dcs j h in

@@ -2,7 +2,7 @@
 --   count_le     a count is at most the number of its indices
 --   count_cong   two tests that agree at every index counted give one count
 --   Tally        the invariant of a loop that has counted the indices below k; tally_none, -more, -room, -small, -all are its needs
-use mathlib.Core.Path.{◌≡◌, refl, sym, ap, ap₂, ◌∙◌}
+use mathlib.Core.Path.{◌≡◌, refl, ap, ap₂, ◌∙◌}
 use mathlib.Core.Bool.{Bool, true, false, cond}
 use Prim.Native.Nat.{ℕ, zero, suc, ◌+◌, ◌≤◌, ◌<◌}
 use native.Mathlib.Numerals.{add-one}

@@ -6,7 +6,6 @@ use Prim.Native.Nat.{ℕ, ◌+◌, ◌-◌, ◌*◌, ◌/◌, ◌^◌, ◌≤◌
 use native.Mathlib.Nat.{mul_comm, mul-le-mul_right, div-mul-le_self, lt-mul-div-succ, suc-mul}
 use native.Mathlib.Numerals.{add-one}
 use native.Mathlib.Omega.{arith}
-use lib.Pow.{pow_pos}
 use Rattle.scaling_values.specs.Flat.{TopOf, LowOf, Divided}
 
 module _ {f a s m : ℕ} (h : Divided f a s m) where

@@ -9,18 +9,16 @@
 --   flat_for_fits                  an output holds every coefficient where it holds the ends of the range
 --   dequant_of_regular             the numbers of every block are regular
 use mathlib.Core.Path.{◌≡◌, refl, sym, ap, ap₂, subst, ◌∙◌}
-use mathlib.Core.Bool.{Bool, true, false, ◌||◌, ◌&&◌, cond}
+use mathlib.Core.Bool.{Bool, true, false, ◌||◌, cond}
 use mathlib.Core.List.{List}
-use Prim.Native.Nat.{ℕ, zero, suc, ◌+◌, ◌-◌, ◌*◌, ◌^◌, ◌≤◌, ◌<◌}
+use Prim.Native.Nat.{ℕ, ◌+◌, ◌-◌, ◌*◌, ◌^◌, ◌≤◌}
 use native.Mathlib.Nat.{mul_comm, add-mul}
-use native.Mathlib.Decide.{dec_lt}
 use native.Mathlib.Omega.{arith}
-use lib.Dec.{T, ltb, ltb→lt}
+use lib.Dec.{ltb, ltb→lt}
 use lib.IntN.{ℤ, pos, negsuc, neg_ℤ, nat_abs, ◌+ℤ◌, ◌*ℤ◌, +ℤ_idl, pos-*ℤ-pos}
 use lib.ListN.{get_or}
-use lib.Pow.{pow-add, pow_mono, pow_pos, shr_shr}
+use lib.Pow.{pow-add, pow_mono, pow_pos, shr-shr}
 use lib.Signed.{shr_z, lt_z, ◌≤ℤ◌, ◌<ℤ◌}
-use mir.Facts.{and_yes}
 use mir.Syntax.{Width}
 use mir.Val.{SFits}
 use Rattle.integers.specs.Clip.{clip3}
@@ -49,8 +47,8 @@ use Rattle.scaling_values.proofs.ThresholdLaws.{coeff_max_pos, limited_exact, va
 
 -- ---- shifts
 pub shr_z_shr_z : (z : ℤ) (j k : ℕ) → shr_z (shr_z z (2 ^ j)) (2 ^ k) ≡ shr_z z (2 ^ (j + k))
-shr_z_shr_z (pos n) j k = ap pos (shr_shr n j k)
-shr_z_shr_z (negsuc n) j k = ap negsuc (shr_shr n j k)
+shr_z_shr_z (pos n) j k = ap pos (shr-shr n j k)
+shr_z_shr_z (negsuc n) j k = ap negsuc (shr-shr n j k)
 
 shr_z_scaled : (y : ℤ) (k : ℕ) → shr_z (pos 0 +ℤ pos 16 *ℤ y) (2 ^ (4 + k)) ≡ shr_z y (2 ^ k)
 shr_z_scaled y k =

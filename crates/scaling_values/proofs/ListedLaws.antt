@@ -10,29 +10,28 @@
 --   factor_is, scale_is        what m is multiplied by in every block
 --   dequant_of_listable         the numbers of every block are listable where R = 15
 use mathlib.Core.Path.{◌≡◌, refl, sym, ap, ap₂, subst, ◌∙◌}
-use mathlib.Core.Bool.{Bool, true, false, ◌||◌, cond}
+use mathlib.Core.Bool.{Bool, true, false, ◌||◌}
 use mathlib.Core.List.{List}
 use mathlib.Core.Logic.{◌↔◌}
-use Prim.Native.Nat.{ℕ, zero, suc, ◌+◌, ◌-◌, ◌*◌, ◌/◌, ◌%◌, ◌^◌, ◌≤◌, ◌<◌}
+use Prim.Native.Nat.{ℕ, suc, ◌+◌, ◌-◌, ◌*◌, ◌/◌, ◌%◌, ◌^◌, ◌≤◌, ◌<◌}
 use native.Mathlib.Nat.{mul_comm, mul_assoc, mod-eq_of_lt, mul-le-mul_left, mul-sub, mul-add-mod_self_left}
 use native.Mathlib.Decide.{dec_lt}
 use native.Mathlib.Omega.{arith}
 use lib.Count.{count_trailing_zeros}
-use lib.Dec.{T, ltb, eqb, eqb→eq, ltb→lt, lit<}
+use lib.Dec.{ltb, eqb, eqb→eq, ltb→lt, lit<}
 use lib.IntN.{ℤ, pos, negsuc, neg_ℤ, nat_abs, ◌+ℤ◌, ◌*ℤ◌, *ℤ_comm, +ℤ_idr}
 use lib.ListN.{get_or}
 use lib.Pow.{pow-add, pow_mono, pow_pos, pow-lt}
-use lib.Signed.{shr_z, lt_z, ◌≤ℤ◌, ◌<ℤ◌, ≤ℤ_refl, clash_ℤ}
+use lib.Signed.{shr_z, lt_z, ◌≤ℤ◌, ≤ℤ_refl, clash_ℤ}
 use mir.Facts.{to_z_pos}
 use mir.Syntax.{w16, w32}
 use mir.Val.{SFits, to_z, of_z}
 use Rattle.integers.specs.Clip.{clip3}
 use Rattle.integers.specs.Shift.{pow2, shift_right}
-use Rattle.integers.specs.Within.{Within}
-use Rattle.integers.proofs.LinearLaws.{parts_add, le_out, lt_out, le_in}
+use Rattle.integers.proofs.LinearLaws.{parts_add, le_out, lt_out}
 use Rattle.integers.proofs.OrderLaws.{*ℤ_assoc, *ℤ-+ℤ, one-*ℤ, shr_unique}
 use Rattle.integers.proofs.ShiftLaws.{le_shift_right, shift_right_zero, shift_right_within}
-use Rattle.integers.proofs.BoundLaws.{within_pos, within_eq}
+use Rattle.integers.proofs.BoundLaws.{within_pos}
 use Rattle.integers.proofs.MachineLaws.{round_trip, lt_z_true, lt_z_false}
 use Rattle.integers.proofs.ListsLaws.{overwrite_cong}
 use Rattle.integers.proofs.ClipLaws.{clip3_within}

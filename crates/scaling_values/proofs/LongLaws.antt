@@ -11,7 +11,7 @@
 --   long_counted                    what is written and counted by them is the block's
 --   dequant_of-listed                the numbers of every block are long, and listable where R = 15
 use mathlib.Core.Path.{◌≡◌, refl, sym, ap, ap₂, subst, ◌∙◌}
-use mathlib.Core.Bool.{Bool, true, false, ◌||◌, cond}
+use mathlib.Core.Bool.{Bool, true, false, ◌||◌}
 use mathlib.Core.List.{List}
 use Prim.Native.Nat.{ℕ, ◌+◌, ◌-◌, ◌*◌, ◌/◌, ◌%◌, ◌^◌, ◌≤◌, ◌<◌}
 use native.Mathlib.Nat.{mod-eq_of_lt}
@@ -20,14 +20,14 @@ use lib.Count.{count_trailing_zeros}
 use lib.Dec.{ltb, ltb→lt, lit<}
 use lib.IntN.{ℤ, pos, negsuc, neg_ℤ, nat_abs, ◌+ℤ◌, ◌-ℤ◌, ◌*ℤ◌, +ℤ_comm, +ℤ_idr, pos-*ℤ-pos}
 use lib.ListN.{get_or}
-use lib.Pow.{pow-add, pow_mono, pow_pos, pow-lt, shl-shr, shr_shr}
+use lib.Pow.{pow-add, pow_mono, pow_pos, pow-lt, shl-shr, shr-shr}
 use lib.Signed.{shr_z, lt_z, ◌≤ℤ◌, ◌<ℤ◌}
 use mir.Syntax.{w16, w32}
 use mir.Val.{SFits}
 use Rattle.integers.specs.Clip.{clip3}
 use Rattle.integers.specs.Shift.{pow2, shift_right}
 use Rattle.integers.specs.Within.{Within}
-use Rattle.integers.proofs.LinearLaws.{parts_add, parts_neg, parts_mul, parts_ext, le_in, le_out, lt_in, lt_out, split, ring, diff_ext}
+use Rattle.integers.proofs.LinearLaws.{parts_add, parts_neg, parts_mul, le_in, le_out, lt_in, lt_out, split, ring, diff_ext}
 use Rattle.integers.proofs.OrderLaws.{one-*ℤ, ≤ℤ_trans, *ℤ_mono, shr_floor, shr_shift}
 use Rattle.integers.proofs.ShiftLaws.{le_shift_right, shift_right_zero, shift_right_mono}
 use Rattle.integers.proofs.BoundLaws.{within_pos, within_out, within_fits}
@@ -35,7 +35,7 @@ use Rattle.integers.proofs.MachineLaws.{lt_z_true, lt_z_false, lt_z_of_lt, lt_z_
 use Rattle.integers.proofs.ListsLaws.{overwrite_cong}
 use Rattle.integers.proofs.ClipLaws.{clip3_between}
 use Rattle.integers.proofs.TestLaws.{all_below, all_below_at}
-use Rattle.h265.specs.Range.{transform_range, coeff_min, coeff_max}
+use Rattle.h265.specs.Range.{transform_range, coeff_min}
 use Rattle.h265.specs.Quantization.{clip_qp_prime, level_scale, scale_of_qp}
 use Rattle.h265.specs.Scaling.{bd_shift}
 use Rattle.h265.proofs.RangeLaws.{transform_range_least, transform_range_most, transform_range_depth}
@@ -44,7 +44,7 @@ use Rattle.parameters.specs.declared.DequantParams.{DequantParams}
 use Rattle.parameters.specs.Parameters.{dequant_of, KnownSize}
 use Rattle.scaling_values.specs.declared.LongParams.{LongParams}
 use Rattle.scaling_values.specs.Level.{level_by, listed_level, outside_by, result_by, listed_result, listed_limited}
-use Rattle.scaling_values.specs.Listed.{scale_by, zeros_by, odd_by}
+use Rattle.scaling_values.specs.Listed.{zeros_by, odd_by}
 use Rattle.scaling_values.specs.Long.{long_product, long_level, long_limited, long_at, long_limited_at, rest_of, long_by, Near, Longable, Listed, Long, LongFor}
 use Rattle.scaling_values.specs.Work.{direct_at, direct_limited_at, Counted}
 use Rattle.scaling_values.proofs.CountLaws.{count_cong}
@@ -388,7 +388,7 @@ raised_end_is {p} g h =
     let j : ℕ = r - u - 7 in
     let one : 2 ^ r - 1 + 1 ≡ 2 ^ r = omega (arith, pow_pos r) in
     let sum : r ≡ j + (u + 7) = omega (arith, g.power) in
-    shr_shr (2 ^ r - 1 + 1) u 7
+    shr-shr (2 ^ r - 1 + 1) u 7
     ∙ ap (λ (k : ℕ). k / 2 ^ (u + 7)) (one ∙ ap (λ (k : ℕ). 2 ^ k) sum ∙ pow-add 2 j (u + 7))
     ∙ shl-shr (2 ^ j) (u + 7)
 

@@ -3,18 +3,18 @@
 --   limited_exact   a level past them is one that is limited, or whose result is; and no other
 --   value_between   between them the coefficient needs no limit
 --   value_above, value_below   past them it is the same for every level
-use mathlib.Core.Path.{◌≡◌, refl, sym, ap, ap₂, subst, ◌∙◌}
-use mathlib.Core.Bool.{Bool, true, false, ◌||◌, cond}
+use mathlib.Core.Path.{◌≡◌, refl, sym, ap, ◌∙◌}
+use mathlib.Core.Bool.{Bool, true, false, ◌||◌}
 use Prim.Native.Nat.{ℕ, zero, suc, ◌+◌, ◌-◌, ◌*◌, ◌^◌, ◌≤◌, ◌<◌}
 use native.Mathlib.Nat.{mul_comm}
 use native.Mathlib.Decide.{dec_lt}
 use native.Mathlib.Omega.{arith}
-use lib.IntN.{ℤ, pos, negsuc, neg_ℤ, ◌+ℤ◌, ◌*ℤ◌, *ℤ_comm, pos-*ℤ-pos}
+use lib.IntN.{ℤ, pos, neg_ℤ, ◌+ℤ◌, ◌*ℤ◌, *ℤ_comm, pos-*ℤ-pos}
 use lib.Pow.{pow_pos}
-use lib.Signed.{lt_z, ◌≤ℤ◌, ◌<ℤ◌, ≤ℤ_refl, clash_ℤ}
+use lib.Signed.{lt_z, ◌≤ℤ◌, ◌<ℤ◌, clash_ℤ}
 use Rattle.integers.specs.Clip.{clip3}
 use Rattle.integers.specs.Shift.{pow2, shift_right}
-use Rattle.integers.proofs.LinearLaws.{pos_part, neg_part, parts_add, parts_neg, parts_ext, le_in, le_out, lt_in, lt_out, split, ring, diff_ext, diff_le}
+use Rattle.integers.proofs.LinearLaws.{pos_part, neg_part, parts_add, parts_neg, parts_ext, le_in, le_out, lt_in, lt_out, ring, diff_le}
 use Rattle.integers.proofs.OrderLaws.{≤ℤ_trans, <ℤ-≤ℤ, *ℤ_mono}
 use Rattle.integers.proofs.MachineLaws.{lt_z_true, lt_z_false, lt_z_of_lt, lt_z_of_le}
 use Rattle.integers.proofs.ClipLaws.{clip3_id, clip3_low, clip3_high, clip3_cases}

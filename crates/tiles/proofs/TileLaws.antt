@@ -8,17 +8,16 @@
 --   lines_next         one line of a tile more
 use mathlib.Core.Path.{◌≡◌, refl, sym, ap, ap₂, ◌∙◌, subst}
 use mathlib.Core.List.{List}
-use Prim.Native.Nat.{ℕ, zero, suc, ◌+◌, ◌*◌, ◌-◌, ◌/◌, ◌%◌, ◌^◌, ◌≤◌, ◌<◌}
-use native.Mathlib.Nat.{pow-succ', one-mul, suc-mul, mul-le-mul_right, mul-div-mul_left, div-div-eq-div-mul, not-suc-le-zero}
+use Prim.Native.Nat.{ℕ, ◌+◌, ◌*◌, ◌-◌, ◌/◌, ◌%◌, ◌^◌, ◌≤◌, ◌<◌}
+use native.Mathlib.Nat.{pow-succ', one-mul, mul-le-mul_right, mul-div-mul_left, div-div-eq-div-mul, not-suc-le-zero}
 use native.Mathlib.Decide.{ℕ_discrete, dec_lt}
 use native.Mathlib.Numerals.{add-one}
 use native.Mathlib.Omega.{arith}
 use lib.IntN.{ℤ, pos, negsuc, ◌+ℤ◌, ◌*ℤ◌}
 use lib.ListN.{get_or, length, get_or-eq_default}
 use lib.Signed.{shr_z}
-use Rattle.integers.specs.Lists.{overwrite}
 use Rattle.integers.specs.Shift.{pow2, shift_right, round_shift}
-use Rattle.integers.proofs.LinearLaws.{pos_part, neg_part, parts_ext, parts_mul, split, ring, diff_ext}
+use Rattle.integers.proofs.LinearLaws.{parts_ext, parts_mul}
 use Rattle.integers.proofs.OrderLaws.{*ℤ-+ℤ}
 use Rattle.integers.proofs.ListsLaws.{Stored, stored_length, stored_all, overwrite-get_or}
 use Rattle.h265.specs.Matrix.{trans_matrix}

@@ -5,7 +5,7 @@ use mathlib.Core.Bool.{Bool, true, false, not, ◌||◌}
 use Prim.Native.Nat.{ℕ, ◌+◌, ◌*◌, ◌≤◌, ◌<◌}
 use native.Mathlib.Omega.{arith}
 use borrow.Author.Rules.{rules, sfits_of}
-use borrow.Author.Tests.{le-leb, lt-leb, ltb-false, not-true, not_false}
+use borrow.Author.Tests.{le-leb, lt-leb, ltb-false, not-true, not-false}
 use lib.Arith.{digits_lt}
 use lib.IntN.{ℤ}
 use lib.ListN.{length, set}
@@ -76,7 +76,7 @@ returns-2 c =
 
 -- the block was opened on levels
 way : (c : tie.Else1) → c.before.before.before.before.before.before.args.block.source.levels ≡ true
-way c = not_false c.before.before.before.before.before.before.args.block.source.levels c.if1.false
+way c = not-false c.before.before.before.before.before.before.args.block.source.levels c.if1.false
 
 returns-3 : tie.Need-returns-3
 returns-3 c =

@@ -1,5 +1,4 @@
 -- `feed_format::format::dst_refused` meets its contract: an arm for each mode.
-use borrow.Author.Rules.{rules}
 use Rattle.feed_format.specs.Format.{dst_refused}
 use Rattle.feed_format.proofs.format.dst_refused.Goals as goal
 

@@ -1,5 +1,4 @@
 -- `feed_format::format::list_ignored` meets its contract: an arm for each mode.
-use borrow.Author.Rules.{rules}
 use Rattle.feed_format.specs.Format.{list_ignored}
 use Rattle.feed_format.proofs.format.list_ignored.Goals as goal
 

@@ -1,13 +1,11 @@
 -- `feed_format::room::feed_room` meets its contract: what is counted and what the rest asks are what the whole asks.
 use mathlib.Core.Path.{◌≡◌, sym, ap, ◌∙◌}
 use mathlib.Core.Bool.{Bool}
-use Prim.Native.Nat.{◌-◌}
 use native.Mathlib.Omega.{arith}
-use borrow.Author.Rules.{rules}
-use lib.ListN.{length, get_or}
+use lib.ListN.{get_or}
 use Rattle.feed_format.specs.Format.{kind_of, is_unknown, record_room}
 use Rattle.feed_format.specs.Room.{feed_room}
-use Rattle.feed_format.proofs.RoomLaws.{RoomLeft, room_start, room_more, room_unknown, room_end}
+use Rattle.feed_format.proofs.RoomLaws.{room_start, room_more, room_unknown, room_end}
 use Rattle.feed_format.proofs.room.feed_room.Goals as goal
 use Rattle.feed_format.proofs.room.feed_room.Goals.{After-is_unknown}
 
@@ -32,6 +30,10 @@ overflow_add-at-in-loop-at c = omega arith
 
 pub loop-at-smaller : goal.loop-at-smaller
 loop-at-smaller c = omega (arith, c.least-at.ensures, c.loop-at-test.true)
+
+pub loop-at-preserved : goal.loop-at-preserved
+loop-at-preserved c =
+    room_more c.loop-at.invariant _ c.loop-at-test.true (known (goal.at.loop-at-preserved c).After-is_unknown c.if-is_unknown.false) (rw c.record_length.ensures.value at c.least-at.ensures) _ (rw c.record_room.ensures.value at c.capped_sum-room.ensures)
 
 pub returns : goal.returns
 unfolding feed_room

@@ -1,5 +1,4 @@
 -- `feed_format::values::level` meets its contract: below 2^31 the bits are the number, from there on their complement is the number less one, negated.
-use borrow.Author.Rules.{rules}
 use native.Mathlib.Omega.{arith}
 use Rattle.feed_format.proofs.ValueLaws.{level_low, level_fits, level_high}
 use Rattle.feed_format.proofs.values.level.Goals as goal

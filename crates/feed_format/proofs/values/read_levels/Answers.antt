@@ -1,11 +1,10 @@
 -- `feed_format::values::read_levels` meets its contract: the first i levels are stored, and the next begins at byte 4 i.
-use mathlib.Core.Path.{◌≡◌, ◌∙◌}
-use Prim.Native.Nat.{◌-◌, ◌*◌, ◌≤◌}
+use Rattle.std.proofs.Common.{w32}
+use mathlib.Core.Path.{◌∙◌}
 use native.Mathlib.Omega.{arith}
-use borrow.Author.Rules.{rules, sfits_of}
-use Rattle.integers.proofs.ListsLaws.{Stored, stored_none, stored_more, stored_length, stored_all}
+use borrow.Author.Rules.{sfits_of}
+use Rattle.integers.proofs.ListsLaws.{stored_none, stored_more, stored_length, stored_all}
 use Rattle.integers.proofs.MachineLaws.{round_trip}
-use Rattle.feed_format.specs.Format.{level_at}
 use Rattle.feed_format.proofs.ValueLaws.{level-at}
 use Rattle.feed_format.proofs.values.read_levels.Goals as goal
 
@@ -53,3 +52,9 @@ shape_of-levels c = stored_length c.loop-i.invariant.2
 
 pub returns : goal.returns
 returns c = stored_all c.loop-i.invariant.2 (omega arith)
+
+pub loop-i-preserved : goal.loop-i-preserved
+loop-i-preserved c =
+    let l = c.loop-i in
+    let a = c.args in
+    (omega arith, omega arith, stored_more l.invariant.2 (omega arith) (round_trip {w = w32} (sfits_of c.level.type_inv) ∙ c.level.ensures ∙ level-at a.body.now l.at l.i l.invariant.1))

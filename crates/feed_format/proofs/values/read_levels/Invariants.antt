@@ -1,12 +1,8 @@
 -- `feed_format::values::read_levels` meets its contract: the first i levels are stored, and the next begins at byte 4 i.
-use mathlib.Core.Path.{◌≡◌, ◌∙◌}
+use mathlib.Core.Path.{◌≡◌}
 use Prim.Native.Nat.{◌-◌, ◌*◌, ◌≤◌}
-use native.Mathlib.Omega.{arith}
-use borrow.Author.Rules.{rules, sfits_of}
-use Rattle.integers.proofs.ListsLaws.{Stored, stored_none, stored_more, stored_length, stored_all}
-use Rattle.integers.proofs.MachineLaws.{round_trip}
+use Rattle.integers.proofs.ListsLaws.{Stored}
 use Rattle.feed_format.specs.Format.{level_at}
-use Rattle.feed_format.proofs.ValueLaws.{level-at}
 use Rattle.feed_format.proofs.values.read_levels.Given as goal
 
 abbrev pub invariant-loop-i : goal.invariant-loop-i

@@ -4,7 +4,7 @@ use mathlib.Core.Bool.{true}
 use Prim.Native.Nat.{◌≤◌}
 use native.Mathlib.Omega.{arith}
 use borrow.Author.Rules.{rules, sfits_of}
-use borrow.Author.Tests.{not-true, not_false}
+use borrow.Author.Tests.{not-true, not-false}
 use Rattle.integers.proofs.MachineLaws.{round_trip}
 use Rattle.block_rules.specs.Edit.{buffers}
 use Rattle.block_rules.specs.Level.{level_edited, LevelEdits}
@@ -83,7 +83,7 @@ edited k =
     rw (round_trip (sfits_of e.edit-level.type-inv), e.edit-level.ensures, e.before.index2.ensures, e.before.before.before.index.ensures) at k.edit-level-by-value.ensures
 
 open_now : (k : tie.After-edit-level-by-value) → k.before.before.before.before.before.before.before.before.before.before.before.before.before.args.s.editing ≡ true
-open_now k = not_false k.before.before.before.before.before.before.before.before.before.before.before.before.before.args.s.editing k.before.before.before.before.before.before.before.before.before.before.before.if1.false
+open_now k = not-false k.before.before.before.before.before.before.before.before.before.before.before.before.before.args.s.editing k.before.before.before.before.before.before.before.before.before.before.before.if1.false
 
 returns-2 : tie.Need-returns-2
 returns-2 c =

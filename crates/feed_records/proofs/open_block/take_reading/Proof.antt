@@ -4,7 +4,7 @@ use mathlib.Core.Path.{◌≡◌, sym, ◌∙◌}
 use mathlib.Core.Bool.{true, false}
 use Prim.Native.Nat.{◌*◌, ◌≤◌}
 use native.Mathlib.Omega.{arith}
-use borrow.Author.Tests.{not-true, not_false}
+use borrow.Author.Tests.{not-true, not-false}
 use lib.Dec.{T}
 use Rattle.h265.specs.Range.{is_size}
 use Rattle.h265.proofs.RangeLaws.{size_square}
@@ -37,7 +37,7 @@ returns-2 c =
     let e = s.args.residual.now in
     record {
       leaves = λ ls d g.
-          rw (reading_sized s.args.s (lent ls d g e) (not_false s.args.s.editing c.before.before.before.before.if1.false) (sym c.before.before.size-refused.ensures ∙ c.before.if2.true))
+          rw (reading_sized s.args.s (lent ls d g e) (not-false s.args.s.editing c.before.before.before.before.if1.false) (sym c.before.before.size-refused.ensures ∙ c.before.if2.true))
           (quiet_takes _ _ (c.kept2.ensures.leaves (lent ls d g e)));
     }
 
@@ -77,7 +77,7 @@ returns-3 c =
     rw (c.moved.ensures, c.before.with_open.ensures)
     (record {
       leaves = λ ls d g.
-          reading_takes s.args.s (lent ls d g e) (not_false s.args.s.editing z.before.before.before.if1.false) (sized z) (fits s)
+          reading_takes s.args.s (lent ls d g e) (not-false s.args.s.editing z.before.before.before.if1.false) (sized z) (fits s)
           (record { wrote = p.put-reading.ensures.wrote; bound = omega (arith, few z, p.put-reading.ensures.bound) });
     })
 

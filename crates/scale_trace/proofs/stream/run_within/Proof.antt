@@ -5,7 +5,7 @@ use mathlib.Core.List.{List}
 use Prim.Native.Nat.{ℕ, ◌+◌, ◌-◌, ◌≤◌}
 use native.Mathlib.Omega.{arith}
 use borrow.Author.Rules.{rules}
-use borrow.Author.Tests.{not-true, not_false}
+use borrow.Author.Tests.{not-true, not-false}
 use lib.ListN.{length}
 use Rattle.text.specs.Text.{Wrote}
 use Rattle.text.proofs.WroteLaws.{left_last, left_done, counts}
@@ -139,13 +139,13 @@ returns c =
 loop-less : tie.Need-loop-smaller invariant-loop decreases-loop
 loop-less c =
     let t = c.before.before.before.before.before.before.before.before.before in
-    omega (arith, (turned t).inside, (listing_passed c.before.before.before.before.before.before.before.before.before.before.before.before.before.before.before.before.before.before.before.before.loop.invariant.0 (turned t) (sym c.before.before.is-done.ensures ∙ not_false _ c.before.if1.false)).next)
+    omega (arith, (turned t).inside, (listing_passed c.before.before.before.before.before.before.before.before.before.before.before.before.before.before.before.before.before.before.before.before.loop.invariant.0 (turned t) (sym c.before.before.is-done.ensures ∙ not-false _ c.before.if1.false)).next)
 
 loop-again : tie.Need-loop-preserved invariant-loop decreases-loop
 loop-again c =
     let t = c.before.before.before.before.before.before.before.before.before in
     let l = c.before.before.before.before.before.before.before.before.before.before.before.before.before.before.before.before.before.before.before.before.loop in
-    (going_more l.invariant.0 (turned t) (listing_passed l.invariant.0 (turned t) (sym c.before.before.is-done.ensures ∙ not_false _ c.before.if1.false)), full_after t, l.invariant.2)
+    (going_more l.invariant.0 (turned t) (listing_passed l.invariant.0 (turned t) (sym c.before.before.is-done.ensures ∙ not-false _ c.before.if1.false)), full_after t, l.invariant.2)
 
 same-length-2 : tie.Need-same-length-2 invariant-loop decreases-loop
 same-length-2 c = c.before.loop.invariant.0.left.long

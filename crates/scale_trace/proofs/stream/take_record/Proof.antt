@@ -1,7 +1,7 @@
 -- `scale_trace::stream::take_record` meets its contract: the feed says answer and state, and an accepted record of levels adds its lines.
 use mathlib.Core.Path.{sym, ◌∙◌}
 use borrow.Author.Rules.{rules}
-use borrow.Author.Tests.{not-true, not_false}
+use borrow.Author.Tests.{not-true, not-false}
 use native.Mathlib.Omega.{arith}
 use Rattle.feed_state.specs.Buffers.{lent}
 use Rattle.feed_state.specs.Taken.{state_of}
@@ -72,7 +72,7 @@ same-length-9 c = search rules
 returns-2 : tie.Need-returns-2
 returns-2 c =
     let i = c.before.before.before.before.before in
-    traced_accepted (fed_at c.before.before.before.before.before.before.before.before.before.before.before.before.before) (sym i.before.is-done.ensures ∙ not_false _ i.if1.false) c.before.before.before.before.type_size.ensures c.before.before.put-levels.ensures
+    traced_accepted (fed_at c.before.before.before.before.before.before.before.before.before.before.before.before.before) (sym i.before.is-done.ensures ∙ not-false _ i.if1.false) c.before.before.before.before.type_size.ensures c.before.before.put-levels.ensures
 
 pub take_record_spec : {M : Type 1} → statement M
 take_record_spec =

@@ -1,0 +1,38 @@
+-- `edit_blocks::spans::index_span` meets its contract: the places that are left hit the samples of the rows passed, and no other place does.
+use mathlib.Core.Path.{ap}
+use Prim.Native.Nat.{ℕ, ◌*◌}
+use native.Mathlib.Nat.{mul-le-mul_right}
+use native.Mathlib.Omega.{arith}
+use Rattle.edit_blocks.proofs.SieveLaws.{sieved_range, sieved_empty, sieved_join, sieved_to}
+use Rattle.edit_blocks.proofs.spans.index_span.Goals as goal
+
+pub overflow_shl-to : goal.overflow_shl-to
+overflow_shl-to c = omega (arith, c.requires.0.range)
+
+pub loop-m-init : goal.loop-m-init
+loop-m-init c = let s = c in (omega arith, sieved_to (sieved_range s.requires.0.range) (omega arith))
+
+pub returns-then-to-from : goal.returns-then-to-from
+returns-then-to-from c =
+    let l = c in
+    sieved_empty l.loop-m.invariant.1 c.if-to-from.true (mul-le-mul_right l.args.n l.loop-m.invariant.0)
+
+pub row_span-left-requires : goal.row_span-left-requires
+row_span-left-requires c =
+    let l = c in
+    let h = l.requires in
+    (h.0, h.1, h.2, omega arith, l.loop-m.invariant.1.ordered, l.loop-m.invariant.1.most)
+
+pub overflow_add-m : goal.overflow_add-m
+overflow_add-m c = omega arith
+
+pub loop-m-smaller : goal.loop-m-smaller
+loop-m-smaller c = omega arith
+
+pub loop-m-preserved : goal.loop-m-preserved
+loop-m-preserved c =
+    let l = c in
+    (omega arith, sieved_to (sieved_join l.loop-m.invariant.1 (omega arith) (omega arith) c.row_span-left.ensures) (omega arith))
+
+pub returns : goal.returns
+returns c = sieved_to c.loop-m.invariant.1 (ap (λ (k : ℕ). k * c.args.n) (omega arith))

@@ -1,0 +1,114 @@
+-- `edit_tables::sums::line` meets its contract: the loop has added the products passed.
+use mathlib.Core.Path.{sym, ap, ◌∙◌}
+use Prim.Native.Nat.{ℕ, ◌+◌, ◌*◌, ◌<◌}
+use native.Mathlib.Omega.{arith}
+use lib.IntN.{ℤ, pos}
+use lib.ListN.{get_or}
+use mir.Syntax.{w64}
+use mir.Val.{SFits}
+use Rattle.h265.specs.Transform.{block_at, transform_line}
+use borrow.Author.Rules.{sfits_of}
+use lib.Arith.{digits_lt}
+use native.Mathlib.Nat.{mul-le-mul}
+use Rattle.integers.specs.Within.{Within}
+use Rattle.integers.proofs.MachineLaws.{round_trip}
+use Rattle.integers.proofs.BoundLaws.{within_le, within_fits}
+use Rattle.edit_tables.proofs.TableLaws.{line_zero, line_suc, line_within}
+use Rattle.edit_tables.proofs.sums.line.Goals as goal
+use Rattle.edit_tables.proofs.sums.line.Goals.{After-mac-arg-1, After-mac-arg-in-loop-k-1, At-loop-k, In-loop-k}
+
+-- the sum so far
+module _ (c : At-loop-k) where
+  abbrev so_far : ℤ
+  so_far =
+      let a = c.args in
+      transform_line (block_at a.n a.t.now) c.loop-k.k (λ i. get_or a.x.now (a.base + i * a.stride) (pos 0)) a.m
+
+  so_far_within : Within 12079595520 so_far
+  so_far_within =
+      let s = c in
+      line_within (block_at s.args.n s.args.t.now) c.loop-k.k _ s.args.m (omega (arith, c.loop-k.invariant.0, s.requires.few))
+      (λ i l. s.requires.entries i (omega (arith, c.loop-k.invariant.0))) (λ i l. (s.requires.reads i (omega (arith, c.loop-k.invariant.0))).1)
+
+  so_far_fits : SFits w64 so_far
+  so_far_fits = within_fits tt so_far_within
+
+-- what is read of it
+entry_place : (c : In-loop-k) → c.loop-k.k * c.args.n + c.args.m < 1024
+entry_place c =
+    let s = c in
+    omega (arith, digits_lt {q = c.loop-k.k} {m = s.args.n} {r = s.args.m} {c = s.args.n} (omega arith) s.requires.column, mul-le-mul s.requires.few s.requires.few)
+
+value_place : (c : After-mac-arg-1) → c.args.base + c.loop-k.k * c.args.stride < 1024
+value_place c = (c.requires.reads c.loop-k.k (omega arith)).0
+
+module _ (c : After-mac-arg-in-loop-k-1) where
+  entry_within : let l = c in let a = l.args in Within 90 (get_or a.t.now (l.loop-k.k * a.n + a.m) (pos 0))
+  unfolding block_at
+  entry_within = let l = c in l.requires.entries l.loop-k.k (omega arith)
+
+  value_within : let l = c in let a = l.args in Within 4194304 (get_or a.x.now (a.base + l.loop-k.k * a.stride) (pos 0))
+  value_within = let l = c in (l.requires.reads l.loop-k.k (omega arith)).1
+
+  entry_fits : let l = c in let a = l.args in SFits w64 (get_or a.t.now (l.loop-k.k * a.n + a.m) (pos 0))
+  entry_fits = within_fits tt entry_within
+
+  value_fits : let l = c in let a = l.args in SFits w64 (get_or a.x.now (a.base + l.loop-k.k * a.stride) (pos 0))
+  value_fits = within_fits tt value_within
+
+pub loop-k-init : goal.loop-k-init
+loop-k-init c = (omega arith, sym (line_zero _ _ _))
+
+pub overflow_mul-k : goal.overflow_mul-k
+overflow_mul-k c = omega (arith, entry_place c)
+
+pub overflow_add-k : goal.overflow_add-k
+overflow_add-k c = omega (arith, entry_place c)
+
+pub offset_bounds-t-k : goal.offset_bounds-t-k
+offset_bounds-t-k c = omega (arith, entry_place c)
+
+pub bounds-t-k : goal.bounds-t-k
+bounds-t-k c = entry_place c
+
+pub overflow_mul-k-in-loop-k : goal.overflow_mul-k-in-loop-k
+overflow_mul-k-in-loop-k c = omega (arith, value_place c)
+
+pub overflow_add-base : goal.overflow_add-base
+overflow_add-base c = omega (arith, value_place c)
+
+pub offset_bounds-x-base : goal.offset_bounds-x-base
+offset_bounds-x-base c = omega (arith, value_place c)
+
+pub bounds-x-base : goal.bounds-x-base
+bounds-x-base c = value_place c
+
+pub mac-more-requires : goal.mac-more-requires
+mac-more-requires c =
+    let l = c in
+    let s = l in
+    rw (l.loop-k.invariant.1, round_trip (entry_fits c), round_trip (value_fits c))
+    (within_le (omega arith) (so_far_within (goal.at.mac-more-requires c).At-loop-k), entry_within c, within_le (omega arith) (value_within c))
+
+pub overflow_add-k-in-loop-k : goal.overflow_add-k-in-loop-k
+overflow_add-k-in-loop-k c = omega arith
+
+pub loop-k-smaller : goal.loop-k-smaller
+loop-k-smaller c = omega arith
+
+pub loop-k-preserved : goal.loop-k-preserved
+unfolding block_at
+loop-k-preserved c =
+    let l = c in
+    let a = l.args in (
+      omega arith,
+      round_trip {w = w64} (sfits_of c.mac-more.type_inv)
+          ∙ ((rw (l.loop-k.invariant.1, round_trip (entry_fits (goal.at.loop-k-preserved c).After-mac-arg-in-loop-k-1), round_trip (value_fits (goal.at.loop-k-preserved c).After-mac-arg-in-loop-k-1)) at c.mac-more.ensures.0)
+          ∙ sym (line_suc (block_at a.n a.t.now) l.loop-k.k (λ i. get_or a.x.now (a.base + i * a.stride) (pos 0)) a.m)),
+    )
+
+pub returns : goal.returns
+returns c =
+    let l = c in
+    let a = l.args in
+    rw (l.loop-k.invariant.1) (ap (λ (k : ℕ). transform_line (block_at a.n a.t.now) k (λ i. get_or a.x.now (a.base + i * a.stride) (pos 0)) a.m) (omega arith))

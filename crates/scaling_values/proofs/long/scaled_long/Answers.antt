@@ -1,0 +1,206 @@
+-- `scaling_values::long::scaled_long` meets its contract: each arm is a case of the definition, and between the two bounds 32 bits hold the product.
+use mathlib.Core.Path.{◌≡◌, ap, ap₂, sym, subst, ◌∙◌}
+use mathlib.Core.Bool.{Bool, false, cond}
+use Prim.Native.Nat.{◌*◌, ◌%◌, ◌^◌}
+use native.Mathlib.Omega.{arith}
+use borrow.Author.Rules.{sfits_of}
+use lib.IntN.{ℤ, pos, negsuc, ◌+ℤ◌, ◌*ℤ◌}
+use lib.Dec.{lit<}
+use lib.Signed.{shr_z, lt_z, ◌≤ℤ◌}
+use mir.Facts.{to_z_pos}
+use mir.Syntax.{w32}
+use mir.Val.{SFits, to_z, of_z}
+use Rattle.integers.specs.Clip.{clip3}
+use Rattle.integers.specs.Shift.{pow2, shift_right}
+use Rattle.integers.specs.Within.{Within}
+use Rattle.integers.proofs.MachineLaws.{round_trip, lt_z_round_trip, lt_z_false}
+use Rattle.integers.proofs.BoundLaws.{within_fits, within_mul, within_pos}
+use Rattle.scaling_values.specs.Long.{long_product, long_level, rest_of}
+use Rattle.scaling_values.proofs.LevelLaws.{between_fits}
+use Rattle.scaling_values.proofs.ListedLaws.{shl_fits}
+use Rattle.scaling_values.proofs.LongLaws.{rest_low, rest_high, rest_sum, near_clip, near_within, over_fits, whole_fits, long_fits, long_between, long_below, long_above, long_inside}
+use Rattle.scaling_values.proofs.long.scaled_long.Goals as goal
+use Rattle.scaling_values.proofs.long.scaled_long.Goals.{After-limited_level-near, After-product-made, After-struct_told-3-1, Else-by-made, Else-made-by, Start}
+
+-- the block's numbers fit
+base_fits : (s : Start) → SFits w32 s.args.by.base
+base_fits s = within_fits tt s.requires.base
+
+add_fits : (s : Start) → SFits w32 s.args.by.add
+add_fits s = within_fits tt s.requires.add
+
+least_fits : (s : Start) → SFits w32 s.args.by.least
+least_fits s = within_fits tt (near_within s.requires.least)
+
+most_fits : (s : Start) → SFits w32 s.args.by.most
+most_fits s = within_fits tt (near_within s.requires.most)
+
+low_fits : (s : Start) → SFits w32 s.args.by.low
+low_fits s = between_fits (negsuc 16777215) (pos 0) s.args.by.low (record { sfits = lit< tt }) (record { sfits = lit< tt }) s.requires.low s.requires.lowest
+
+top_fits : (s : Start) → SFits w32 s.args.by.top
+top_fits s = between_fits (pos 0) (pos 16777215) s.args.by.top (record { sfits = lit< tt }) (record { sfits = lit< tt }) s.requires.topmost s.requires.top
+
+m_is : (s : Start) → to_z w32 s.args.m ≡ pos s.args.m
+m_is s = to_z_pos w32 (omega arith)
+
+factor_within : (s : Start) → Within (255 * 63) (pos s.args.m *ℤ s.args.by.base)
+factor_within s = within_mul {a = 255} (within_pos (omega arith)) s.requires.base
+
+-- ---- the limited level
+abbrev start-1 : After-limited_level-near → Start
+start-1 c = (goal.at.After-limited_level-near c).Start
+
+near_is : (c : After-limited_level-near) → let a = (start-1 c).args in c.limited_level-near.result ≡ clip3 a.by.least a.by.most a.level
+near_is c =
+    let s = start-1 c in
+    rw (round_trip s.ranges.level, round_trip (least_fits s), round_trip (most_fits s)) at c.limited_level-near.ensures
+
+near_fits : (c : After-limited_level-near) → SFits w32 c.limited_level-near.result
+near_fits c = sfits_of c.limited_level-near.type_inv
+
+pub limited_level-near-requires : goal.limited_level-near-requires
+limited_level-near-requires c =
+    let s = c in
+    rw (round_trip (least_fits (goal.at.limited_level-near-requires c).Start), round_trip (most_fits (goal.at.limited_level-near-requires c).Start)) s.requires.ordered
+
+pub overflow_mul-m : goal.overflow_mul-m
+overflow_mul-m c =
+    let s = start-1 (goal.at.overflow_mul-m c).After-limited_level-near in
+    rw (m_is s, round_trip (base_fits s)) (within_fits tt (factor_within s))
+
+pub product-made-requires : goal.product-made-requires
+product-made-requires c =
+    let m = c in
+    let l = m in
+    let s = start-1 (goal.at.product-made-requires c).After-limited_level-near in
+    rw (round_trip (near_fits (goal.at.product-made-requires c).After-limited_level-near), near_is (goal.at.product-made-requires c).After-limited_level-near, round_trip (overflow_mul-m (goal.at.product-made-requires c).After-struct_told-3-1), m_is s, round_trip (base_fits s), round_trip (add_fits s))
+    record { near = near_clip s.requires s.args.level; within = factor_within s; within_2 = s.requires.add }
+
+-- ---- its product
+abbrev level-of : After-product-made → After-limited_level-near
+level-of c = (goal.at.After-product-made c).After-limited_level-near
+
+abbrev start-2 : After-product-made → Start
+start-2 c = start-1 (level-of c)
+
+over_is : (c : After-product-made) → let a = (start-2 c).args in c.product-made.result.over ≡ shift_right (long_product a.by a.m a.level) 7
+unfolding long_product
+over_is c =
+    let l = level-of c in
+    let s = start-2 c in
+    rw (round_trip (near_fits l), near_is l, round_trip (overflow_mul-m (goal.at.After-product-made c).After-struct_told-3-1), m_is s, round_trip (base_fits s), round_trip (add_fits s)) at c.product-made.ensures.over
+
+rest_is : (c : After-product-made) → let a = (start-2 c).args in c.product-made.result.rest ≡ rest_of (long_product a.by a.m a.level)
+unfolding long_product
+rest_is c =
+    let l = level-of c in
+    let s = start-2 c in
+    rw (round_trip (near_fits l), near_is l, round_trip (overflow_mul-m (goal.at.After-product-made c).After-struct_told-3-1), m_is s, round_trip (base_fits s), round_trip (add_fits s)) at c.product-made.ensures.rest
+
+-- the two tests, in the contract's terms
+below_is : (c : After-product-made) {b : Bool} → let a = (start-2 c).args in lt_z c.product-made.result.over a.by.low ≡ b → lt_z (shift_right (long_product a.by a.m a.level) 7) a.by.low ≡ b
+below_is c h = let a = (start-2 c).args in ap (λ (z : ℤ). lt_z z a.by.low) (sym (over_is c)) ∙ h
+
+above_is : (c : After-product-made) {b : Bool} → let a = (start-2 c).args in lt_z a.by.top c.product-made.result.over ≡ b → lt_z a.by.top (shift_right (long_product a.by a.m a.level) 7) ≡ b
+above_is c h = let a = (start-2 c).args in ap (λ (z : ℤ). lt_z a.by.top z) (sym (over_is c)) ∙ h
+
+abbrev made-1 : Else-made-by → After-product-made
+made-1 c = (goal.at.Else-made-by c).After-product-made
+
+not_below : (c : Else-made-by) → let r = made-1 c in let a = (start-2 r).args in lt_z (shift_right (long_product a.by a.m a.level) 7) a.by.low ≡ false
+not_below c = let r = made-1 c in below_is r (lt_z_round_trip r.product-made.ensures.fits (low_fits (start-2 r)) c.if-made-by.false)
+
+pub returns-then-made-by : goal.returns-then-made-by
+unfolding long_level
+returns-then-made-by c =
+    let t = c in
+    let r = t in
+    let s = start-2 (goal.at.returns-then-made-by c).After-product-made in
+    let a = below_is (goal.at.returns-then-made-by c).After-product-made (lt_z_round_trip r.product-made.ensures.fits (low_fits s) t.if-made-by.true) in
+    record {
+      value = round_trip (least_fits s) ∙ rw a;
+      limited = ap (λ (b : Bool). cond b 1 0) (sym (long_below s.args.by s.args.m s.args.level a));
+    }
+
+pub returns-then-by-made : goal.returns-then-by-made
+unfolding long_level
+returns-then-by-made c =
+    let t = c in
+    let e = t in
+    let r = made-1 (goal.at.returns-then-by-made c).Else-made-by in
+    let s = start-2 r in
+    let a = not_below (goal.at.returns-then-by-made c).Else-made-by in
+    let b = above_is r (lt_z_round_trip (top_fits s) r.product-made.ensures.fits t.if-by-made.true) in
+    record {
+      value = round_trip (most_fits s) ∙ rw (a, b);
+      limited = ap (λ (x : Bool). cond x 1 0) (sym (long_above s.args.by s.args.m s.args.level a b));
+    }
+
+-- between the two bounds
+module _ (c : Else-by-made) where
+  abbrev else-1 : Else-made-by
+  else-1 = (goal.at.Else-by-made c).Else-made-by
+
+  abbrev made : After-product-made
+  made = made-1 else-1
+
+  abbrev start : Start
+  start = start-2 made
+
+  not_above : let a = start.args in lt_z a.by.top (shift_right (long_product a.by a.m a.level) 7) ≡ false
+  not_above = above_is made (lt_z_round_trip (top_fits start) made.product-made.ensures.fits c.if-by-made.false)
+
+  over_low : start.args.by.low ≤ℤ made.product-made.result.over
+  over_low = lt_z_false (lt_z_round_trip made.product-made.ensures.fits (low_fits start) else-1.if-made-by.false)
+
+  over_top : made.product-made.result.over ≤ℤ start.args.by.top
+  over_top = lt_z_false (lt_z_round_trip (top_fits start) made.product-made.ensures.fits c.if-by-made.false)
+
+  whole_is : let a = start.args in made.product-made.result.over *ℤ pos 128 +ℤ made.product-made.result.rest ≡ long_product a.by a.m a.level
+  whole_is =
+      let a = start.args in
+      ap₂ (λ (x : ℤ) (y : ℤ). x *ℤ pos 128 +ℤ y) (over_is made) (rest_is made) ∙ rest_sum (long_product a.by a.m a.level)
+
+pub whole-requires : goal.whole-requires
+whole-requires c =
+    let r = made c in
+    let s = start c in
+    let z = long_product s.args.by s.args.m s.args.level in record {
+      sfits = over_fits s.requires r.product-made.result.over (over_low c) (over_top c);
+      sfits_2 = whole_fits s.requires r.product-made.result.over (over_low c) (over_top c) r.product-made.result.rest (subst (λ (y : ℤ). pos 0 ≤ℤ y) (sym (rest_is r)) (rest_low z))
+          (subst (λ (y : ℤ). y ≤ℤ pos 127) (sym (rest_is r)) (rest_high z));
+    }
+
+pub overflow_cast-result : goal.overflow_cast-result
+overflow_cast-result c = let s = start (goal.at.overflow_cast-result c).Else-by-made in within_fits {b = 32} tt (within_pos (omega (arith, s.requires.down)))
+
+pub overflow_shr-result : goal.overflow_shr-result
+overflow_shr-result c = (start (goal.at.overflow_shr-result c).Else-by-made).requires.down
+
+pub overflow_cast-result-2 : goal.overflow_cast-result-2
+overflow_cast-result-2 c = let s = start (goal.at.overflow_cast-result-2 c).Else-by-made in within_fits {b = 32} tt (within_pos (omega (arith, s.requires.up)))
+
+pub overflow_shl-result : goal.overflow_shl-result
+overflow_shl-result c = (start (goal.at.overflow_shl-result c).Else-by-made).requires.up
+
+pub returns : goal.returns
+unfolding shift_right
+returns c =
+    let w = c in
+    let f = w in
+    let s = start (goal.at.returns c).Else-by-made in
+    let k = s.args.by in
+    let a = not_below (else-1 (goal.at.returns c).Else-by-made) in
+    let b = not_above (goal.at.returns c).Else-by-made in
+    let v : pow2 k.up *ℤ shr_z w.whole.result (2 ^ k.down) ≡ long_level k s.args.m s.args.level =
+    ap (λ (y : ℤ). pow2 k.up *ℤ shr_z y (2 ^ k.down)) (w.whole.ensures ∙ whole_is (goal.at.returns c).Else-by-made) ∙ long_between k s.args.m s.args.level a b
+    in
+    let o = rw (round_trip s.ranges.level, round_trip (least_fits s), round_trip (most_fits s)) at c.outside.ensures in
+    record {
+      value =
+          ap (λ (y : ℤ). to_z w32 ((of_z w32 (shr_z y (2 ^ k.down)) * 2 ^ k.up) % 4294967296)) (round_trip {w = w32} {z = w.whole.result} (sfits_of w.whole.type_inv))
+          ∙ shl_fits (shr_z w.whole.result (2 ^ k.down)) k.up (subst (λ (z : ℤ). SFits w32 z) (sym v) (long_fits s.requires s.args.m s.args.level))
+          ∙ v;
+      limited = o ∙ ap (λ (x : Bool). cond x 1 0) (sym (long_inside k s.args.m s.args.level a b));
+    }

@@ -1,0 +1,19 @@
+-- `tiles_quarter::put_32q` meets its contract: the loop has stored the rows passed. The measure is the rows left.
+use native.Mathlib.Omega.{arith}
+use Rattle.tiles.proofs.TileLaws.{rows_none, rows_more, rows_all}
+use Rattle.tiles_quarter.proofs.put_32q.Goals as goal
+
+pub loop-j-preserved : goal.loop-j-preserved
+loop-j-preserved c = (omega arith, rows_more c.loop-j.invariant.1 c.row_32.ensures)
+
+pub loop-j-init : goal.loop-j-init
+loop-j-init c = (omega arith, rows_none)
+
+pub row_32-requires : goal.row_32-requires
+row_32-requires c = (omega arith, omega (arith, c.loop-j.invariant.1.long))
+
+pub shape_of-out : goal.shape_of-out
+shape_of-out c = c.loop-j.invariant.1.long
+
+pub returns : goal.returns
+returns c = rows_all (omega arith) c.loop-j.invariant.1
