@@ -10,16 +10,16 @@
 --   referred_default, referred-held   the list that a reference means
 --   taken_got, taken_stop    a list that is taken over, by its reference
 --   list_taken, list_coded, list_ended   a list by its flag
-use mathlib.Core.Path.{◌≡◌, refl, sym, ap, ◌∙◌}
-use mathlib.Core.Bool.{Bool, true, false, cond, ◌&&◌}
+use mathlib.Core.Path.{◌≡◌, sym, ap, ◌∙◌}
+use mathlib.Core.Bool.{Bool, true, false, ◌&&◌}
 use mathlib.Core.List.{List, [], ◌∷◌, ◌++◌, append-nil}
 use Prim.Native.Nat.{ℕ, zero, suc, ◌+◌, ◌-◌, ◌*◌, ◌≤◌, ◌<◌}
 use native.Mathlib.Nat.{not-suc-le-zero, zero-add}
 use native.Mathlib.Omega.{arith}
 use borrow.Author.Tests.{eq-eqb, ne_eqb, lt-ltb, le-ltb}
-use lib.Dec.{T, eqb, ltb, lit≤, ltb→lt}
-use lib.ListN.{length, get_or, take, drop, length-drop}
-use lib.Seq.{ext_get_or, length-take-le, take-length, drop-length, get_or-take, get_or-drop, paste}
+use lib.Dec.{T, ltb, lit≤, ltb→lt}
+use lib.ListN.{length, get_or}
+use lib.Seq.{ext_get_or, take-length, drop-length, paste}
 use Rattle.integers.specs.Lists.{tabulate}
 use Rattle.integers.proofs.ListsLaws.{tabulate-length, tabulate-get_or}
 use Rattle.refusal.specs.declared.Refusal.{Refusal}
@@ -28,7 +28,7 @@ use Rattle.bits.specs.Bits.{is_there, bit_at}
 use Rattle.diagonal.specs.Scan.{inside, diagonal, diagonals, up_right}
 use Rattle.scaling_lists_codes.specs.Syntax.{Reading, FactorList, and_then, positions, blank, entries_from, coded_entries, dc_code, coded_list, Defaults, default_for, list_number, matrix_step, none, referred, reference_code, taken_over, size_id, matrix_id, list_by, list_code}
 use Rattle.scaling_lists_codes.specs.Syntax.Reading.{got, stop}
-use Rattle.scaling_lists_taken.specs.Held.{list_entries, defaults_in, default_number, entries_taken, held_at, held}
+use Rattle.scaling_lists_taken.specs.Held.{held_at, held}
 use Rattle.scaling_lists.specs.Work.{Positions}
 
 -- ---- positions

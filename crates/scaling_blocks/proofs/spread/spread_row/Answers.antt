@@ -1,0 +1,90 @@
+-- `scaling_blocks::spread::spread_row` meets its contract. The loop's invariant: entries that are laid out below the row are laid out c further.
+use mathlib.Core.Path.{◌≡◌, ap}
+use Prim.Native.Nat.{ℕ, ◌+◌, ◌*◌, ◌/◌, ◌^◌, ◌≤◌, ◌<◌}
+use native.Mathlib.Nat.{div-le_self, mul-le-mul}
+use native.Mathlib.Omega.{arith}
+use lib.Arith.{digits_lt}
+use lib.ListN.{get_or}
+use Rattle.h265.specs.ScalingFactor.{repeated_position}
+use Rattle.h265.proofs.RangeLaws.{size_bound, log2_size_bound}
+use Rattle.scaling_values.specs.Work.{spread_at}
+use Rattle.scaling_values.proofs.FactorLaws.{position_inside}
+use Rattle.scaling_blocks.proofs.WorkLaws.{row_position, fills_none, fills_more, fills_to}
+use Rattle.scaling_blocks.proofs.spread.spread_row.Goals as goal
+use Rattle.scaling_blocks.proofs.spread.spread_row.Goals.{In-loop-c, Start}
+
+-- sizes, and the index at a column
+small : (s : Start) → s.args.n ≤ 32
+small s = (size_bound s.args.n s.requires.rows.size).1
+
+first_small : (s : Start) → s.args.row * s.args.n ≤ 32 * 32
+first_small s = mul-le-mul (let e : s.args.row ≤ 32 = omega (arith, small s, s.requires.row_lt_n) in e) (small s)
+
+few : (s : Start) → s.args.repeats ≤ 2
+few s = omega (arith, s.requires.rows.repeats, log2_size_bound s.args.n s.requires.rows.size)
+
+below : (c : In-loop-c) → let l = c in let s = l in s.args.row * s.args.n + l.loop-c.c < s.args.n * s.args.n
+below c = let s = c in digits_lt s.requires.row_lt_n c.loop-c-test.true
+
+position_is : (c : In-loop-c)
+    → let l = c in let s = l in s.args.row / 2 ^ s.args.repeats * 8 + l.loop-c.c / 2 ^ s.args.repeats ≡ repeated_position s.args.n (s.args.row * s.args.n + l.loop-c.c)
+position_is c =
+    let l = c in
+    let s = l in
+    row_position s.args.n s.args.repeats s.args.row l.loop-c.c s.requires.rows c.loop-c-test.true
+
+inside : (c : In-loop-c) → let l = c in let s = l in s.args.row / 2 ^ s.args.repeats * 8 + l.loop-c.c / 2 ^ s.args.repeats < 64
+inside c =
+    let l = c in
+    let s = l in
+    omega (arith, position_is c, position_inside s.args.n (s.args.row * s.args.n + l.loop-c.c) s.requires.rows.size (below c) s.requires.rows.large)
+
+pub overflow_mul-at : goal.overflow_mul-at
+overflow_mul-at c = omega (arith, first_small c)
+
+pub overflow_shr-entry : goal.overflow_shr-entry
+overflow_shr-entry c = omega (arith, few c)
+
+pub overflow_mul-entry : goal.overflow_mul-entry
+overflow_mul-entry c = omega (arith, div-le_self c.args.row (2 ^ c.args.repeats), c.requires.row_lt_n, small c)
+
+pub loop-c-init : goal.loop-c-init
+loop-c-init c = (fills_none (omega arith), omega arith)
+
+pub overflow_shr-entries : goal.overflow_shr-entries
+overflow_shr-entries c = omega (arith, few (goal.at.overflow_shr-entries c).Start)
+
+pub overflow_add-entries : goal.overflow_add-entries
+overflow_add-entries c = omega (arith, inside c)
+
+pub bounds-list-entry : goal.bounds-list-entry
+bounds-list-entry c = let i = c in omega (arith, inside (goal.at.bounds-list-entry c).In-loop-c, i.requires.list_len)
+
+pub overflow_add-entries-in-loop-c : goal.overflow_add-entries-in-loop-c
+overflow_add-entries-in-loop-c c = let i = c in let s = i in omega (arith, first_small (goal.at.overflow_add-entries-in-loop-c c).Start, small (goal.at.overflow_add-entries-in-loop-c c).Start, i.loop-c-test.true)
+
+pub bounds-entries-at : goal.bounds-entries-at
+bounds-entries-at c = let i = c in omega (arith, below (goal.at.bounds-entries-at c).In-loop-c, i.loop-c.invariant.0.same, i.requires.n_in_bounds)
+
+pub overflow_add-c : goal.overflow_add-c
+overflow_add-c c = omega arith
+
+pub loop-c-smaller : goal.loop-c-smaller
+loop-c-smaller c = omega arith
+
+pub loop-c-preserved : goal.loop-c-preserved
+unfolding spread_at
+loop-c-preserved c =
+    let i = c in
+    let l = i in
+    let s = l in
+    (fills_more l.loop-c.invariant.0 (s.args.row * s.args.n + (l.loop-c.c + 1)) (omega arith) (omega (arith, below (goal.at.loop-c-preserved c).In-loop-c, s.requires.n_in_bounds)) (ap (λ (k : ℕ). get_or s.args.list.now k 0) (position_is (goal.at.loop-c-preserved c).In-loop-c)), omega arith)
+
+pub shape_of-entries : goal.shape_of-entries
+shape_of-entries c = c.loop-c.invariant.0.same
+
+pub returns : goal.returns
+returns c =
+    let l = c in
+    let s = l in
+    fills_to l.loop-c.invariant.0 (ap (λ (k : ℕ). s.args.row * s.args.n + k) (omega arith))
