@@ -25,7 +25,7 @@ use Rattle.h265.specs.ScalingFactor.{ScalingList}
 use Rattle.refusal.specs.declared.Refusal.{Refusal}
 use Rattle.refusal.specs.Condition.{block_refused}
 use Rattle.refusal.specs.Refusal.{number}
-use Rattle.refusal.specs.Written.{Written, left, wrote}
+use Rattle.refusal.specs.Written.{Written, left}
 use Rattle.refusal.proofs.RefusalLaws.{number_least}
 use Rattle.refusal.proofs.LadderLaws.{Rung, Passed, first, first_passed}
 use Rattle.refusal.proofs.LadderLaws.Rung.{rung}

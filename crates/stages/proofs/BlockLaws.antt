@@ -12,7 +12,7 @@
 --   block_fits              with a shift of 11 or 12 it fits 16 bits
 use mathlib.Core.Path.{◌≡◌, refl, sym, ap, ap₂, ◌∙◌, subst}
 use mathlib.Core.List.{List}
-use Prim.Native.Nat.{ℕ, zero, suc, ◌+◌, ◌-◌, ◌*◌, ◌/◌, ◌≤◌, ◌<◌}
+use Prim.Native.Nat.{ℕ, ◌+◌, ◌*◌, ◌/◌, ◌≤◌, ◌<◌}
 use native.Mathlib.Nat.{zero-add, add_comm, mul-le-mul_right, mul-suc}
 use native.Mathlib.Decide.{ℕ_discrete, dec_lt}
 use native.Mathlib.Omega.{arith}
@@ -33,9 +33,9 @@ use Rattle.integers.proofs.BoundLaws.{within_in}
 use Rattle.integers.proofs.ClipLaws.{clip3_within}
 use Rattle.integers.proofs.SumLaws.{sum_cong, sum-short, sum-none}
 use Rattle.h265.specs.Range.{coeff_min, coeff_max, clip_coeff}
-use Rattle.h265.specs.Matrix.{trans_matrix, abs_sum}
+use Rattle.h265.specs.Matrix.{abs_sum}
 use Rattle.h265.specs.Transform.{transform_line, block_at, row_order, columns_read, stage_one_sum, stage_one_value, intermediate, stage_two_sum, stage_two}
-use Rattle.transform_1d.specs.Lanes.{mirrored, lane_matrix, line_sum}
+use Rattle.transform_1d.specs.Lanes.{lane_matrix, line_sum}
 use Rattle.transform_1d.specs.Rows.{Placed, Filled}
 use Rattle.transform_1d.proofs.RowsLaws.{row_unique, filled_cong, filled-overwrite, zeros-get_or}
 use Rattle.transform_1d.proofs.MatrixLaws.{transform_line_within, Laid}

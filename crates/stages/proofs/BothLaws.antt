@@ -7,8 +7,8 @@
 --   first_rows           a copy of the first rows of a block reads as the block
 --   copied_block         what both stages give of the copy is the residual of the block
 --   residual_fits        with a shift of 11 or 12 it fits 16 bits
-use mathlib.Core.Path.{◌≡◌, refl, sym, ap, ◌∙◌, subst}
-use mathlib.Core.Bool.{Bool, true, false}
+use mathlib.Core.Path.{◌≡◌, sym, ap, ◌∙◌, subst}
+use mathlib.Core.Bool.{true, false}
 use mathlib.Core.List.{List}
 use Prim.Native.Nat.{ℕ, ◌+◌, ◌-◌, ◌*◌, ◌≤◌, ◌<◌}
 use native.Mathlib.Nat.{zero-add, mul-le-mul_right}
@@ -21,10 +21,10 @@ use lib.Signed.{◌≤ℤ◌}
 use mir.Syntax.{w16}
 use mir.Val.{SFits}
 use Rattle.integers.specs.Lists.{overwrite}
-use Rattle.integers.specs.Shift.{pow2, round_shift}
+use Rattle.integers.specs.Shift.{pow2}
 use Rattle.h265.specs.Range.{clip_coeff}
 use Rattle.h265.specs.Matrix.{trans_matrix, abs_sum}
-use Rattle.h265.specs.Transform.{transform_line, block_at, row_order, columns_read, stage_one_value, intermediate, stage_two_sum, stage_two}
+use Rattle.h265.specs.Transform.{block_at, row_order, columns_read, stage_one_value, intermediate, stage_two_sum, stage_two}
 use Rattle.h265.proofs.TransformLaws.{intermediate_cong, stage_two_cong, columns_read_in}
 use Rattle.transform_1d.specs.Rows.{Placed, Filled}
 use Rattle.transform_1d.proofs.RowsLaws.{row_unique, filled_cong, filled-overwrite, zeros-get_or}
@@ -32,7 +32,7 @@ use Rattle.transform_1d.proofs.MatrixLaws.{transform_line_within}
 use Rattle.coefficients.specs.Rows.{RowsUsed}
 use Rattle.tiles.specs.Tile.{line_value}
 use Rattle.tiles.proofs.TileLaws.{line_value-stage_two, line_value-intermediate}
-use Rattle.stages.specs.Passes.{shifted_residual, BlockNeeds}
+use Rattle.stages.specs.Passes.{shifted_residual}
 use Rattle.stages.proofs.FinishLaws.{clip_fits}
 use Rattle.stages.proofs.BlockLaws.{intermediate-past, round_shift_fits, clip_coeff_within}
 

@@ -3,24 +3,21 @@
 --   clip_fits                    what fits 16 bits is not changed by the limit
 --   lane_output_low               outputs 0 to 15 are the sums of both halves
 --   halves_within                the sum of both halves has room
-use mathlib.Core.Path.{◌≡◌, ap, ap₂, ◌∙◌}
+use mathlib.Core.Path.{◌≡◌}
 use mathlib.Core.List.{List}
 use mathlib.Core.Bool.{true, false}
-use Prim.Native.Nat.{ℕ, ◌+◌, ◌-◌, ◌^◌, ◌<◌}
-use native.Mathlib.Nat.{not-suc-le-zero}
-use native.Mathlib.Decide.{ℕ_discrete, dec_lt}
+use Prim.Native.Nat.{ℕ, ◌+◌, ◌^◌, ◌<◌}
 use native.Mathlib.Omega.{arith}
-use borrow.Author.Tests.{lt-ltb, le-ltb}
-use lib.IntN.{ℤ, pos, negsuc, neg_ℤ, ◌+ℤ◌, ◌-ℤ◌}
-use lib.ListN.{length, get_or, set, length-set}
-use lib.Seq.{get_or-set_same, get_or-set_other}
+use borrow.Author.Tests.{lt-ltb}
+use lib.IntN.{ℤ, pos, negsuc, ◌+ℤ◌}
+use lib.ListN.{get_or}
 use lib.Signed.{lt_z, ◌≤ℤ◌}
 use mir.Syntax.{w16}
 use mir.Val.{SFits}
 use Rattle.integers.specs.Within.{Within}
-use Rattle.integers.proofs.LinearLaws.{le_in, le_out, split, ring, diff_ext}
+use Rattle.integers.proofs.LinearLaws.{le_in, le_out}
 use Rattle.integers.proofs.MachineLaws.{lt_z_true, lt_z_false, lt_z_of_le}
-use Rattle.integers.proofs.BoundLaws.{within_add, within_neg, within_eq}
+use Rattle.integers.proofs.BoundLaws.{within_add}
 use Rattle.integers.proofs.OrderLaws.{≤ℤ_trans, <ℤ-≤ℤ}
 use Rattle.integers.proofs.ClipLaws.{clip3_low, clip3_high, clip3_id}
 use Rattle.h265.specs.Range.{coeff_min, coeff_max, clip_coeff}

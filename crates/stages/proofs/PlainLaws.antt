@@ -6,13 +6,11 @@
 --   result_dct, result_dst     a block's result is the residual of its kind
 --   first_inside, first_fits, times_64   the first coefficient, and 64 times it
 --   dc_residual, dc_result  one coefficient alone: every output is the same
-use mathlib.Core.Path.{◌≡◌, refl, sym, ap, ◌∙◌, subst}
+use mathlib.Core.Path.{◌≡◌, sym, ap, ◌∙◌, subst}
 use mathlib.Core.List.{List}
-use mathlib.Core.Bool.{Bool, true, false, ◌||◌}
-use Prim.Native.Nat.{ℕ, zero, ◌*◌, ◌-◌, ◌/◌, ◌%◌, ◌≤◌, ◌<◌}
+use Prim.Native.Nat.{ℕ, ◌*◌, ◌-◌, ◌/◌, ◌%◌, ◌<◌}
 use native.Mathlib.Nat.{zero-mul, add-zero, mul-le-mul}
 use native.Mathlib.Omega.{arith}
-use lib.Dec.{T, eqb, eqb→eq}
 use lib.IntN.{ℤ, pos, ◌*ℤ◌, +ℤ_idl}
 use lib.ListN.{length, get_or}
 use mir.Syntax.{w16}
@@ -23,7 +21,7 @@ use Rattle.integers.specs.Sum.{sum}
 use Rattle.integers.specs.Within.{Within}
 use Rattle.integers.proofs.BoundLaws.{within_lit_mul, within_sfits}
 use Rattle.integers.proofs.ListsLaws.{overwrite_cong}
-use Rattle.h265.specs.Range.{is_size, clip_coeff}
+use Rattle.h265.specs.Range.{clip_coeff}
 use Rattle.h265.specs.Matrix.{trans_matrix32, trans_matrix, dst_matrix}
 use Rattle.h265.specs.Transform.{transform_line, block_at, row_order, columns_read, stage_one_sum, stage_one_value, intermediate, stage_two_sum, stage_two_shift, stage_two, residual}
 use Rattle.transform_1d.specs.declared.Kind.{Kind}

@@ -9,11 +9,11 @@
 --   parts-rows         so they are for the lines over both parts
 --   join_ask           which have room to be joined
 --   narrow_rows        lines over values that fit 16 bits
-use mathlib.Core.Path.{◌≡◌, refl, sym, ap, ap₂, ◌∙◌, subst}
+use mathlib.Core.Path.{◌≡◌, sym, ap, ap₂, ◌∙◌}
 use mathlib.Core.Bool.{true, false}
 use mathlib.Core.List.{List}
-use Prim.Native.Nat.{ℕ, zero, suc, ◌+◌, ◌*◌, ◌-◌, ◌/◌, ◌%◌, ◌^◌, ◌≤◌, ◌<◌}
-use native.Mathlib.Nat.{div-div-eq-div-mul, div-add-mod', mod-lt, div-lt_iff_lt-mul, mul-le-mul_right}
+use Prim.Native.Nat.{ℕ, ◌+◌, ◌*◌, ◌-◌, ◌/◌, ◌%◌, ◌^◌, ◌≤◌, ◌<◌}
+use native.Mathlib.Nat.{div-div-eq-div-mul, div-add-mod', mod-lt, div-lt_iff_lt-mul}
 use native.Mathlib.Decide.{dec_lt}
 use native.Mathlib.Omega.{arith}
 use lib.Arith.{digits_lt}
@@ -26,7 +26,7 @@ use Rattle.integers.specs.Shift.{pow2, shift_right}
 use Rattle.integers.specs.Sum.{sum}
 use Rattle.integers.specs.Within.{Within}
 use Rattle.integers.proofs.LinearLaws.{split, ring, diff_ext}
-use Rattle.integers.proofs.OrderLaws.{*ℤ_assoc, ≤ℤ_trans, shr_shift}
+use Rattle.integers.proofs.OrderLaws.{shr_shift}
 use Rattle.integers.proofs.ShiftLaws.{shift_right_zero, shift_right_within}
 use Rattle.integers.proofs.BoundLaws.{within_add, within_le, within_eq, within_pos}
 use Rattle.integers.proofs.SumLaws.{sum_cong, sum_add, sum_scale}
@@ -40,7 +40,7 @@ use Rattle.transform_1d.proofs.RowsLaws.{filled_cong, zeros-get_or}
 use Rattle.transform_1d.proofs.MatrixLaws.{transform_line_within}
 use Rattle.tiles.specs.Tile.{line_value}
 use Rattle.wide_parts.specs.Split.{high_of, low_of, Narrow, JoinNeeds}
-use Rattle.tiles_wide.specs.Pass.{limited_list, PassGives}
+use Rattle.tiles_wide.specs.Pass.{limited_list}
 use Rattle.wide_parts.proofs.SplitLaws.{parts_exact, high_within, low_within, clip_coeff_narrow, placed_run}
 
 -- ---- shifts

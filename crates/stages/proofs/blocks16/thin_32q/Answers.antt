@@ -1,0 +1,14 @@
+-- `stages::blocks16::thin_32q` meets its contract: both stages over a copy of the coefficients give their residual.
+use mathlib.Core.Path.{refl}
+use native.Mathlib.Omega.{arith}
+use lib.IntN.{pos}
+use Rattle.integers.proofs.OrderLaws.{≤ℤ_trans}
+use Rattle.transform_1d.proofs.MatrixLaws.{trans_matrix-abs_sum_32}
+use Rattle.stages.proofs.BothLaws.{copied_block, thin_rows_lem}
+use Rattle.stages.proofs.blocks16.thin_32q.Goals as goal
+
+pub returns : goal.returns
+returns c =
+    let p = c.requires.0 in
+    copied_block {q = 8} {n = 32} c.copied.ensures c.requires.3 p.columns (λ k i hk hi. refl) c.args.s (omega arith) p.room
+    (thin_rows_lem c.args.s c.args.nx _ c.requires.1 p.most (λ j l. ≤ℤ_trans {y = pos 1862} (trans_matrix-abs_sum_32 j l) (record { le = tt })) (c.both_32q.ensures.thin_rows refl))

@@ -1,0 +1,20 @@
+-- `stages::dct_plain` meets its contract: a block with one column and one row in use is filled with its one value, any other is worked out.
+use native.Mathlib.Omega.{arith}
+use Rattle.coefficients.proofs.RowsLaws.{rows_used_more}
+use Rattle.h265.proofs.RangeLaws.{size_bound}
+use Rattle.stages.proofs.PlainLaws.{block_needs_columns, result_columns}
+use Rattle.stages.proofs.dct_plain.Goals as goal
+
+pub rows_used-requires : goal.rows_used-requires
+rows_used-requires c = (c.requires.1.long, omega (arith, size_bound c.args.n c.requires.0), (size_bound c.args.n c.requires.0).1)
+
+pub dc_fill-requires : goal.dc_fill-requires
+dc_fill-requires c = (
+  omega (arith, size_bound c.args.n c.requires.0),
+  (size_bound c.args.n c.requires.0).1,
+  block_needs_columns c.if-nx-eq1.true c.requires.1,
+  rows_used_more c.if-rows_used-le1.true (omega (arith, size_bound c.args.n c.requires.0)) c.rows_used.ensures,
+)
+
+pub returns-then-rows_used-le1 : goal.returns-then-rows_used-le1
+returns-then-rows_used-le1 c = result_columns c.args.n _ _ _ _ c.if-nx-eq1.true c.dc_fill.ensures
