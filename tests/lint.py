@@ -118,7 +118,7 @@ def text_rules(files):
                 say("a clause that cites proofs", where)
             if path.name in PROOFS and re.search(r" as (reads|lts|\S+-reads)$", line):
                 say("a line that the check printed, left in a finished proof", where)
-        if path.name in PROOFS and not text.startswith("-- `"):
+        if path.name in PROOFS and "proofs" in path.parts and not text.startswith("-- `"):
             say("a proof that does not begin with its function", path)
 
 

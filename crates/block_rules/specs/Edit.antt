@@ -10,7 +10,7 @@
 --   edited                    one edit
 --   refreshed                 the residual of an intermediate: stage two alone
 --   Opens, Edits              a call's answer, record and buffers are what `opened` or `edited` says
-use Rattle.std.specs.Prelude.{◌≡◌, Bool, false, ◌||◌, cond, List, ℕ, ◌+◌, ◌*◌, leb, ltb, ℤ, pos, length, set, replicate}
+use Rattle.std.specs.Prelude.{◌≡◌, Bool, ◌||◌, cond, List, ℕ, ◌+◌, ◌*◌, leb, ltb, ℤ, pos, length, set, replicate}
 use Rattle.integers.specs.Lists.{overwrite}
 use Rattle.h265.specs.Range.{transform_range, outside_range}
 use Rattle.h265.specs.Transform.{row_order, intermediate, stage_two, stage_two_shift}

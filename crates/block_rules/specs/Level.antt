@@ -14,7 +14,7 @@
 --   level_opened                  the opening
 --   LevelEdits, LevelOpens       a call's answer, record and buffers are what `level_edited` or `level_opened` says
 --   LevelEditsMeetNoRange        no level edit meets row 9 or 19
-use Rattle.std.specs.Prelude.{◌≡◌, Bool, true, false, not, ◌||◌, cond, List, ℕ, ◌+◌, ◌*◌, leb, ℤ, pos, nat_abs, length, set, replicate}
+use Rattle.std.specs.Prelude.{◌≡◌, Bool, false, not, ◌||◌, cond, List, ℕ, ◌+◌, ◌*◌, leb, ℤ, nat_abs, length, set, replicate}
 use Rattle.integers.specs.Lists.{overwrite}
 use Rattle.h265.specs.Range.{log2_size, transform_range, outside_range}
 use Rattle.h265.specs.Quantization.{clip_qp_prime}

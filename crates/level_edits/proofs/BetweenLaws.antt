@@ -8,7 +8,7 @@ use Prim.Native.Nat.{ℕ, ◌+◌, ◌*◌, ◌≤◌, ◌<◌}
 use native.Mathlib.Omega.{arith}
 use lib.Arith.{digits_lt}
 use lib.IntN.{ℤ, pos}
-use lib.ListN.{length, get_or, set}
+use lib.ListN.{length, get_or}
 use lib.Signed.{◌≤ℤ◌}
 use Rattle.integers.proofs.ListsLaws.{overwrite-get_or}
 use Rattle.h265.specs.Range.{log2_size, transform_range, outside_range}
@@ -22,7 +22,7 @@ use Rattle.edit_values.proofs.ValuesLaws.{passes_between}
 use Rattle.edit_search.specs.Found.{Found}
 use Rattle.edit_search.proofs.BetweenLaws.{test_has, has_test, convex}
 use Rattle.refusal.proofs.ConditionLaws.{block_room}
-use Rattle.level_edits.specs.Levels.{scaled_block, level_gives, least_level_edit, most_level_edit, level_edits_found}
+use Rattle.level_edits.specs.Levels.{level_gives, least_level_edit, most_level_edit, level_edits_found}
 use Rattle.level_edits.specs.Between.{LevelEditsLieBetween}
 use Rattle.level_edits.specs.Work.{scaled_by, gives_by}
 use Rattle.level_edits.proofs.BlockLaws.{scaled-length, gives_is}

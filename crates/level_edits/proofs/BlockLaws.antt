@@ -8,10 +8,10 @@ use mathlib.Core.Path.{◌≡◌, refl, sym, ap, subst, fun_ext, ◌∙◌}
 use mathlib.Core.Logic.{◌↔◌}
 use mathlib.Core.Bool.{Bool, true, false}
 use mathlib.Core.List.{List}
-use Prim.Native.Nat.{ℕ, ◌+◌, ◌*◌, ◌/◌, ◌%◌, ◌≤◌, ◌<◌}
+use Prim.Native.Nat.{ℕ, ◌*◌, ◌/◌, ◌%◌, ◌≤◌, ◌<◌}
 use native.Mathlib.Decide.{ℕ_discrete}
 use native.Mathlib.Omega.{arith}
-use lib.IntN.{ℤ, pos, nat_abs}
+use lib.IntN.{ℤ, pos}
 use lib.ListN.{length, get_or, take, set, length-set, replicate, length-replicate}
 use lib.Seq.{get_or-set_same, get_or-set_other, ext_get_or, length-take-le}
 use lib.Signed.{◌≤ℤ◌}
@@ -19,8 +19,7 @@ use lib.Dec.{T}
 use Rattle.integers.specs.Lists.{tabulate, overwrite}
 use Rattle.integers.proofs.ListsLaws.{tabulate-length, tabulate-get_or, overwrite_cong, overwrite-get_or, overwrite-length, overwrite-take}
 use Rattle.h265.specs.Range.{is_size, log2_size, transform_range, outside_range}
-use Rattle.h265.specs.Quantization.{clip_qp_prime}
-use Rattle.h265.specs.Scaling.{bd_shift, scale_level, scaled_at}
+use Rattle.h265.specs.Scaling.{scaled_at}
 use Rattle.h265.specs.ScalingFactor.{ScalingList, scaling_factor}
 use Rattle.h265.specs.Transform.{residual}
 use Rattle.h265.proofs.RangeLaws.{size_square}

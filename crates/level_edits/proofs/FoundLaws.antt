@@ -8,21 +8,21 @@
 --   level-wrote         an answer of 0: no condition holds, and both buffers are written
 --   level_edits_found_flat   a block without a list is one with a list of sixteens
 use mathlib.Core.Path.{◌≡◌, refl, sym, ap, ap₂, subst, fun_ext, ◌∙◌}
-use mathlib.Core.Bool.{Bool, true, false, not, cond}
+use mathlib.Core.Bool.{Bool, true, false}
 use mathlib.Core.List.{List, [], ◌∷◌}
-use Prim.Native.Nat.{ℕ, ◌*◌, ◌≤◌, ◌<◌}
+use Prim.Native.Nat.{ℕ, ◌*◌}
 use native.Mathlib.Omega.{arith}
 use borrow.Author.Tests.{eqb-true, not-false}
 use lib.Dec.{T, eqb}
 use lib.IntN.{ℤ, pos, nat_abs}
-use lib.ListN.{length, get_or, set, replicate}
-use Rattle.integers.specs.Lists.{overwrite, tabulate}
+use lib.ListN.{length, get_or, set}
+use Rattle.integers.specs.Lists.{overwrite}
 use Rattle.integers.proofs.ListsLaws.{overwrite_cong, tabulate_cong}
 use Rattle.h265.specs.Range.{is_size, log2_size, transform_range, outside_range}
 use Rattle.h265.specs.Quantization.{clip_qp_prime}
 use Rattle.h265.specs.Scaling.{bd_shift, scale_level, scaled_at}
 use Rattle.h265.specs.ScalingFactor.{ScalingList, factor_source, factor_by, scaling_factor}
-use Rattle.h265.specs.ScalingFactor.ScalingList.{flat, listed}
+use Rattle.h265.specs.ScalingFactor.ScalingList.{flat}
 use Rattle.h265.specs.Transform.{residual}
 use Rattle.h265.proofs.RangeLaws.{log2_size_bound, clip_coeff_between}
 use Rattle.refusal.specs.declared.Answer.TheVariants.{Done, Refused}
@@ -32,7 +32,7 @@ use Rattle.refusal.specs.Condition.{size_refused, depth_refused, list_refused, b
 use Rattle.refusal.specs.Outcome.{Outcome, accepted, refused, answer}
 use Rattle.refusal.proofs.RefusalLaws.{number_least}
 use Rattle.refusal.proofs.ConditionLaws.{size_accepted, depth_accepted, block_room}
-use Rattle.refusal.proofs.LadderLaws.{Rung, Passed, first, first_accepted, first_passed, first_refused}
+use Rattle.refusal.proofs.LadderLaws.{Rung, Passed, first_accepted, first_passed, first_refused}
 use Rattle.refusal.proofs.LadderLaws.Rung.{rung}
 use Rattle.parameters.specs.declared.DequantParams.{DequantParams}
 use Rattle.parameters.specs.Answers.{no_dequant}

@@ -4,12 +4,12 @@
 --   between_iff                  the test as an order
 use mathlib.Core.Path.{◌≡◌, refl, sym, ap, ◌∙◌}
 use mathlib.Core.Logic.{◌↔◌}
-use mathlib.Core.Bool.{Bool, true, false, not, ◌&&◌, cond}
-use Prim.Native.Nat.{ℕ, ◌-◌, ◌≤◌, ◌<◌}
+use mathlib.Core.Bool.{Bool, true, false, not, ◌&&◌}
+use Prim.Native.Nat.{ℕ, ◌≤◌, ◌<◌}
 use native.Mathlib.Omega.{arith}
 use borrow.Author.Tests.{ltb-true, ltb-false, le-ltb, not-true}
 use lib.Dec.{ltb}
-use lib.IntN.{ℤ, pos}
+use lib.IntN.{ℤ}
 use lib.Signed.{lt_z, ◌≤ℤ◌}
 use Rattle.integers.proofs.OrderLaws.{≤ℤ_trans}
 use Rattle.integers.proofs.MachineLaws.{lt_z_true, lt_z_false, lt_z_of_lt, lt_z_of_le}
@@ -17,7 +17,6 @@ use Rattle.integers.proofs.LinearLaws.{lt_in, le_in, lt_out}
 use Rattle.least_level.specs.Level.{Scales}
 use Rattle.edit_values.specs.declared.Span.{Span}
 use Rattle.edit_values.specs.Values.{value_count, value_at}
-use Rattle.edit_values.specs.Sample.{Split}
 use Rattle.edit_values.proofs.OrderedLaws.{not_both, places_ordered}
 use Rattle.edit_blocks.specs.Work.{least_of, most_of}
 use Rattle.edit_blocks.proofs.SieveLaws.{span_least, span_most}

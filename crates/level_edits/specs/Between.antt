@@ -9,7 +9,6 @@ use Rattle.h265.specs.Transform.{block_at, residual}
 use Rattle.transform_1d.specs.declared.Kind.{Kind}
 use Rattle.transform_1d.specs.MatrixOf.{matrix_of}
 use Rattle.edit_blocks.specs.Edits.{HasTarget}
-use Rattle.edit_search.specs.Found.{Found}
 use Rattle.level_edits.specs.Levels.{scaled_block, level_edits_found}
 
 abbrev pub LevelEditsLieBetween : Type 0

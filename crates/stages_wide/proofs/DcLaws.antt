@@ -4,16 +4,15 @@
 --   filled_dc           a block filled with that value
 use mathlib.Core.Path.{◌≡◌, sym, ap, ◌∙◌}
 use mathlib.Core.List.{List}
-use Prim.Native.Nat.{ℕ, ◌+◌, ◌*◌, ◌-◌, ◌/◌, ◌%◌, ◌≤◌, ◌<◌}
+use Prim.Native.Nat.{ℕ, ◌+◌, ◌*◌, ◌/◌, ◌%◌, ◌≤◌, ◌<◌}
 use native.Mathlib.Nat.{add-zero, zero-mul, zero-add, mul-le-mul, div-add-mod', mod-lt, div-lt_iff_lt-mul}
 use native.Mathlib.Omega.{arith}
 use lib.Arith.{digits_lt}
-use lib.IntN.{ℤ, pos, ◌*ℤ◌, +ℤ_idl}
+use lib.IntN.{ℤ, pos, ◌*ℤ◌}
 use Rattle.integers.specs.Shift.{round_shift}
-use Rattle.integers.specs.Sum.{sum}
-use Rattle.h265.specs.Matrix.{trans_matrix32, trans_matrix}
+use Rattle.h265.specs.Matrix.{trans_matrix}
 use Rattle.h265.specs.Range.{clip_coeff}
-use Rattle.h265.specs.Transform.{transform_line, block_at, columns_read, stage_one_sum, stage_one_value, intermediate, stage_two_sum, stage_two}
+use Rattle.h265.specs.Transform.{block_at, columns_read, stage_one_sum, stage_one_value, intermediate, stage_two_sum, stage_two}
 use Rattle.h265.proofs.TransformLaws.{columns_read_in}
 use Rattle.transform_1d.specs.Rows.{Placed, Filled}
 use Rattle.wide_parts.proofs.SplitLaws.{placed_run}
@@ -22,7 +21,6 @@ use Rattle.stages.proofs.PlainLaws.{line_first}
 use Rattle.stages_wide.specs.Wide.{limited_block}
 use Rattle.coefficients.specs.Rows.{RowsUsed}
 use Rattle.stages_wide.specs.Parts.{limited_at, both_stages}
-use Rattle.stages_wide.proofs.StageLaws.{line_short}
 use Rattle.stages_wide.proofs.ResultLaws.{intermediate-past}
 
 pub first_inside : {n k : ℕ} → 0 < n → n * n ≤ k → 0 < k

@@ -2,14 +2,12 @@
 --   turned_rows   a stage over a block that is turned over is stage two of the block
 --   put-rows      the rows of stage one, limited and put as columns, are the intermediate
 --   put_one_lem       so is one column
-use mathlib.Core.Path.{◌≡◌, refl, sym, ap, ◌∙◌}
+use mathlib.Core.Path.{ap, ◌∙◌}
 use mathlib.Core.List.{List}
-use Prim.Native.Nat.{ℕ, ◌+◌, ◌*◌, ◌≤◌, ◌<◌}
-use native.Mathlib.Nat.{zero-add, add-zero}
-use native.Mathlib.Omega.{arith}
+use Prim.Native.Nat.{ℕ, ◌+◌, ◌*◌}
+use native.Mathlib.Nat.{zero-add}
 use lib.IntN.{ℤ, pos}
 use lib.ListN.{get_or}
-use Rattle.integers.specs.Shift.{round_shift}
 use Rattle.h265.specs.Range.{clip_coeff}
 use Rattle.h265.specs.Transform.{block_at, stage_one_sum, stage_one_value, intermediate, stage_two_sum, stage_two}
 use Rattle.transform_1d.specs.Rows.{Filled}

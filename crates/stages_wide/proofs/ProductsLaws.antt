@@ -7,10 +7,10 @@
 --   limited_needs_four                        what a stage of 4 points asks
 --   four_rows                              what a stage of 4 points gives
 --   column_values, put_line                the values of one column meet what a line asks; its outputs, limited and put, are the intermediate's column
-use mathlib.Core.Path.{◌≡◌, refl, sym, ap, ◌∙◌, subst}
+use mathlib.Core.Path.{◌≡◌, refl, sym, ap, ◌∙◌}
 use mathlib.Core.List.{List, [], ◌∷◌}
 use Prim.Native.Nat.{ℕ, zero, suc, ◌+◌, ◌*◌, ◌^◌, ◌≤◌, ◌<◌}
-use native.Mathlib.Nat.{not-suc-le-zero, zero-add, mul-le-mul_right, mul-le-mul, suc-mul}
+use native.Mathlib.Nat.{not-suc-le-zero, zero-add}
 use native.Mathlib.Decide.{dec_lt}
 use native.Mathlib.Omega.{arith}
 use borrow.Author.Tests.{lt-ltb, le-ltb}
@@ -20,7 +20,7 @@ use Rattle.integers.specs.Shift.{round_shift}
 use Rattle.integers.specs.Within.{Within}
 use Rattle.integers.proofs.BoundLaws.{within_eq, within_le, within_pos}
 use Rattle.h265.specs.Range.{clip_coeff}
-use Rattle.h265.specs.Transform.{transform_line, block_at, stage_one_sum, stage_one_value, intermediate}
+use Rattle.h265.specs.Transform.{block_at, stage_one_sum, stage_one_value, intermediate}
 use Rattle.wide_parts.proofs.SplitLaws.{placed_run}
 use Rattle.stages_wide.specs.Wide.{limited_block}
 use Rattle.lines_wide.specs.Values.{WideValues, WideOutputs}

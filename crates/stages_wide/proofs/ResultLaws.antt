@@ -12,11 +12,10 @@
 --   stages_needs_size                     a size by another name, with another count
 use mathlib.Core.Path.{◌≡◌, refl, sym, ap, ◌∙◌, subst}
 use mathlib.Core.List.{List}
-use Prim.Native.Nat.{ℕ, zero, ◌+◌, ◌*◌, ◌-◌, ◌≤◌, ◌<◌}
+use Prim.Native.Nat.{ℕ, ◌+◌, ◌*◌, ◌-◌, ◌≤◌, ◌<◌}
 use native.Mathlib.Decide.{dec_lt}
 use native.Mathlib.Omega.{arith}
-use borrow.Author.Tests.{lt-ltb, le-ltb}
-use lib.Dec.{T}
+use borrow.Author.Tests.{le-ltb}
 use lib.IntN.{ℤ, pos, ◌*ℤ◌}
 use lib.ListN.{length, get_or}
 use Rattle.integers.specs.Lists.{overwrite}

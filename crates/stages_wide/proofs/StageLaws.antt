@@ -7,21 +7,20 @@
 --   pass_rows, short-rows      what a pass over the first q rows gives, where the rows after them are zero, or are not there
 use mathlib.Core.Path.{◌≡◌, sym, ap, ◌∙◌}
 use mathlib.Core.List.{List}
-use Prim.Native.Nat.{ℕ, suc, ◌+◌, ◌*◌, ◌-◌, ◌^◌, ◌≤◌, ◌<◌}
-use native.Mathlib.Nat.{mul-le-mul_right, mul-le-mul_left, mul-one, mul-add, suc-mul, zero-add}
+use Prim.Native.Nat.{ℕ, suc, ◌+◌, ◌*◌, ◌-◌, ◌≤◌, ◌<◌}
+use native.Mathlib.Nat.{mul-le-mul_right, mul-le-mul_left, mul-one, mul-add, suc-mul}
 use native.Mathlib.Decide.{dec_lt}
 use native.Mathlib.Omega.{arith}
 use lib.Arith.{digits_lt}
-use lib.IntN.{ℤ, pos, neg_ℤ, ◌+ℤ◌, ◌-ℤ◌, ◌*ℤ◌}
+use lib.IntN.{ℤ, pos, ◌+ℤ◌, ◌*ℤ◌}
 use lib.ListN.{get_or, length, get_or-eq_default}
-use lib.Pow.{pow_pos}
 use Rattle.integers.specs.Shift.{pow2, shift_right, round_shift}
-use Rattle.integers.proofs.LinearLaws.{split, ring, diff_ext, parts_add, parts_neg, le_out}
+use Rattle.integers.proofs.LinearLaws.{split, ring, diff_ext}
 use Rattle.integers.proofs.SumLaws.{sum-short}
 use Rattle.h265.specs.Matrix.{trans_matrix}
-use Rattle.h265.specs.Range.{clip_coeff, coeff_min, coeff_max}
+use Rattle.h265.specs.Range.{clip_coeff}
 use Rattle.h265.specs.Transform.{transform_line, block_at}
-use Rattle.h265.proofs.RangeLaws.{clip_coeff_id, clip_coeff_zero}
+use Rattle.h265.proofs.RangeLaws.{clip_coeff_zero}
 use Rattle.h265.proofs.TransformLaws.{transform_line_cong}
 use Rattle.transform_1d.specs.Rows.{Filled}
 use Rattle.transform_1d.proofs.RowsLaws.{filled_cong}

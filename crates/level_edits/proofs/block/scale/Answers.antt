@@ -1,0 +1,68 @@
+-- `level_edits::block::scale` meets its contract: the loop has stored the coefficients of the levels passed.
+use mathlib.Core.Path.{◌≡◌, refl, ◌∙◌}
+use native.Mathlib.Omega.{arith}
+use borrow.Author.Rules.{sfits_of}
+use lib.IntN.{pos}
+use lib.ListN.{get_or}
+use mir.Syntax.{w32}
+use mir.Val.{SFits, to_z, of_z}
+use Rattle.integers.proofs.MachineLaws.{round_trip}
+use Rattle.integers.proofs.ListsLaws.{stored_none, stored_more, stored_all}
+use Rattle.h265.specs.ScalingFactor.ScalingList.{listed}
+use Rattle.h265.proofs.RangeLaws.{size_square}
+use Rattle.level_search.specs.Work.{scaling_by}
+use Rattle.level_edits.proofs.block.scale.Goals as goal
+use Rattle.level_edits.proofs.block.scale.Goals.{After-scaled_value-x}
+
+pub overflow_mul-count : goal.overflow_mul-count
+overflow_mul-count c = omega (arith, size_square c.args.n c.requires.1.size)
+
+pub loop-i-init : goal.loop-i-init
+loop-i-init c = (omega arith, refl, stored_none)
+
+pub offset_bounds-levels-i : goal.offset_bounds-levels-i
+offset_bounds-levels-i c = omega (arith, size_square c.args.n c.requires.1.size)
+
+pub bounds-levels-i : goal.bounds-levels-i
+bounds-levels-i c = omega (arith, c.requires.2)
+
+pub factor_at-requires : goal.factor_at-requires
+factor_at-requires c = (c.requires.1, omega arith)
+
+pub scaled_value-x-requires : goal.scaled_value-x-requires
+scaled_value-x-requires c = c.requires.0.manageable
+
+pub offset_bounds-out-i : goal.offset_bounds-out-i
+offset_bounds-out-i c = omega (arith, size_square c.args.n c.requires.1.size)
+
+pub bounds-out-i : goal.bounds-out-i
+bounds-out-i c = omega (arith, size_square c.args.n c.requires.1.size)
+
+pub overflow_add-i : goal.overflow_add-i
+overflow_add-i c = omega arith
+
+pub loop-i-smaller : goal.loop-i-smaller
+loop-i-smaller c = omega arith
+
+value_is : (c : After-scaled_value-x)
+    → let l = c in
+    let a = l.args in
+    to_z w32 (of_z w32 c.scaled_value-x.result) ≡ scaling_by a.by (listed a.list.now a.dc) a.n l.loop-i.i (get_or a.levels.now l.loop-i.i (pos 0))
+unfolding scaling_by
+value_is c =
+    let m = c in
+    let l = m in
+    let a = l.args in
+    let f : SFits w32 (get_or a.levels.now l.loop-i.i (pos 0)) = record { sfits = m.scaled_value-arg-1.given } in
+    round_trip {w = w32} (sfits_of c.scaled_value-x.type_inv) ∙ c.scaled_value-x.ensures ∙ rw (round_trip f, m.factor_at.ensures)
+
+pub loop-i-preserved : goal.loop-i-preserved
+loop-i-preserved c =
+    let a = c.args in (
+      omega arith,
+      refl,
+      stored_more c.loop-i.invariant.2 (omega (arith, c.requires.3, size_square a.n c.requires.1.size)) (value_is c),
+    )
+
+pub returns : goal.returns
+returns c = stored_all c.loop-i.invariant.2 (omega arith)

@@ -1,0 +1,101 @@
+-- `level_edits::block::spread` meets its contract: the loop has stored the ends of the indices passed.
+use mathlib.Core.Path.{refl, ◌∙◌}
+use Prim.Native.Nat.{◌<◌}
+use native.Mathlib.Omega.{arith}
+use borrow.Author.Rules.{sfits_of}
+use lib.IntN.{pos}
+use lib.ListN.{get_or}
+use mir.Syntax.{w32}
+use mir.Val.{SFits}
+use Rattle.integers.proofs.MachineLaws.{round_trip}
+use Rattle.integers.proofs.ListsLaws.{stored_none, stored_more, stored_length, stored_all}
+use Rattle.h265.specs.ScalingFactor.ScalingList.{listed}
+use Rattle.h265.proofs.RangeLaws.{size_square}
+use Rattle.level_search.specs.Work.{scaling_by}
+use Rattle.level_edits.specs.Work.{LevelSpan}
+use Rattle.level_edits.proofs.PlaceLaws.{span_least_is, span_most_is}
+use Rattle.level_edits.proofs.block.spread.Goals as goal
+use Rattle.level_edits.proofs.block.spread.Goals.{After-level_span-span, In-loop-i}
+
+pub overflow_mul-count : goal.overflow_mul-count
+overflow_mul-count c = omega (arith, size_square c.args.n c.requires.1.size)
+
+pub loop-i-init : goal.loop-i-init
+loop-i-init c = (omega arith, refl, stored_none, stored_none)
+
+at_most : (c : In-loop-i) → c.loop-i.i < 1024
+at_most c = omega (arith, size_square c.args.n c.requires.1.size)
+
+pub factor_at-m-requires : goal.factor_at-m-requires
+factor_at-m-requires c = (c.requires.1, omega arith)
+
+pub offset_bounds-low-i : goal.offset_bounds-low-i
+offset_bounds-low-i c = omega (arith, at_most (goal.at.offset_bounds-low-i c).In-loop-i)
+
+pub bounds-low-i : goal.bounds-low-i
+bounds-low-i c = at_most (goal.at.bounds-low-i c).In-loop-i
+
+pub offset_bounds-high-i : goal.offset_bounds-high-i
+offset_bounds-high-i c = omega (arith, at_most (goal.at.offset_bounds-high-i c).In-loop-i)
+
+pub bounds-high-i : goal.bounds-high-i
+bounds-high-i c = at_most (goal.at.bounds-high-i c).In-loop-i
+
+pub level_span-span-requires : goal.level_span-span-requires
+level_span-span-requires c = (c.requires.0, c.requires.2)
+
+pub least_of-first-requires : goal.least_of-first-requires
+least_of-first-requires c = (c.requires.2, c.level_span-span.ensures.to.most)
+
+pub most_of-last-requires : goal.most_of-last-requires
+most_of-last-requires c = (c.requires.2, c.level_span-span.ensures.to.most)
+
+pub offset_bounds-least-i : goal.offset_bounds-least-i
+offset_bounds-least-i c = omega (arith, at_most (goal.at.offset_bounds-least-i c).In-loop-i)
+
+pub bounds-least-i : goal.bounds-least-i
+bounds-least-i c = omega (arith, stored_length c.loop-i.invariant.2, c.requires.3)
+
+pub offset_bounds-most-i : goal.offset_bounds-most-i
+offset_bounds-most-i c = omega (arith, at_most (goal.at.offset_bounds-most-i c).In-loop-i)
+
+pub bounds-most-i : goal.bounds-most-i
+bounds-most-i c = omega (arith, stored_length c.loop-i.invariant.3, c.requires.4)
+
+pub overflow_add-i : goal.overflow_add-i
+overflow_add-i c = omega arith
+
+pub loop-i-smaller : goal.loop-i-smaller
+loop-i-smaller c = omega arith
+
+-- what was found at an index
+found : (c : After-level_span-span)
+    → let l = c in
+    let a = l.args in
+    LevelSpan (scaling_by a.by (listed a.list.now a.dc) a.n l.loop-i.i) a.range (get_or a.low.now l.loop-i.i (pos 0)) (get_or a.high.now l.loop-i.i (pos 0)) c.level_span-span.result
+unfolding scaling_by
+found c =
+    let h = c in
+    let m = h in
+    let l = m in
+    let a = l.args in
+    let f : SFits w32 (get_or a.low.now l.loop-i.i (pos 0)) = record { sfits = h.level_span-arg-1.given } in
+    let g : SFits w32 (get_or a.high.now l.loop-i.i (pos 0)) = record { sfits = h.level_span-arg-in-loop-i-1.given } in
+    rw (round_trip f, round_trip g, m.factor_at-m.ensures) at c.level_span-span.ensures
+
+pub loop-i-preserved : goal.loop-i-preserved
+loop-i-preserved c = (
+  omega arith,
+  refl,
+  stored_more c.loop-i.invariant.2 (omega (arith, c.requires.3)) (round_trip {w = w32} (sfits_of c.least_of-first.type_inv) ∙ c.least_of-first.ensures ∙ span_least_is (found (goal.at.loop-i-preserved c).After-level_span-span)),
+  stored_more c.loop-i.invariant.3 (omega (arith, c.requires.4)) (round_trip {w = w32} (sfits_of c.most_of-last.type_inv) ∙ c.most_of-last.ensures ∙ span_most_is (found (goal.at.loop-i-preserved c).After-level_span-span)),
+)
+
+pub shape_of-least : goal.shape_of-least
+shape_of-least c = stored_length c.loop-i.invariant.2
+
+pub shape_of-most : goal.shape_of-most
+shape_of-most c = stored_length c.loop-i.invariant.3
+
+pub returns : goal.returns
+returns c = (stored_all c.loop-i.invariant.2 (omega arith), stored_all c.loop-i.invariant.3 (omega arith))

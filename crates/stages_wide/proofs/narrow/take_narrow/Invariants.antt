@@ -1,0 +1,12 @@
+-- `stages_wide::narrow::take_narrow` meets its contract: the loop has narrowed the values passed. The measure is the values left.
+use Prim.Native.Nat.{◌+◌, ◌*◌, ◌-◌, ◌≤◌}
+use lib.IntN.{pos}
+use lib.ListN.{get_or}
+use Rattle.stages_wide.specs.Parts.{ColumnPlaced}
+use Rattle.stages_wide.proofs.narrow.take_narrow.Given as goal
+
+abbrev pub invariant-loop-k : goal.invariant-loop-k
+invariant-loop-k l = (l.k ≤ l.n) × ColumnPlaced l.n 0 (λ i. get_or l.s (i * l.n + l.column) (pos 0)) l.k l.initial.g l.g
+
+abbrev pub decreases-loop-k : goal.decreases-loop-k
+decreases-loop-k l = l.n - l.k

@@ -1,0 +1,26 @@
+-- `stages_wide::sizes::both_8q` meets its contract: rows from 4 on are zero in both stages.
+use native.Mathlib.Omega.{arith}
+use Rattle.h265.specs.Matrix.{trans_matrix}
+use Rattle.transform_1d.proofs.RowsLaws.{zeros-get_or}
+use Rattle.stages_wide.proofs.StageLaws.{pass_rows, short-rows}
+use Rattle.stages_wide.proofs.ResultLaws.{filled_stages}
+use Rattle.stages_wide.proofs.sizes.both_8q.Goals as goal
+
+pub pass_8q-requires : goal.pass_8q-requires
+pass_8q-requires c =
+    let a = c.requires.0 in
+    record { range_least = a.range_least; range_most = a.range_most; parts = omega (arith, a.range_most); shift_least = omega arith; shift_most = omega arith; source = omega (arith, a.source); few = a.columns; room = omega (arith, c.requires.1) }
+
+pub pass_8q-requires-2 : goal.pass_8q-requires-2
+pass_8q-requires-2 c =
+    let a = c.requires.0 in
+    record { range_least = a.range_least; range_most = a.range_most; parts = a.parts; shift_least = omega (arith, a.least); shift_most = a.most; source = omega (arith, c.pass_8q.ensures.rows.long); few = omega arith; room = a.room }
+
+pub returns : goal.returns
+returns c =
+    let a = c.args in
+    let p = c.requires in
+    let one = c.pass_8q.ensures in
+    filled_stages (trans_matrix 8) 8 a.range a.nx a.coeff.now (zeros-get_or 32)
+    (pass_rows 4 8 a.range a.coeff.now p.0.columns p.2.zero 7 one) a.shift
+    (short-rows 4 8 a.range _ (omega arith) one.rows.long a.shift c.pass_8q-2.ensures)

@@ -1,0 +1,17 @@
+-- `stages_wide::sizes::columns_4` meets its contract: the rows of stage one, limited and put as columns, are the intermediate.
+use native.Mathlib.Omega.{arith}
+use Rattle.transform_1d.specs.MatrixOf.{matrix_of}
+use Rattle.stages_wide.proofs.MovesLaws.{put-rows}
+use Rattle.stages_wide.proofs.ProductsLaws.{limited_needs_four, four_rows}
+use Rattle.stages_wide.proofs.sizes.columns_4.Goals as goal
+
+pub stage_4-requires : goal.stage_4-requires
+stage_4-requires c = let p = c.requires in limited_needs_four (omega arith) (omega arith) (omega arith) p.range_most p.source (omega arith)
+
+pub put_columns-requires : goal.put_columns-requires
+put_columns-requires c = let p = c.requires in (p.range_most, omega arith, omega (arith, c.stage_4.ensures.long), p.room)
+
+pub returns : goal.returns
+returns c =
+    let a = c.args in
+    put-rows (matrix_of a.kind 4) 4 a.range a.coeff.now (four_rows (matrix_of a.kind 4) a.range 7 a.coeff.now (omega arith) c.stage_4.ensures) c.put_columns.ensures

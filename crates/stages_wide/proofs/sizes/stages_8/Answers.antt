@@ -1,0 +1,10 @@
+-- `stages_wide::sizes::stages_8` meets its contract, by its branches: where rows from 4 on are zero, the block ends after 4 rows.
+use mathlib.Core.Path.{refl}
+use native.Mathlib.Omega.{arith}
+use Rattle.stages.proofs.BothLaws.{rows_rest}
+use Rattle.stages_wide.proofs.sizes.stages_8.Goals as goal
+
+pub both_8q-requires : goal.both_8q-requires
+both_8q-requires c =
+    let p = c.requires in
+    (p, omega arith, rows_rest {n = 8} {q = 4} refl refl (omega arith) p.columns (c.rest_zero.ensures c.if-rest_zero.true))
