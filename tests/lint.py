@@ -14,8 +14,8 @@ INTERNAL = {"integers", "coefficients", "scaling_values", "scaling_blocks", "blo
 # each function calls one entry point and cites its definition, so that entry point's edits stand for it too; c_api_c has the same functions as exports
 WRAPPERS = {"c_api", "c_api_c"}
 
-# what the programs of cases share, no part of the library: it reads and writes, of which no contract can speak
-SUPPORT = {"cases"}
+# what the programs share, no part of the library: it reads and writes, of which no contract can speak but for what a reader's bytes become
+SUPPORT = {"streams", "cases"}
 
 # how many statements stand under two names, as tests/same_laws.py counts them: it only goes down
 SAME_LAWS = 0

@@ -9,7 +9,7 @@
 use mathlib.Core.Path.{◌≡◌, refl, sym, ap, ◌∙◌}
 use mathlib.Core.Bool.{Bool, true, false, ◌||◌, cond}
 use mathlib.Core.List.{List}
-use Prim.Native.Nat.{ℕ, ◌+◌, ◌*◌, ◌≤◌, ◌<◌}
+use Prim.Native.Nat.{ℕ, ◌*◌, ◌≤◌, ◌<◌}
 use native.Mathlib.Omega.{arith}
 use borrow.Author.Tests.{lt-ltb, le-ltb, lt-leb, eqb-true, not-false}
 use lib.Dec.{eqb, leb}
@@ -34,7 +34,7 @@ use Rattle.transform_1d.specs.declared.Kind.TheVariants.{Dct, Dst}
 use Rattle.block_rules.specs.declared.EditedBlock.{EditedBlock}
 use Rattle.block_rules.specs.Columns.{column_count}
 use Rattle.transform_1d.specs.Kinds.{dst_refused}
-use Rattle.block_rules.specs.Edit.{Buffers, Left, buffers, zero_block, residual_of, block_ladder, stopped, opened, opened_buffers, with_columns, edited, edited_buffers, refreshed, Opens, Edits}
+use Rattle.block_rules.specs.Edit.{Buffers, buffers, zero_block, residual_of, block_ladder, stopped, opened, opened_buffers, with_columns, edited, edited_buffers, refreshed, Opens, Edits}
 use Rattle.block_rules.specs.Work.{EditNeeds}
 use Rattle.block_rules.specs.Opening.{Opening, range_of, opened_as, block_of}
 use Rattle.block_laws.proofs.OpeningLaws.{Fits, coeff_long, inter_long, res_long, opened_is}

@@ -9,7 +9,7 @@
 use mathlib.Core.Path.{◌≡◌, refl, sym, ap, ◌∙◌}
 use mathlib.Core.Bool.{Bool, true, false, not, ◌||◌, cond}
 use mathlib.Core.List.{List, [], ◌∷◌}
-use Prim.Native.Nat.{ℕ, ◌+◌, ◌*◌, ◌≤◌, ◌<◌}
+use Prim.Native.Nat.{ℕ, ◌+◌, ◌*◌, ◌<◌}
 use native.Mathlib.Omega.{arith}
 use borrow.Author.Tests.{lt-leb}
 use lib.Dec.{leb}
@@ -26,7 +26,7 @@ use Rattle.refusal.specs.declared.Refusal.TheVariants.{SizeInvalid, DepthInvalid
 use Rattle.refusal.specs.Refusal.{number}
 use Rattle.refusal.specs.Condition.{size_refused, depth_refused, list_refused, block_refused}
 use Rattle.refusal.specs.Outcome.{Outcome, accepted, refused, answer}
-use Rattle.refusal.proofs.LadderLaws.{Rung, first_accepted, first_passed, first_refused}
+use Rattle.refusal.proofs.LadderLaws.{Rung, first_accepted, first_refused}
 use Rattle.refusal.proofs.LadderLaws.Rung.{rung}
 use Rattle.transform_1d.specs.declared.Kind.{Kind}
 use Rattle.transform_1d.specs.Kinds.{dst_refused}
@@ -34,7 +34,6 @@ use Rattle.block_rules.specs.declared.EditedBlock.{EditedBlock}
 use Rattle.block_rules.specs.declared.Source.{Source}
 use Rattle.block_rules.specs.Columns.{column_count}
 use Rattle.block_rules.specs.Edit.{Buffers, Left, zero_source, edited, edited_buffers, with_columns, Edits}
-use Rattle.block_rules.specs.Opening.{Opening}
 use Rattle.integers.proofs.TestLaws.{neither}
 use Rattle.block_laws.proofs.OpeningLaws.{Fits}
 use Rattle.block_laws.proofs.LadderLaws.{opening_of, edit_done}

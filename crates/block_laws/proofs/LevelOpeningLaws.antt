@@ -3,24 +3,24 @@
 --   scaled_whole         past the refusals, scaling writes the whole block
 --   scaled-accepted      an opening on the scaled levels meets no condition of the table
 --   level_open_is        so the opening on levels is that opening
-use mathlib.Core.Path.{◌≡◌, refl, sym, ap, ◌∙◌, subst}
+use mathlib.Core.Path.{◌≡◌, refl, sym, ap, ◌∙◌}
 use mathlib.Core.Bool.{Bool, true, false, ◌||◌, ◌&&◌}
 use mathlib.Core.List.{List, ◌++◌, append-nil}
 use Prim.Native.Nat.{ℕ, ◌*◌, ◌%◌, ◌≤◌, ◌<◌}
 use native.Mathlib.Omega.{arith}
-use borrow.Author.Tests.{le-ltb, ltb-false, eqb-true, not-false}
-use lib.Dec.{eqb, ltb}
+use borrow.Author.Tests.{le-ltb}
+use lib.Dec.{ltb}
 use lib.IntN.{ℤ, pos}
-use lib.ListN.{length, get_or, replicate, drop_of_length-le}
+use lib.ListN.{length, get_or, drop_of_length-le}
 use lib.Seq.{ext_get_or}
 use Rattle.integers.specs.Lists.{tabulate, overwrite}
 use Rattle.integers.proofs.ListsLaws.{tabulate-length, tabulate-get_or, overwrite-length, overwrite-get_or}
 use Rattle.integers.proofs.SearchLaws.{first_where-none}
-use Rattle.h265.specs.Range.{outside_range, transform_range}
+use Rattle.h265.specs.Range.{outside_range}
 use Rattle.h265.specs.Scaling.{scaled_at}
 use Rattle.h265.specs.Limited.{limited_count}
 use Rattle.refusal.specs.declared.Answer.{Answer}
-use Rattle.refusal.specs.declared.Answer.TheVariants.{Done, Refused}
+use Rattle.refusal.specs.declared.Answer.TheVariants.{Refused}
 use Rattle.refusal.specs.declared.Refusal.{Refusal}
 use Rattle.refusal.specs.Condition.{list_refused, block_refused}
 use Rattle.refusal.specs.Outcome.{accepted, refused, answer}
@@ -33,7 +33,7 @@ use Rattle.block_rules.specs.Edit.{Buffers, Left, zero_block, opened_buffers, Op
 use Rattle.block_rules.specs.Opening.{Opening, range_of, opened_as}
 use Rattle.refusal.proofs.ConditionLaws.{block_room, list_whole}
 use Rattle.integers.proofs.TestLaws.{neither}
-use Rattle.block_laws.proofs.OpeningLaws.{Fits, Accepted, opened_is}
+use Rattle.block_laws.proofs.OpeningLaws.{Accepted, opened_is}
 use Rattle.block_rules.specs.Level.{list_of, scaled_by, level_ladder, scaled_buffers, OpenLeft, open_stopped, level_opened, LevelOpens}
 use Rattle.block_laws.proofs.LevelLaws.{scaled-inside, with_value, LevelFits, levels_go, levels-refused}
 

@@ -5,10 +5,10 @@
 #![tactic(auto)]
 
 use block_tools::Accumulate;
-use libc::STDIN_FILENO;
 use parameters::QpPrime;
 use refusal::Answer;
 use scaling_blocks::CountAnswer;
+use std::io::Read;
 
 #[derive(Clone, Copy)]
 struct Case {
@@ -22,15 +22,15 @@ struct Case {
     way: u8,
 }
 
-fn next_case() -> Case {
-    let which = cases::next_byte(STDIN_FILENO);
-    let n = cases::next_word(STDIN_FILENO);
-    let qp = cases::next_wide(STDIN_FILENO);
-    let bit_depth = cases::next_byte(STDIN_FILENO);
-    let extended = cases::next_byte(STDIN_FILENO) != 0;
-    let dc = cases::next_byte(STDIN_FILENO);
-    let rotate = cases::next_byte(STDIN_FILENO) != 0;
-    let way = cases::next_byte(STDIN_FILENO);
+fn next_case(stdin: &mut impl Read) -> Case {
+    let which = cases::next_byte(stdin);
+    let n = cases::next_word(stdin);
+    let qp = cases::next_wide(stdin);
+    let bit_depth = cases::next_byte(stdin);
+    let extended = cases::next_byte(stdin) != 0;
+    let dc = cases::next_byte(stdin);
+    let rotate = cases::next_byte(stdin) != 0;
+    let way = cases::next_byte(stdin);
     Case {
         which,
         n,
@@ -60,7 +60,7 @@ fn modulo(z: i32) -> u32 {
 }
 
 // The sum of the elements, and the sum of the sums on the way, which tells places apart.
-fn put_sums(out: &[i32]) {
+fn put_sums(rt: &impl Print, out: &[i32]) {
     let mut i = 0;
     let mut first: u32 = 0;
     let mut second: u32 = 0;
@@ -71,12 +71,12 @@ fn put_sums(out: &[i32]) {
         second = all;
         i += 1;
     }
-    put_sum(first);
-    put_sum(second);
+    put_sum(rt, first);
+    put_sum(rt, second);
 }
 
-fn put_sum(sum: u32) {
-    cases::put(sum as u64);
+fn put_sum(rt: &impl Print, sum: u32) {
+    cases::put(rt, sum as u64);
 }
 
 // Over the whole 16 bits, or small enough for scaling to tell values apart.
@@ -98,20 +98,20 @@ fn fill(levels: &mut [i32], wide: bool) {
 }
 
 // The answer, and how many coefficients were limited.
-fn put_count(answer: CountAnswer) {
+fn put_count(rt: &impl Print, answer: CountAnswer) {
     match answer {
         CountAnswer::Limited(limited) => {
-            cases::put_answer(Answer::Done);
-            cases::put(limited as u64);
+            cases::put_answer(rt, Answer::Done);
+            cases::put(rt, limited as u64);
         }
         CountAnswer::Refused(why) => {
-            cases::put_refusal(why);
-            cases::put(0);
+            cases::put_refusal(rt, why);
+            cases::put(rt, 0);
         }
     }
 }
 
-fn call(case: Case, list: &[u8], levels: &[i32], out: &mut [i32]) {
+fn call(rt: &impl Print, case: Case, list: &[u8], levels: &[i32], out: &mut [i32]) {
     let which = case.which;
     let n = case.n;
     let qp = QpPrime(case.qp);
@@ -120,56 +120,69 @@ fn call(case: Case, list: &[u8], levels: &[i32], out: &mut [i32]) {
     let rotate = case.rotate;
     let way = way_of(case.way);
     match which {
-        0 => put_count(block_tools::transform_skip_residual(
-            levels, n, qp, depth, extended, rotate, way, out,
-        )),
-        1 => put_count(block_tools::transform_skip_scaled_residual(
-            levels, n, qp, depth, extended, list, case.dc, rotate, way, out,
-        )),
-        _ => cases::put_answer(block_tools::bypass_residual(
-            levels, n, depth, extended, rotate, way, out,
-        )),
+        0 => put_count(
+            rt,
+            block_tools::transform_skip_residual(levels, n, qp, depth, extended, rotate, way, out),
+        ),
+        1 => put_count(
+            rt,
+            block_tools::transform_skip_scaled_residual(
+                levels, n, qp, depth, extended, list, case.dc, rotate, way, out,
+            ),
+        ),
+        _ => cases::put_answer(
+            rt,
+            block_tools::bypass_residual(levels, n, depth, extended, rotate, way, out),
+        ),
     }
 }
 
-fn show(case: Case, list: &[u8], levels: &[i32], out: &mut [i32]) {
-    call(case, list, levels, out);
-    put_sums(out);
+fn show(rt: &impl Print, case: Case, list: &[u8], levels: &[i32], out: &mut [i32]) {
+    call(rt, case, list, levels, out);
+    put_sums(rt, out);
     if out.len() < 100 {
-        cases::put_wide(out);
+        cases::put_wide(rt, out);
     }
 }
 
-fn make(how: u8, count: usize, levels: &mut [i32]) {
+fn make(stdin: &mut impl Read, how: u8, count: usize, levels: &mut [i32]) {
     if how == 0 {
-        cases::read_first_wide(STDIN_FILENO, count, levels);
+        cases::read_first_wide(stdin, count, levels);
     } else {
         fill(levels, how == 2);
     }
 }
 
 // One case; answers whether there was one.
-fn replay() -> bool {
-    if !cases::copy_text(STDIN_FILENO) {
+fn replay(rt: &impl Print, stdin: &mut impl Read) -> bool {
+    if !cases::copy_text(rt, stdin) {
         return false;
     }
-    let case = next_case();
+    let case = next_case(stdin);
     let mut list = [0u8; 64];
     let mut levels = [0i32; 1024];
     let mut out = [999i32; 1028];
-    let entries = cases::next_length(STDIN_FILENO, 64);
-    cases::read_first_bytes(STDIN_FILENO, entries, &mut list);
-    let count = cases::next_length(STDIN_FILENO, 1024);
-    make(cases::next_byte(STDIN_FILENO), count, &mut levels);
-    let len = cases::next_length(STDIN_FILENO, 1028);
-    show(case, &list[0..entries], &levels[0..count], &mut out[0..len]);
-    cases::put_end();
+    let entries = cases::next_length(stdin, 64);
+    cases::read_first_bytes(stdin, entries, &mut list);
+    let count = cases::next_length(stdin, 1024);
+    let how = cases::next_byte(stdin);
+    make(stdin, how, count, &mut levels);
+    let len = cases::next_length(stdin, 1028);
+    show(
+        rt,
+        case,
+        &list[0..entries],
+        &levels[0..count],
+        &mut out[0..len],
+    );
+    cases::put_end(rt);
     true
 }
 
-fn main() {
+fn main(rt: HostRuntime) {
+    let mut stdin = rt.stdin();
     let mut turns = u64::MAX;
-    while turns > 0 && replay() {
+    while turns > 0 && replay(&rt, &mut stdin) {
         turns -= 1;
     }
 }

@@ -3,7 +3,7 @@
 // answer and the output. tests/contributions_cases.py writes cases and text.
 #![tactic(auto)]
 
-use libc::{STDIN_FILENO, STDOUT_FILENO};
+use std::io::Read;
 use transform_1d::Kind;
 
 #[derive(Clone, Copy)]
@@ -18,11 +18,11 @@ fn kind_of(dst: bool) -> Kind {
     if dst { Kind::Dst } else { Kind::Dct }
 }
 
-fn next_case() -> Case {
-    let dst = cases::next_byte(STDIN_FILENO) != 0;
-    let n = cases::next_word(STDIN_FILENO);
-    let row = cases::next_word(STDIN_FILENO);
-    let column = cases::next_word(STDIN_FILENO);
+fn next_case(stdin: &mut impl Read) -> Case {
+    let dst = cases::next_byte(stdin) != 0;
+    let n = cases::next_word(stdin);
+    let row = cases::next_word(stdin);
+    let column = cases::next_word(stdin);
     Case {
         dst,
         n,
@@ -39,64 +39,62 @@ fn size(z: i64) -> u64 {
     z as u64
 }
 
-fn put_long(z: i64) {
-    io::write_all(STDOUT_FILENO, b" ");
+fn put_long(rt: &impl Print, z: i64) {
+    streams::write_all(rt, b" ");
     if z < 0 {
-        io::write_all(STDOUT_FILENO, b"-");
+        streams::write_all(rt, b"-");
     }
-    io::print_decimal(STDOUT_FILENO, size(z));
+    streams::print_decimal(rt, size(z));
 }
 
-fn put_bar() {
-    io::write_all(STDOUT_FILENO, b" |");
+fn put_bar(rt: &impl Print) {
+    streams::write_all(rt, b" |");
 }
 
 // A bar, then every element.
-fn put_all(xs: &[i64]) {
-    put_bar();
+fn put_all(rt: &impl Print, xs: &[i64]) {
+    put_bar(rt);
     let mut i = 0;
     while i < xs.len() {
-        put_long(xs[i]);
+        put_long(rt, xs[i]);
         i += 1;
     }
 }
 
-fn show(case: Case, coeff: &[i32], out: &mut [i64]) {
+fn show(rt: &impl Print, case: Case, coeff: &[i32], out: &mut [i64]) {
     let kind = kind_of(case.dst);
-    cases::put_answer(contributions::contributions(
-        kind,
-        case.n,
-        case.row,
-        case.column,
-        coeff,
-        out,
-    ));
-    put_all(out);
+    cases::put_answer(
+        rt,
+        contributions::contributions(kind, case.n, case.row, case.column, coeff, out),
+    );
+    put_all(rt, out);
 }
 
 // The buffers of a case, and its answer.
-fn replay_case(case: Case) {
+fn replay_case(rt: &impl Print, stdin: &mut impl Read, case: Case) {
     let mut coeff = [0i32; 1024];
     let mut out = [7i64; 1040];
-    let count = cases::next_length(STDIN_FILENO, 1024);
-    cases::read_first_wide(STDIN_FILENO, count, &mut coeff);
-    let room = cases::next_length(STDIN_FILENO, 1040);
-    show(case, &coeff[0..count], &mut out[0..room]);
+    let count = cases::next_length(stdin, 1024);
+    cases::read_first_wide(stdin, count, &mut coeff);
+    let room = cases::next_length(stdin, 1040);
+    show(rt, case, &coeff[0..count], &mut out[0..room]);
 }
 
 // One case; answers whether there was one.
-fn replay() -> bool {
-    if !cases::copy_text(STDIN_FILENO) {
+fn replay(rt: &impl Print, stdin: &mut impl Read) -> bool {
+    if !cases::copy_text(rt, stdin) {
         return false;
     }
-    replay_case(next_case());
-    cases::put_end();
+    let case = next_case(stdin);
+    replay_case(rt, stdin, case);
+    cases::put_end(rt);
     true
 }
 
-fn main() {
+fn main(rt: HostRuntime) {
+    let mut stdin = rt.stdin();
     let mut turns = u64::MAX;
-    while turns > 0 && replay() {
+    while turns > 0 && replay(&rt, &mut stdin) {
         turns -= 1;
     }
 }

@@ -4,9 +4,9 @@
 // outputs. tests/edit_search_cases.py, which asks every value of the range, writes cases and text.
 #![tactic(auto)]
 
-use libc::STDIN_FILENO;
 use parameters::QpPrime;
 use refusal::Answer;
+use std::io::Read;
 use transform_1d::Kind;
 
 #[derive(Clone, Copy)]
@@ -24,14 +24,14 @@ fn kind_of(dst: bool) -> Kind {
     if dst { Kind::Dst } else { Kind::Dct }
 }
 
-fn next_case() -> Case {
-    let function = cases::next_byte(STDIN_FILENO);
-    let dst = cases::next_byte(STDIN_FILENO) != 0;
-    let n = cases::next_word(STDIN_FILENO);
-    let qp = cases::next_wide(STDIN_FILENO);
-    let bit_depth = cases::next_byte(STDIN_FILENO);
-    let extended = cases::next_byte(STDIN_FILENO) != 0;
-    let dc = cases::next_byte(STDIN_FILENO);
+fn next_case(stdin: &mut impl Read) -> Case {
+    let function = cases::next_byte(stdin);
+    let dst = cases::next_byte(stdin) != 0;
+    let n = cases::next_word(stdin);
+    let qp = cases::next_wide(stdin);
+    let bit_depth = cases::next_byte(stdin);
+    let extended = cases::next_byte(stdin) != 0;
+    let dc = cases::next_byte(stdin);
     Case {
         function,
         dst,
@@ -72,6 +72,7 @@ fn call(
 }
 
 fn show(
+    rt: &impl Print,
     case: Case,
     list: &[u8],
     given: &[i32],
@@ -80,30 +81,31 @@ fn show(
     least: &mut [i32],
     most: &mut [i32],
 ) {
-    cases::put_answer(call(case, list, given, target, wanted, least, most));
-    cases::put_wide(least);
-    cases::put_wide(most);
+    cases::put_answer(rt, call(case, list, given, target, wanted, least, most));
+    cases::put_wide(rt, least);
+    cases::put_wide(rt, most);
 }
 
 // The buffers of a case, and its answer.
-fn replay_case(case: Case) {
+fn replay_case(rt: &impl Print, stdin: &mut impl Read, case: Case) {
     let mut list = [0u8; 64];
     let mut given = [0i32; 1024];
     let mut target = [0i32; 1024];
     let mut wanted = [0u8; 1024];
     let mut least = [7i32; 1040];
     let mut most = [7i32; 1040];
-    let entries = cases::next_length(STDIN_FILENO, 64);
-    cases::read_first_bytes(STDIN_FILENO, entries, &mut list);
-    let count = cases::next_length(STDIN_FILENO, 1024);
-    cases::read_first_wide(STDIN_FILENO, count, &mut given);
-    let targets = cases::next_length(STDIN_FILENO, 1024);
-    cases::read_first_wide(STDIN_FILENO, targets, &mut target);
-    let flags = cases::next_length(STDIN_FILENO, 1024);
-    cases::read_first_bytes(STDIN_FILENO, flags, &mut wanted);
-    let low = cases::next_length(STDIN_FILENO, 1040);
-    let high = cases::next_length(STDIN_FILENO, 1040);
+    let entries = cases::next_length(stdin, 64);
+    cases::read_first_bytes(stdin, entries, &mut list);
+    let count = cases::next_length(stdin, 1024);
+    cases::read_first_wide(stdin, count, &mut given);
+    let targets = cases::next_length(stdin, 1024);
+    cases::read_first_wide(stdin, targets, &mut target);
+    let flags = cases::next_length(stdin, 1024);
+    cases::read_first_bytes(stdin, flags, &mut wanted);
+    let low = cases::next_length(stdin, 1040);
+    let high = cases::next_length(stdin, 1040);
     show(
+        rt,
         case,
         &list[0..entries],
         &given[0..count],
@@ -115,18 +117,20 @@ fn replay_case(case: Case) {
 }
 
 // One case; answers whether there was one.
-fn replay() -> bool {
-    if !cases::copy_text(STDIN_FILENO) {
+fn replay(rt: &impl Print, stdin: &mut impl Read) -> bool {
+    if !cases::copy_text(rt, stdin) {
         return false;
     }
-    replay_case(next_case());
-    cases::put_end();
+    let case = next_case(stdin);
+    replay_case(rt, stdin, case);
+    cases::put_end(rt);
     true
 }
 
-fn main() {
+fn main(rt: HostRuntime) {
+    let mut stdin = rt.stdin();
     let mut turns = u64::MAX;
-    while turns > 0 && replay() {
+    while turns > 0 && replay(&rt, &mut stdin) {
         turns -= 1;
     }
 }

@@ -3,16 +3,17 @@
 // the record handed back, and the four buffers.
 use crate::settings::Setting;
 use crate::{edits, lists, settings};
-use libc::STDIN_FILENO;
+use std::io::Read;
 
-fn put_buffers(levels: &[i32], coeff: &[i32], inter: &[i32], residual: &[i32]) {
-    cases::put_wide(levels);
-    cases::put_wide(coeff);
-    cases::put_wide(inter);
-    cases::put_wide(residual);
+fn put_buffers(rt: &impl Print, levels: &[i32], coeff: &[i32], inter: &[i32], residual: &[i32]) {
+    cases::put_wide(rt, levels);
+    cases::put_wide(rt, coeff);
+    cases::put_wide(rt, inter);
+    cases::put_wide(rt, residual);
 }
 
 fn opening_coefficients(
+    rt: &impl Print,
     setting: Setting,
     levels: &mut [i32],
     coeff: &mut [i32],
@@ -21,12 +22,13 @@ fn opening_coefficients(
 ) {
     let opened = settings::open(setting, coeff, levels, inter, residual);
     let answer = opened.answer;
-    settings::put_count(answer);
-    settings::put_record(opened.block);
-    put_buffers(levels, coeff, inter, residual);
+    settings::put_count(rt, answer);
+    settings::put_record(rt, opened.block);
+    put_buffers(rt, levels, coeff, inter, residual);
 }
 
 fn opening_levels(
+    rt: &impl Print,
     setting: Setting,
     levels: &mut [i32],
     coeff: &mut [i32],
@@ -35,12 +37,13 @@ fn opening_levels(
 ) {
     let opened = settings::open(setting, levels, coeff, inter, residual);
     let answer = opened.answer;
-    settings::put_count(answer);
-    settings::put_record(opened.block);
-    put_buffers(levels, coeff, inter, residual);
+    settings::put_count(rt, answer);
+    settings::put_record(rt, opened.block);
+    put_buffers(rt, levels, coeff, inter, residual);
 }
 
 fn opening(
+    rt: &impl Print,
     setting: Setting,
     levels: &mut [i32],
     coeff: &mut [i32],
@@ -49,34 +52,38 @@ fn opening(
 ) {
     let way = setting.way;
     if way == 0 {
-        opening_coefficients(setting, levels, coeff, inter, residual);
+        opening_coefficients(rt, setting, levels, coeff, inter, residual);
         return;
     }
-    opening_levels(setting, levels, coeff, inter, residual);
+    opening_levels(rt, setting, levels, coeff, inter, residual);
 }
 
 fn edit(
+    rt: &impl Print,
+    stdin: &mut impl Read,
     setting: Setting,
     levels: &mut [i32],
     coeff: &mut [i32],
     inter: &mut [i32],
     residual: &mut [i32],
 ) {
-    let block = settings::record(setting, cases::next_word(STDIN_FILENO));
-    let level = cases::next_byte(STDIN_FILENO) != 0;
-    let row = cases::next_word(STDIN_FILENO);
-    let column = cases::next_word(STDIN_FILENO);
-    let value = cases::next_wide(STDIN_FILENO);
+    let block = settings::record(setting, cases::next_word(stdin));
+    let level = cases::next_byte(stdin) != 0;
+    let row = cases::next_word(stdin);
+    let column = cases::next_word(stdin);
+    let value = cases::next_wide(stdin);
     let edited = edits::edit(
         block, level, row, column, value, levels, coeff, inter, residual,
     );
     let answer = edited.answer;
-    edits::put_edit(answer);
-    settings::put_record(edited.block);
-    put_buffers(levels, coeff, inter, residual);
+    edits::put_edit(rt, answer);
+    settings::put_record(rt, edited.block);
+    put_buffers(rt, levels, coeff, inter, residual);
 }
 
 fn call(
+    rt: &impl Print,
+    stdin: &mut impl Read,
     which: u8,
     setting: Setting,
     levels: &mut [i32],
@@ -84,31 +91,33 @@ fn call(
     inter: &mut [i32],
     residual: &mut [i32],
 ) {
-    cases::read_wide(STDIN_FILENO, levels);
-    cases::read_wide(STDIN_FILENO, coeff);
-    cases::read_wide(STDIN_FILENO, inter);
-    cases::read_wide(STDIN_FILENO, residual);
+    cases::read_wide(stdin, levels);
+    cases::read_wide(stdin, coeff);
+    cases::read_wide(stdin, inter);
+    cases::read_wide(stdin, residual);
     match which {
-        0 => opening(setting, levels, coeff, inter, residual),
-        1 => edit(setting, levels, coeff, inter, residual),
+        0 => opening(rt, setting, levels, coeff, inter, residual),
+        1 => edit(rt, stdin, setting, levels, coeff, inter, residual),
         _ => {
-            lists::list(setting, levels, coeff, inter, residual);
-            put_buffers(levels, coeff, inter, residual);
+            lists::list(rt, stdin, setting, levels, coeff, inter, residual);
+            put_buffers(rt, levels, coeff, inter, residual);
         }
     }
 }
 
 // With buffers as long as the case says.
-pub fn replay(which: u8, setting: Setting) {
+pub fn replay(rt: &impl Print, stdin: &mut impl Read, which: u8, setting: Setting) {
     let mut levels = [0i32; 32];
     let mut coeff = [0i32; 32];
     let mut inter = [0i32; 32];
     let mut residual = [0i32; 32];
-    let a = cases::next_length(STDIN_FILENO, 32);
-    let b = cases::next_length(STDIN_FILENO, 32);
-    let c = cases::next_length(STDIN_FILENO, 32);
-    let d = cases::next_length(STDIN_FILENO, 32);
+    let a = cases::next_length(stdin, 32);
+    let b = cases::next_length(stdin, 32);
+    let c = cases::next_length(stdin, 32);
+    let d = cases::next_length(stdin, 32);
     call(
+        rt,
+        stdin,
         which,
         setting,
         &mut levels[0..a],

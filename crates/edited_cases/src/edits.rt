@@ -1,8 +1,8 @@
 // One edit of either kind, by the functions that lend the record.
 use edited_block::EditedBlock;
 use level_block::{LevelEditedBlock, Limits, LimitsAnswer};
-use libc::STDIN_FILENO;
 use refusal::Answer;
+use std::io::Read;
 
 fn unlimited(answer: Answer) -> LimitsAnswer {
     match answer {
@@ -39,22 +39,22 @@ pub fn edit(
     }
 }
 
-fn put_limits(limits: Limits) {
-    cases::put_flag(limits.level);
-    cases::put_flag(limits.result);
+fn put_limits(rt: &impl Print, limits: Limits) {
+    cases::put_flag(rt, limits.level);
+    cases::put_flag(rt, limits.result);
 }
 
 // Number, place, row, column, whether the level was limited, and whether the result was.
-pub fn put_edit(answer: LimitsAnswer) {
+pub fn put_edit(rt: &impl Print, answer: LimitsAnswer) {
     match answer {
         LimitsAnswer::Done(limits) => {
-            cases::put_answer(Answer::Done);
-            put_limits(limits);
+            cases::put_answer(rt, Answer::Done);
+            put_limits(rt, limits);
         }
         LimitsAnswer::Refused(why) => {
-            cases::put_refusal(why);
-            cases::put_flag(false);
-            cases::put_flag(false);
+            cases::put_refusal(rt, why);
+            cases::put_flag(rt, false);
+            cases::put_flag(rt, false);
         }
     }
 }
@@ -66,15 +66,15 @@ pub fn is_done(answer: LimitsAnswer) -> bool {
     }
 }
 
-fn next_flag() -> bool {
-    cases::next_byte(STDIN_FILENO) != 0
+fn next_flag(stdin: &mut impl Read) -> bool {
+    cases::next_byte(stdin) != 0
 }
 
 // A byte each.
-pub fn read_flags(xs: &mut [bool]) {
+pub fn read_flags(stdin: &mut impl Read, xs: &mut [bool]) {
     let mut i = 0;
     while i < xs.len() {
-        xs[i] = next_flag();
+        xs[i] = next_flag(stdin);
         i += 1;
     }
 }

@@ -4,21 +4,21 @@
 use crate::settings::Setting;
 use crate::{edits, settings};
 use edited_list::Listed;
-use libc::STDIN_FILENO;
 use parameters::QpPrime;
+use std::io::Read;
 
-fn put_listed(listed: Listed) {
+fn put_listed(rt: &impl Print, listed: Listed) {
     let answer = listed.answer;
-    settings::put_count(answer);
-    settings::put_record(listed.block);
-    cases::put(listed.edits as u64);
+    settings::put_count(rt, answer);
+    settings::put_record(rt, listed.block);
+    cases::put(rt, listed.edits as u64);
 }
 
-fn put_told(numbers: &[u8], named: &[u8], across: &[u8], limits: &[u8]) {
-    cases::put_bytes(numbers);
-    cases::put_bytes(named);
-    cases::put_bytes(across);
-    cases::put_bytes(limits);
+fn put_told(rt: &impl Print, numbers: &[u8], named: &[u8], across: &[u8], limits: &[u8]) {
+    cases::put_bytes(rt, numbers);
+    cases::put_bytes(rt, named);
+    cases::put_bytes(rt, across);
+    cases::put_bytes(rt, limits);
 }
 
 fn flat(
@@ -121,6 +121,7 @@ fn scaled(
 
 // One call, with its answers.
 pub fn call(
+    rt: &impl Print,
     setting: Setting,
     levels: &mut [i32],
     coeff: &mut [i32],
@@ -137,23 +138,31 @@ pub fn call(
 ) {
     let way = setting.way;
     if way < 2 {
-        put_listed(flat(
-            setting, levels, coeff, inter, residual, rows, columns, values, ways, numbers, named,
-            across, limits,
-        ));
-        put_told(numbers, named, across, limits);
+        put_listed(
+            rt,
+            flat(
+                setting, levels, coeff, inter, residual, rows, columns, values, ways, numbers,
+                named, across, limits,
+            ),
+        );
+        put_told(rt, numbers, named, across, limits);
         return;
     }
     let entries = setting.entries;
-    put_listed(scaled(
-        setting, &entries, levels, coeff, inter, residual, rows, columns, values, ways, numbers,
-        named, across, limits,
-    ));
-    put_told(numbers, named, across, limits);
+    put_listed(
+        rt,
+        scaled(
+            setting, &entries, levels, coeff, inter, residual, rows, columns, values, ways,
+            numbers, named, across, limits,
+        ),
+    );
+    put_told(rt, numbers, named, across, limits);
 }
 
 // With answers as long as the case says.
 fn answered(
+    rt: &impl Print,
+    stdin: &mut impl Read,
     setting: Setting,
     levels: &mut [i32],
     coeff: &mut [i32],
@@ -168,11 +177,12 @@ fn answered(
     let mut named = [77u8; 8];
     let mut across = [77u8; 8];
     let mut limits = [77u8; 8];
-    let a = cases::next_length(STDIN_FILENO, 8);
-    let b = cases::next_length(STDIN_FILENO, 8);
-    let c = cases::next_length(STDIN_FILENO, 8);
-    let d = cases::next_length(STDIN_FILENO, 8);
+    let a = cases::next_length(stdin, 8);
+    let b = cases::next_length(stdin, 8);
+    let c = cases::next_length(stdin, 8);
+    let d = cases::next_length(stdin, 8);
     call(
+        rt,
         setting,
         levels,
         coeff,
@@ -190,6 +200,8 @@ fn answered(
 }
 
 pub fn list(
+    rt: &impl Print,
+    stdin: &mut impl Read,
     setting: Setting,
     levels: &mut [i32],
     coeff: &mut [i32],
@@ -200,15 +212,17 @@ pub fn list(
     let mut columns = [0usize; 8];
     let mut values = [0i32; 8];
     let mut ways = [false; 8];
-    cases::read_short(STDIN_FILENO, &mut rows);
-    cases::read_short(STDIN_FILENO, &mut columns);
-    cases::read_wide(STDIN_FILENO, &mut values);
-    edits::read_flags(&mut ways);
-    let a = cases::next_length(STDIN_FILENO, 8);
-    let b = cases::next_length(STDIN_FILENO, 8);
-    let c = cases::next_length(STDIN_FILENO, 8);
-    let d = cases::next_length(STDIN_FILENO, 8);
+    cases::read_short(stdin, &mut rows);
+    cases::read_short(stdin, &mut columns);
+    cases::read_wide(stdin, &mut values);
+    edits::read_flags(stdin, &mut ways);
+    let a = cases::next_length(stdin, 8);
+    let b = cases::next_length(stdin, 8);
+    let c = cases::next_length(stdin, 8);
+    let d = cases::next_length(stdin, 8);
     answered(
+        rt,
+        stdin,
         setting,
         levels,
         coeff,

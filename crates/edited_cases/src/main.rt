@@ -3,7 +3,7 @@
 // then what `borders` or `random` says. tests/edited_cases.py writes cases and text.
 #![tactic(auto)]
 
-use libc::STDIN_FILENO;
+use std::io::Read;
 
 mod borders;
 mod compare;
@@ -13,23 +13,24 @@ mod random;
 mod settings;
 
 // One case; answers whether there was one.
-fn replay() -> bool {
-    if !cases::copy_text(STDIN_FILENO) {
+fn replay(rt: &impl Print, stdin: &mut impl Read) -> bool {
+    if !cases::copy_text(rt, stdin) {
         return false;
     }
-    let which = cases::next_byte(STDIN_FILENO);
-    let setting = settings::next();
+    let which = cases::next_byte(stdin);
+    let setting = settings::next(stdin);
     match which {
-        0..=2 => borders::replay(which, setting),
-        _ => random::replay(setting),
+        0..=2 => borders::replay(rt, stdin, which, setting),
+        _ => random::replay(rt, stdin, setting),
     }
-    cases::put_end();
+    cases::put_end(rt);
     true
 }
 
-fn main() {
+fn main(rt: HostRuntime) {
+    let mut stdin = rt.stdin();
     let mut turns = u64::MAX;
-    while turns > 0 && replay() {
+    while turns > 0 && replay(&rt, &mut stdin) {
         turns -= 1;
     }
 }

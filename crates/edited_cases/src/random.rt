@@ -7,7 +7,7 @@ ghost use Rattle.std.specs.Prelude.{◌<◌};
 use crate::settings::Setting;
 use crate::{compare, edits, lists, settings};
 use edited_block::EditedBlock;
-use libc::STDIN_FILENO;
+use std::io::Read;
 
 #[derive(Clone, Copy)]
 struct Edits {
@@ -34,17 +34,17 @@ struct Turned {
     right: bool,
 }
 
-fn next_edits() -> Edits {
+fn next_edits(stdin: &mut impl Read) -> Edits {
     let mut rows = [0usize; 100];
     let mut columns = [0usize; 100];
     let mut values = [0i32; 100];
     let mut places = [0usize; 100];
     let mut ways = [false; 100];
-    cases::read_short(STDIN_FILENO, &mut rows);
-    cases::read_short(STDIN_FILENO, &mut columns);
-    cases::read_wide(STDIN_FILENO, &mut values);
-    cases::read_index(STDIN_FILENO, &mut places);
-    edits::read_flags(&mut ways);
+    cases::read_short(stdin, &mut rows);
+    cases::read_short(stdin, &mut columns);
+    cases::read_wide(stdin, &mut values);
+    cases::read_index(stdin, &mut places);
+    edits::read_flags(stdin, &mut ways);
     Edits {
         rows,
         columns,
@@ -85,6 +85,7 @@ fn keep(done: bool, edit: Edit, kept: &mut [i32]) {
 
 // One edit and what is compared after it.
 fn turn(
+    rt: &impl Print,
     setting: Setting,
     block: EditedBlock,
     edit: Edit,
@@ -103,8 +104,8 @@ fn turn(
     );
     let after = edited.block;
     let answer = edited.answer;
-    edits::put_edit(answer);
-    cases::put(after.columns as u64);
+    edits::put_edit(rt, answer);
+    cases::put(rt, after.columns as u64);
     keep(edits::is_done(answer), edit, kept);
     let right = compare::is_fresh(setting, after, kept, levels, coeff, inter, residual);
     Turned {
@@ -119,6 +120,7 @@ fn both(a: bool, b: bool) -> bool {
 
 // All edits, each with record and buffers as the one before left them.
 fn play(
+    rt: &impl Print,
     setting: Setting,
     opened: EditedBlock,
     edits: Edits,
@@ -133,23 +135,26 @@ fn play(
     let mut i: usize = 0;
     while i < 100 {
         let edit = edit_at(edits, i);
-        let turned = turn(setting, block, edit, levels, coeff, inter, residual, kept);
+        let turned = turn(
+            rt, setting, block, edit, levels, coeff, inter, residual, kept,
+        );
         let more = both(right, turned.right);
         right = more;
         let after = turned.block;
         block = after;
         i += 1;
     }
-    settings::put_record(block);
-    cases::put_same(right);
+    settings::put_record(rt, block);
+    cases::put_same(rt, right);
 }
 
-fn same_buffers(a: bool, b: bool, c: bool, d: bool) {
-    cases::put_same(a && b && c && d);
+fn same_buffers(rt: &impl Print, a: bool, b: bool, c: bool, d: bool) {
+    cases::put_same(rt, a && b && c && d);
 }
 
 // The same list through one call, which is to leave what the edits left one by one.
 fn play_list(
+    rt: &impl Print,
     setting: Setting,
     edits: Edits,
     begun_levels: &mut [i32],
@@ -170,6 +175,7 @@ fn play_list(
     let mut other_inter = [7i32; 1040];
     let mut other_residual = [7i32; 1040];
     lists::call(
+        rt,
         setting,
         begun_levels,
         begun_coeff,
@@ -185,6 +191,7 @@ fn play_list(
         &mut limits,
     );
     same_buffers(
+        rt,
         compare::same(begun_levels, levels),
         compare::same(begun_coeff, coeff),
         compare::same(&other_inter, inter),
@@ -192,16 +199,16 @@ fn play_list(
     );
 }
 
-fn read_block(values: &mut [i32]) {
-    let count = cases::next_word(STDIN_FILENO);
-    cases::read_first_wide(STDIN_FILENO, count, values);
+fn read_block(stdin: &mut impl Read, values: &mut [i32]) {
+    let count = cases::next_word(stdin);
+    cases::read_first_wide(stdin, count, values);
 }
 
 // A block that is opened on coefficients. Past its n² elements the mark 7 stands.
-fn replay_coefficients(setting: Setting) {
+fn replay_coefficients(rt: &impl Print, stdin: &mut impl Read, setting: Setting) {
     let mut coeff = [7i32; 1040];
-    read_block(&mut coeff);
-    let edits = next_edits();
+    read_block(stdin, &mut coeff);
+    let edits = next_edits(stdin);
     let mut begun_coeff = coeff;
     let mut kept = coeff;
     let mut levels = [7i32; 1040];
@@ -212,8 +219,9 @@ fn replay_coefficients(setting: Setting) {
     let opened = settings::open(setting, &coeff, &mut unused, &mut inter, &mut residual);
     let answer = opened.answer;
     let block = opened.block;
-    settings::put_count(answer);
+    settings::put_count(rt, answer);
     play(
+        rt,
         setting,
         block,
         edits,
@@ -224,6 +232,7 @@ fn replay_coefficients(setting: Setting) {
         &mut kept,
     );
     play_list(
+        rt,
         setting,
         edits,
         &mut begun_levels,
@@ -236,10 +245,10 @@ fn replay_coefficients(setting: Setting) {
 }
 
 // One that is opened on levels.
-fn replay_levels(setting: Setting) {
+fn replay_levels(rt: &impl Print, stdin: &mut impl Read, setting: Setting) {
     let mut levels = [7i32; 1040];
-    read_block(&mut levels);
-    let edits = next_edits();
+    read_block(stdin, &mut levels);
+    let edits = next_edits(stdin);
     let mut begun_levels = levels;
     let mut kept = levels;
     let mut coeff = [7i32; 1040];
@@ -249,8 +258,9 @@ fn replay_levels(setting: Setting) {
     let opened = settings::open(setting, &levels, &mut coeff, &mut inter, &mut residual);
     let answer = opened.answer;
     let block = opened.block;
-    settings::put_count(answer);
+    settings::put_count(rt, answer);
     play(
+        rt,
         setting,
         block,
         edits,
@@ -261,6 +271,7 @@ fn replay_levels(setting: Setting) {
         &mut kept,
     );
     play_list(
+        rt,
         setting,
         edits,
         &mut begun_levels,
@@ -272,11 +283,11 @@ fn replay_levels(setting: Setting) {
     );
 }
 
-pub fn replay(setting: Setting) {
+pub fn replay(rt: &impl Print, stdin: &mut impl Read, setting: Setting) {
     let way = setting.way;
     if way == 0 {
-        replay_coefficients(setting);
+        replay_coefficients(rt, stdin, setting);
     } else {
-        replay_levels(setting);
+        replay_levels(rt, stdin, setting);
     }
 }

@@ -3,10 +3,10 @@ ghost use Rattle.std.specs.Prelude.{◌≤◌};
 
 use edited_block::{EditedBlock, Source};
 use level_block::LevelsOpened;
-use libc::STDIN_FILENO;
 use parameters::QpPrime;
 use refusal::Answer;
 use scaling_blocks::CountAnswer;
+use std::io::Read;
 use transform_1d::Kind;
 
 // `way` is 0 for an opening on coefficients, 1 for one on levels and 2 for one on levels with a list, of which `count` entries are lent.
@@ -27,17 +27,17 @@ fn kind_of(byte: u8) -> Kind {
     if byte == 0 { Kind::Dct } else { Kind::Dst }
 }
 
-pub fn next() -> Setting {
-    let kind = kind_of(cases::next_byte(STDIN_FILENO));
-    let n = cases::next_word(STDIN_FILENO);
-    let bit_depth = cases::next_byte(STDIN_FILENO);
-    let extended = cases::next_byte(STDIN_FILENO) != 0;
-    let way = cases::next_byte(STDIN_FILENO);
-    let qp_prime = cases::next_wide(STDIN_FILENO);
-    let dc = cases::next_byte(STDIN_FILENO);
-    let count = cases::next_length(STDIN_FILENO, 64);
+pub fn next(stdin: &mut impl Read) -> Setting {
+    let kind = kind_of(cases::next_byte(stdin));
+    let n = cases::next_word(stdin);
+    let bit_depth = cases::next_byte(stdin);
+    let extended = cases::next_byte(stdin) != 0;
+    let way = cases::next_byte(stdin);
+    let qp_prime = cases::next_wide(stdin);
+    let dc = cases::next_byte(stdin);
+    let count = cases::next_length(stdin, 64);
     let mut entries = [0u8; 64];
-    cases::read_first_bytes(STDIN_FILENO, count, &mut entries);
+    cases::read_first_bytes(stdin, count, &mut entries);
     Setting {
         kind,
         n,
@@ -189,41 +189,41 @@ pub fn open(
     }
 }
 
-fn put_kind(kind: Kind) {
+fn put_kind(rt: &impl Print, kind: Kind) {
     match kind {
-        Kind::Dct => cases::put_flag(false),
-        Kind::Dst => cases::put_flag(true),
+        Kind::Dct => cases::put_flag(rt, false),
+        Kind::Dst => cases::put_flag(rt, true),
     }
 }
 
 // Kind, size, depth, flag and column count; whether it was opened on levels, QP', list flag, DC and entries.
-pub fn put_record(block: EditedBlock) {
+pub fn put_record(rt: &impl Print, block: EditedBlock) {
     let kind = block.kind;
-    put_kind(kind);
-    cases::put(block.size as u64);
-    cases::put(block.depth as u64);
-    cases::put_flag(block.extended);
-    cases::put(block.columns as u64);
+    put_kind(rt, kind);
+    cases::put(rt, block.size as u64);
+    cases::put(rt, block.depth as u64);
+    cases::put_flag(rt, block.extended);
+    cases::put(rt, block.columns as u64);
     let source = block.source;
     let qp_prime = source.qp_prime;
     let entries = source.entries;
-    cases::put_flag(source.levels);
-    cases::put_signed(qp_prime.0);
-    cases::put_flag(source.listed);
-    cases::put(source.dc as u64);
-    cases::put_bytes(&entries);
+    cases::put_flag(rt, source.levels);
+    cases::put_signed(rt, qp_prime.0);
+    cases::put_flag(rt, source.listed);
+    cases::put(rt, source.dc as u64);
+    cases::put_bytes(rt, &entries);
 }
 
 // Number, place, row, column, and how many were limited.
-pub fn put_count(answer: CountAnswer) {
+pub fn put_count(rt: &impl Print, answer: CountAnswer) {
     match answer {
         CountAnswer::Limited(k) => {
-            cases::put_answer(Answer::Done);
-            cases::put(k as u64);
+            cases::put_answer(rt, Answer::Done);
+            cases::put(rt, k as u64);
         }
         CountAnswer::Refused(why) => {
-            cases::put_refusal(why);
-            cases::put(0);
+            cases::put_refusal(rt, why);
+            cases::put(rt, 0);
         }
     }
 }

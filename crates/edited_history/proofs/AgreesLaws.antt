@@ -2,36 +2,30 @@
 --   after_agrees       an accepted edit
 --   fits_now           buffers that agree are as long as at the opening
 --   agrees_history     both stages, as the history has them
-use mathlib.Core.Path.{◌≡◌, refl, sym, ap, ap₂, ◌∙◌}
-use mathlib.Core.Bool.{Bool, true, false, ◌||◌, cond}
-use mathlib.Core.List.{List, [], ◌∷◌, ◌++◌}
+use mathlib.Core.Path.{◌≡◌, sym, ap, ap₂, ◌∙◌}
+use mathlib.Core.Bool.{false}
+use mathlib.Core.List.{List, ◌++◌}
 use Prim.Native.Nat.{ℕ, ◌+◌, ◌-◌, ◌*◌, ◌%◌, ◌<◌}
 use native.Mathlib.Decide.{ℕ_discrete}
 use native.Mathlib.Omega.{arith}
-use borrow.Author.Tests.{leb-false}
 use lib.Arith.{digits_lt, digits_mod}
-use lib.Dec.{leb}
 use lib.IntN.{ℤ, pos}
 use lib.ListN.{length, set, take, drop, length-set, length-append, length-drop}
-use lib.Seq.{get_or-set_same, get_or-set_other, set-append_left, take_at, drop_at}
+use lib.Seq.{get_or-set_same, get_or-set_other, set-append_left}
 use Rattle.integers.specs.Lists.{overwrite}
-use Rattle.integers.proofs.ListsLaws.{overwrite-length, overwrite_twice, overwrite-take, overwrite-drop, tabulate_cong}
+use Rattle.integers.proofs.ListsLaws.{overwrite-length, overwrite_twice, overwrite-take, tabulate_cong}
 use Rattle.h265.specs.Range.{outside_range}
 use Rattle.h265.specs.Transform.{block_at, columns_read, row_order, intermediate, residual, stage_two_shift}
 use Rattle.h265.proofs.TransformLaws.{intermediate_cong, stage_two_cong, row_order_cong, columns_read_in}
-use Rattle.refusal.specs.declared.Refusal.TheVariants.{PlaceOutside}
-use Rattle.refusal.specs.Outcome.{accepted}
 use Rattle.transform_1d.specs.MatrixOf.{matrix_of}
-use Rattle.coefficients.specs.Outside.{outside_refusal}
 use Rattle.block_rules.specs.declared.EditedBlock.{EditedBlock}
 use Rattle.stages_wide.specs.Wide.{column_replaced}
 use Rattle.block_rules.specs.Columns.{column_count}
-use Rattle.block_rules.specs.Edit.{Buffers, Left, intermediate_of, residual_of, block_ladder, stopped, with_columns, edited, edited_buffers}
-use Rattle.block_rules.specs.Opening.{Opening, range_of, opened_as, block_of}
-use Rattle.integers.proofs.TestLaws.{neither}
+use Rattle.block_rules.specs.Edit.{Buffers, intermediate_of, residual_of, edited_buffers}
+use Rattle.block_rules.specs.Opening.{Opening, range_of, block_of}
 use Rattle.edited_history.specs.History.{history_intermediate, history_residual}
 use Rattle.block_laws.proofs.ColumnsLaws.{column_replaced-overwrite, column_count-append}
-use Rattle.block_laws.proofs.OpeningLaws.{Fits, opened-accepted, opened_is, coeff_long, inter_long, res_long, stage_one_of, stage_two_of, InRange, intermediate_of_is, written-residual, Agrees, opened_agrees}
+use Rattle.block_laws.proofs.OpeningLaws.{Fits, coeff_long, inter_long, res_long, stage_one_of, stage_two_of, InRange, intermediate_of_is, written-residual, Agrees}
 
 same_column : (n a b k l : ℕ) → a < n → b < n → k * n + a ≡ l * n + b → a ≡ b
 same_column n a b k l ha hb e = sym (digits_mod k {m = n} {r = a} ha) ∙ ap (λ (i : ℕ). i % n) e ∙ digits_mod l {m = n} {r = b} hb

@@ -10,13 +10,13 @@ use native.Mathlib.Omega.{arith}
 use borrow.Author.Tests.{eq-eqb, ne_eqb, le-ltb}
 use lib.Dec.{eqb, ltb, leb}
 use lib.IntN.{ℤ, pos}
-use lib.ListN.{length, get_or, set, get_or-eq_default}
+use lib.ListN.{length, get_or, get_or-eq_default}
 use Rattle.integers.proofs.ListsLaws.{tabulate-get_or}
 use Rattle.h265.specs.Range.{outside_range, transform_range}
 use Rattle.refusal.specs.declared.Refusal.{Refusal}
 use Rattle.refusal.specs.declared.Refusal.TheVariants.{SizeInvalid, DepthInvalid, DstSizeInvalid, ListLengthInvalid, InputTooShort, OutputTooShort, PlaceOutside, WayMismatched}
 use Rattle.refusal.specs.Condition.{size_refused, depth_refused, list_refused, block_refused}
-use Rattle.refusal.proofs.LadderLaws.{Rung, first_both}
+use Rattle.refusal.proofs.LadderLaws.{first_both}
 use Rattle.refusal.proofs.LadderLaws.Rung.{rung}
 use Rattle.transform_1d.specs.Kinds.{dst_refused}
 use Rattle.coefficients.specs.Outside.{outside_refusal}
@@ -25,7 +25,6 @@ use Rattle.block_rules.specs.declared.EditedBlock.{EditedBlock}
 use Rattle.block_rules.specs.Edit.{Buffers, Left, block_ladder, stopped, edited, edited_buffers}
 use Rattle.block_laws.proofs.ColumnsLaws.{column_replaced-length}
 use Rattle.block_rules.specs.Level.{scaled_by, LevelLeft, level_ladder, level_stopped, looked_at, level_edited}
-use Rattle.edited_history.specs.History.{Edit}
 use Rattle.edited_history.specs.Run.{besides, held_edited, SameAt, EditsKeepColumns, RefusedEditsAlterNothing}
 
 -- ---- what holds of every refused edit and of what passes the ladder holds of an edit

@@ -3,18 +3,18 @@
 --   edit_agrees             one edit answers as the history does and leaves record and buffers in agreement with it
 --   edits_follow_history    the statement over the whole list
 use mathlib.Core.Path.{◌≡◌, refl, sym, ap, ap₂, subst, ◌∙◌}
-use mathlib.Core.Bool.{Bool, true, false, not, ◌||◌, cond, true≢false}
+use mathlib.Core.Bool.{Bool, true, false, ◌||◌, cond, true≢false}
 use mathlib.Core.List.{List, [], ◌∷◌, ◌++◌}
-use Prim.Native.Nat.{ℕ, ◌+◌, ◌-◌, ◌*◌, ◌≤◌, ◌<◌}
+use Prim.Native.Nat.{ℕ, ◌+◌, ◌*◌, ◌≤◌, ◌<◌}
 use native.Mathlib.Decide.{ℕ_discrete}
 use native.Mathlib.Omega.{arith}
-use borrow.Author.Tests.{leb-false, ltb-false, lt-ltb, le-ltb}
+use borrow.Author.Tests.{leb-false, ltb-false, le-ltb}
 use lib.Arith.{digits_lt}
-use lib.Dec.{T, leb, ltb}
+use lib.Dec.{leb}
 use lib.IntN.{ℤ, pos}
-use lib.ListN.{length, get_or, set, take, drop, length-set, length-append, length-drop, take-append-drop}
+use lib.ListN.{length, get_or, set, take, drop, length-set, length-append, take-append-drop}
 use lib.Seq.{ext_get_or, get_or-set_same, get_or-set_other, set-append_left, take_at, drop_at, length-take-le, get_or-take}
-use Rattle.integers.specs.Lists.{tabulate, overwrite}
+use Rattle.integers.specs.Lists.{tabulate}
 use Rattle.integers.proofs.ListsLaws.{tabulate-length, tabulate-get_or, tabulate_cong, overwrite-take, overwrite-drop}
 use Rattle.h265.specs.Range.{outside_range}
 use Rattle.h265.specs.Scaling.{scaled_at}
@@ -23,21 +23,21 @@ use Rattle.h265.specs.Transform.{row_order}
 use Rattle.refusal.specs.declared.Refusal.{Refusal}
 use Rattle.refusal.specs.declared.Refusal.TheVariants.{PlaceOutside, WayMismatched}
 use Rattle.refusal.specs.Condition.{size_refused, depth_refused, list_refused, block_refused}
-use Rattle.refusal.specs.Outcome.{Outcome, accepted, refused}
+use Rattle.refusal.specs.Outcome.{accepted, refused}
 use Rattle.scaling_blocks.specs.Blocks.{entries_of}
 use Rattle.transform_1d.specs.Kinds.{dst_refused}
 use Rattle.coefficients.specs.Outside.{outside_refusal}
 use Rattle.block_rules.specs.declared.EditedBlock.{EditedBlock}
 use Rattle.block_rules.specs.Columns.{column_count}
-use Rattle.block_rules.specs.Edit.{Buffers, Left, stopped, opened_buffers, edited, edited_buffers, with_columns}
+use Rattle.block_rules.specs.Edit.{Buffers, opened_buffers, edited, edited_buffers}
 use Rattle.block_rules.specs.Opening.{Opening, range_of, opened_as, block_of}
-use Rattle.block_laws.proofs.OpeningLaws.{Fits, Accepted, Agrees, InRange, stage_one_of, stage_two_of, opened-accepted, opened_is, opened_agrees}
+use Rattle.block_laws.proofs.OpeningLaws.{Fits, Accepted, Agrees, stage_one_of, stage_two_of, opened-accepted, opened_is, opened_agrees}
 use Rattle.block_laws.proofs.LadderLaws.{edit_way, edit-place, edit_outside, edit_done}
-use Rattle.block_rules.specs.Level.{list_of, scaled_by, limits_by, no_limits, OpenLeft, level_ladder, LevelLeft, level_stopped, looked_at, level_edited, level_opened, scaled_buffers}
+use Rattle.block_rules.specs.Level.{list_of, scaled_by, no_limits, OpenLeft, level_ladder, LevelLeft, level_stopped, looked_at, level_edited, level_opened, scaled_buffers}
 use Rattle.block_laws.proofs.LevelLaws.{scaled-inside, EditFits, level-edit_way, level-edit-place, level-edit_done}
 use Rattle.block_laws.proofs.LevelOpeningLaws.{counted, OpenFits, scaled-accepted, level_open_is}
 use Rattle.integers.proofs.TestLaws.{neither}
-use Rattle.edited_history.specs.History.{Edit, other_way, by_edit, limits_to, answer_to, values_after, answers_to, history_of, coefficients_of}
+use Rattle.edited_history.specs.History.{Edit, by_edit, limits_to, answer_to, values_after, answers_to, history_of, coefficients_of}
 use Rattle.edited_history.specs.Run.{uncounted, held_opened, besides, held_edited, Ran, ran_from, ran, opened_on, history_after, EditsFollowHistory}
 use Rattle.edited_history.proofs.AgreesLaws.{after_agrees, fits_now, agrees_history}
 

@@ -6,7 +6,9 @@ ghost use Rattle.std.specs.Prelude.{◌≤◌, length};
 ghost use Rattle.text.specs.Text.{Counts};
 
 use feed::Ran;
-use libc::STDOUT_FILENO;
+use std::io::Read;
+use std::rt::Files;
+use std::{env, fs, io};
 
 // The longest feed that is replayed.
 const LONGEST: usize = 8192;
@@ -23,69 +25,66 @@ fn length_of(bytes: [u8; 4]) -> usize {
 }
 
 // Reads n bytes to the start of the buffer, or fewer where the file ends or a read fails.
-fn read_feed(fd: i32, n: usize, feed: &mut [u8]) -> usize
+fn read_feed(file: &mut impl Read, n: usize, feed: &mut [u8]) -> usize
     requires { n ≤ length feed.old }
     ensures { Counts result feed.new }
 {
-    io::read_full(fd, &mut feed[..n])
+    streams::read_full(file, &mut feed[..n])
 }
 
-fn title(number: u64) {
-    io::write_all(STDOUT_FILENO, b"case ");
-    io::print_decimal(STDOUT_FILENO, number);
-    io::write_all(STDOUT_FILENO, b"\n");
+fn title(rt: &impl Print, number: u64) {
+    streams::write_all(rt, b"case ");
+    streams::print_decimal(rt, number);
+    streams::write_all(rt, b"\n");
 }
 
 // One case; answers whether the file had one.
-fn replay(fd: i32, number: u64) -> bool {
+fn replay(rt: &impl Print, file: &mut impl Read, number: u64) -> bool {
     let mut head = [0u8; 4];
     let mut feed = [0u8; 8192];
     let mut out = [0u8; 32808];
-    if io::read_full(fd, &mut head) < 4 {
+    if streams::read_full(file, &mut head) < 4 {
         return false;
     }
     let n = length_of(head);
     if LONGEST < n {
         return false;
     }
-    let there = read_feed(fd, n, &mut feed);
-    title(number);
+    let there = read_feed(file, n, &mut feed);
+    title(rt, number);
     match feed::run(&feed[..there], &mut out) {
-        Ran::Text(end) => io::write_all(STDOUT_FILENO, &out[..end]),
-        Ran::NoRoom => io::write_all(STDOUT_FILENO, b"no room\n"),
+        Ran::Text(end) => streams::write_all(rt, &out[..end]),
+        Ran::NoRoom => streams::write_all(rt, b"no room\n"),
     }
 }
 
 // All cases of a file.
-fn replay_all(fd: i32) {
+fn replay_all(rt: &impl Print, file: &mut impl Read) {
     let mut number: u64 = 0;
     let mut going = true;
     while number < u64::MAX && going {
-        going = replay(fd, number);
+        going = replay(rt, file, number);
         number += 1;
     }
 }
 
-// The file that argument i names.
-fn replay_file(i: usize) {
-    let mut path = [0u8; 64];
-    let n = os::arg(i, &mut path);
-    let fd = os::open_read(&path[..n]);
-    if fd < 0 {
-        os::fail(&path[..n]);
-        return;
+// The file that an argument names.
+fn replay_file<R: Files + Print + Eprint>(rt: &R, path: &str) {
+    match fs::open(rt, path) {
+        Ok(mut file) => {
+            streams::write_all(rt, path.as_bytes());
+            streams::write_all(rt, b"\n");
+            replay_all(rt, &mut file);
+        }
+        Err(error) => {
+            let _ = eprintln!(rt; "{path}: {error}");
+        }
     }
-    io::write_all(STDOUT_FILENO, &path[..n]);
-    io::write_all(STDOUT_FILENO, b"\n");
-    replay_all(fd);
-    libc::close(fd);
 }
 
-fn main() {
-    let count = os::arg_count();
-    let mut i = 1;
-    while i < count {
-        replay_file(i);
-        i += 1;
+fn main(rt: HostRuntime) -> io::Result<()> {
+    for path in env::args(&rt)?.skip(1) {
+        replay_file(&rt, &path);
     }
+    Ok(())
 }

@@ -6,7 +6,7 @@ ghost use Rattle.std.specs.Prelude.{◌≤◌, length};
 ghost use Rattle.text.specs.Text.{Counts};
 
 use feed::{Line, State, StepAnswer};
-use libc::{STDERR_FILENO, STDIN_FILENO, STDOUT_FILENO};
+use std::io::Read;
 
 #[derive(Clone, Copy)]
 struct Progress {
@@ -21,20 +21,16 @@ fn stopped(state: State) -> Progress {
     }
 }
 
-fn read_failed(state: State) -> Progress {
-    io::write_all(
-        STDERR_FILENO,
-        b"feed_main: a read of standard input failed, so this text is not whole\n",
-    );
+fn read_failed(rt: &impl Eprint, state: State) -> Progress {
+    let _ = eprintln!(rt; "feed_main: a read of standard input failed, so this text is not whole");
     stopped(state)
 }
 
 // What follows a write: nothing more where it failed.
-fn after_write(done: bool, going: bool, state: State) -> Progress {
+fn after_write(rt: &impl Eprint, done: bool, going: bool, state: State) -> Progress {
     if !done {
-        io::write_all(
-            STDERR_FILENO,
-            b"feed_main: a write to standard output failed, so this text is not whole\n",
+        let _ = eprintln!(rt;
+            "feed_main: a write to standard output failed, so this text is not whole"
         );
         return stopped(state);
     }
@@ -42,24 +38,35 @@ fn after_write(done: bool, going: bool, state: State) -> Progress {
 }
 
 // Reads n bytes to the start of the buffer, or fewer where the input ends or a read fails.
-fn read_body(n: usize, body: &mut [u8]) -> usize
+fn read_body(stdin: &mut impl Read, n: usize, body: &mut [u8]) -> usize
     requires { n ≤ length body.old }
     ensures { Counts result body.new }
 {
-    io::read_full(STDIN_FILENO, &mut body[..n])
+    streams::read_full(stdin, &mut body[..n])
 }
 
-fn write_line(line: Line) -> bool
+fn write_line(rt: &impl Print, line: Line) -> bool
     requires { Counts line.end line.bytes }
 {
     let bytes = line.bytes;
     let end = line.end;
-    io::write_all(STDOUT_FILENO, &bytes[..end])
+    streams::write_all(rt, &bytes[..end])
+}
+
+// Whether one more read says that the input has ended.
+fn has_ended(stdin: &mut impl Read) -> bool {
+    let mut byte = [0u8; 1];
+    match stdin.read(&mut byte) {
+        Ok(got) => got == 0,
+        Err(_) => false,
+    }
 }
 
 // One record: reads it and writes its text. A body is cut short where the input has ended; where one more read does not say so, a
 // read failed.
-fn turn(
+fn turn<R: Print + Eprint>(
+    rt: &R,
+    stdin: &mut impl Read,
     state: State,
     levels: &mut [i32],
     coeff: &mut [i32],
@@ -69,20 +76,20 @@ fn turn(
     let mut byte = [0u8; 1];
     let mut body = [0u8; 4096];
     let mut out = [0u8; 12320];
-    let got = libc::read(STDIN_FILENO, &mut byte);
-    if got < 0 {
-        return read_failed(state);
-    }
+    let got = match stdin.read(&mut byte) {
+        Ok(got) => got,
+        Err(_) => return read_failed(rt, state),
+    };
     if got == 0 {
         let blocks = state.blocks;
-        return after_write(write_line(feed::blocks_line(blocks)), false, state);
+        return after_write(rt, write_line(rt, feed::blocks_line(blocks)), false, state);
     }
     let kind = byte[0];
     let n = feed::record_length(kind);
-    let there = read_body(n, &mut body);
+    let there = read_body(stdin, n, &mut body);
     if there < n {
-        if libc::read(STDIN_FILENO, &mut byte) != 0 {
-            return read_failed(state);
+        if !has_ended(stdin) {
+            return read_failed(rt, state);
         }
     }
     let stepped = feed::step(
@@ -99,10 +106,11 @@ fn turn(
     let end = stepped.end;
     let answer = stepped.answer;
     match answer {
-        StepAnswer::Done => after_write(io::write_all(STDOUT_FILENO, &out[..end]), true, next),
+        StepAnswer::Done => after_write(rt, streams::write_all(rt, &out[..end]), true, next),
         StepAnswer::Refused(why) => {
             after_write(
-                write_line(feed::refusal_line(why, next.offset)),
+                rt,
+                write_line(rt, feed::refusal_line(why, next.offset)),
                 false,
                 next,
             )
@@ -111,7 +119,8 @@ fn turn(
     }
 }
 
-fn main() {
+fn main(rt: HostRuntime) {
+    let mut stdin = rt.stdin();
     let mut levels = [0i32; 1024];
     let mut coeff = [0i32; 1024];
     let mut inter = [0i32; 1024];
@@ -120,7 +129,15 @@ fn main() {
     let mut going = true;
     let mut turns = u64::MAX;
     while turns > 0 && going {
-        let taken = turn(state, &mut levels, &mut coeff, &mut inter, &mut residual);
+        let taken = turn(
+            &rt,
+            &mut stdin,
+            state,
+            &mut levels,
+            &mut coeff,
+            &mut inter,
+            &mut residual,
+        );
         let next = taken.state;
         state = next;
         going = taken.going;

@@ -3,9 +3,9 @@
 // with 7 throughout. The text goes on with the answer and the output. tests/level_search_cases.py, which asks every level of the range, writes cases and text.
 #![tactic(auto)]
 
-use libc::STDIN_FILENO;
 use parameters::QpPrime;
 use refusal::Answer;
+use std::io::Read;
 
 #[derive(Clone, Copy)]
 struct Case {
@@ -17,13 +17,13 @@ struct Case {
     dc: u8,
 }
 
-fn next_case() -> Case {
-    let listed = cases::next_byte(STDIN_FILENO) != 0;
-    let n = cases::next_word(STDIN_FILENO);
-    let qp = cases::next_wide(STDIN_FILENO);
-    let bit_depth = cases::next_byte(STDIN_FILENO);
-    let extended = cases::next_byte(STDIN_FILENO) != 0;
-    let dc = cases::next_byte(STDIN_FILENO);
+fn next_case(stdin: &mut impl Read) -> Case {
+    let listed = cases::next_byte(stdin) != 0;
+    let n = cases::next_word(stdin);
+    let qp = cases::next_wide(stdin);
+    let bit_depth = cases::next_byte(stdin);
+    let extended = cases::next_byte(stdin) != 0;
+    let dc = cases::next_byte(stdin);
     Case {
         listed,
         n,
@@ -47,38 +47,40 @@ fn call(case: Case, list: &[u8], coeff: &[i32], levels: &mut [i32]) -> Answer {
     level_search::find_levels(coeff, n, qp, depth, extended, levels)
 }
 
-fn show(case: Case, list: &[u8], coeff: &[i32], levels: &mut [i32]) {
-    cases::put_answer(call(case, list, coeff, levels));
-    cases::put_wide(levels);
+fn show(rt: &impl Print, case: Case, list: &[u8], coeff: &[i32], levels: &mut [i32]) {
+    cases::put_answer(rt, call(case, list, coeff, levels));
+    cases::put_wide(rt, levels);
 }
 
 // One case; answers whether there was one.
-fn replay() -> bool {
-    if !cases::copy_text(STDIN_FILENO) {
+fn replay(rt: &impl Print, stdin: &mut impl Read) -> bool {
+    if !cases::copy_text(rt, stdin) {
         return false;
     }
-    let case = next_case();
+    let case = next_case(stdin);
     let mut list = [0u8; 64];
     let mut coeff = [0i32; 1024];
     let mut levels = [7i32; 1040];
-    let entries = cases::next_length(STDIN_FILENO, 64);
-    cases::read_first_bytes(STDIN_FILENO, entries, &mut list);
-    let count = cases::next_length(STDIN_FILENO, 1024);
-    cases::read_first_wide(STDIN_FILENO, count, &mut coeff);
-    let len = cases::next_length(STDIN_FILENO, 1040);
+    let entries = cases::next_length(stdin, 64);
+    cases::read_first_bytes(stdin, entries, &mut list);
+    let count = cases::next_length(stdin, 1024);
+    cases::read_first_wide(stdin, count, &mut coeff);
+    let len = cases::next_length(stdin, 1040);
     show(
+        rt,
         case,
         &list[0..entries],
         &coeff[0..count],
         &mut levels[0..len],
     );
-    cases::put_end();
+    cases::put_end(rt);
     true
 }
 
-fn main() {
+fn main(rt: HostRuntime) {
+    let mut stdin = rt.stdin();
     let mut turns = u64::MAX;
-    while turns > 0 && replay() {
+    while turns > 0 && replay(&rt, &mut stdin) {
         turns -= 1;
     }
 }

@@ -1,18 +1,15 @@
 -- Laws of levels scaled by a source.
 --   factor-listed, factor-refused   what the lookup of m answers for a whole list
 --   level-scaled, level-refused     what scaling one level answers
-use mathlib.Core.Path.{◌≡◌, refl, sym, ap, ◌∙◌}
-use mathlib.Core.Bool.{Bool, true, false, ◌||◌}
-use mathlib.Core.List.{List}
+use mathlib.Core.Path.{◌≡◌, ap, ◌∙◌}
+use mathlib.Core.Bool.{Bool, true, false}
 use Prim.Native.Nat.{ℕ, ◌*◌, ◌<◌}
 use native.Mathlib.Omega.{arith}
 use borrow.Author.Tests.{lt-leb, eq-eqb}
-use lib.IntN.{ℤ, pos}
+use lib.IntN.{ℤ}
 use lib.ListN.{length}
 use Rattle.h265.specs.ScalingFactor.{scaling_factor}
-use Rattle.h265.specs.ScalingFactor.ScalingList.{listed}
 use Rattle.refusal.specs.declared.Refusal.{Refusal}
-use Rattle.refusal.specs.Refusal.{number}
 use Rattle.refusal.specs.Condition.{size_refused, depth_refused, list_refused}
 use Rattle.refusal.specs.Outcome.{Outcome, accepted, refused}
 use Rattle.refusal.proofs.RefusalLaws.{number_least}

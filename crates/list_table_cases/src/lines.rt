@@ -1,88 +1,87 @@
 // Numbers, answers and lent elements as text.
-use libc::STDOUT_FILENO;
 use refusal::{Answer, Refusal};
 use scaling_blocks::CountAnswer;
 
-pub fn put(n: u64) {
-    io::write_all(STDOUT_FILENO, b" ");
-    io::print_decimal(STDOUT_FILENO, n);
+pub fn put(rt: &impl Print, n: u64) {
+    streams::write_all(rt, b" ");
+    streams::print_decimal(rt, n);
 }
 
-pub fn end() {
-    io::write_all(STDOUT_FILENO, b"\n");
+pub fn end(rt: &impl Print) {
+    streams::write_all(rt, b"\n");
 }
 
-pub fn put_byte(byte: u8) {
-    put(byte as u64);
+pub fn put_byte(rt: &impl Print, byte: u8) {
+    put(rt, byte as u64);
 }
 
-fn put_signed(z: i32) {
-    io::write_all(STDOUT_FILENO, b" ");
+fn put_signed(rt: &impl Print, z: i32) {
+    streams::write_all(rt, b" ");
     if z < 0 {
-        io::write_all(STDOUT_FILENO, b"-");
+        streams::write_all(rt, b"-");
     }
-    io::print_decimal(STDOUT_FILENO, integers::magnitude(z) as u64);
+    streams::print_decimal(rt, integers::magnitude(z) as u64);
 }
 
-fn put_short(z: i16) {
-    put_signed(z as i32);
+fn put_short(rt: &impl Print, z: i16) {
+    put_signed(rt, z as i32);
 }
 
-pub fn put_bytes(xs: &[u8]) {
+pub fn put_bytes(rt: &impl Print, xs: &[u8]) {
     let mut i = 0;
     while i < xs.len() {
-        put_byte(xs[i]);
+        put_byte(rt, xs[i]);
         i += 1;
     }
 }
 
 // At most `count` elements.
-pub fn put_values(xs: &[i32], count: usize) {
+pub fn put_values(rt: &impl Print, xs: &[i32], count: usize) {
     let mut i = 0;
     while i < xs.len() {
         if i < count {
-            put_signed(xs[i]);
+            put_signed(rt, xs[i]);
         }
         i += 1;
     }
 }
 
-pub fn put_narrow(xs: &[i16], count: usize) {
+pub fn put_narrow(rt: &impl Print, xs: &[i16], count: usize) {
     let mut i = 0;
     while i < xs.len() {
         if i < count {
-            put_short(xs[i]);
+            put_short(rt, xs[i]);
         }
         i += 1;
     }
 }
 
-pub fn put_refusal(why: Refusal) {
-    put(refusal::number(why) as u64);
-    put(refusal::place(why) as u64);
+pub fn put_refusal(rt: &impl Print, why: Refusal) {
+    put(rt, refusal::number(why) as u64);
+    put(rt, refusal::place(why) as u64);
 }
 
-pub fn put_answer(answer: Answer) {
+pub fn put_answer(rt: &impl Print, answer: Answer) {
     match answer {
         Answer::Done => {
-            put(0);
-            put(0);
+            put(rt, 0);
+            put(rt, 0);
         }
-        Answer::Refused(why) => put_refusal(why),
+        Answer::Refused(why) => put_refusal(rt, why),
     }
 }
 
 // The answer, and how many coefficients were limited.
-pub fn put_count(answer: CountAnswer) {
+pub fn put_count(rt: &impl Print, answer: CountAnswer) {
     match answer {
         CountAnswer::Limited(limited) => {
-            put(0);
-            put(0);
-            put(limited as u64);
+            put(rt, 0);
+            put(rt, 0);
+            put(rt, limited as u64);
         }
         CountAnswer::Refused(why) => {
-            put_refusal(why);
-            put(0);
+            put_refusal(rt, why);
+            put(rt, 0);
         }
     }
 }

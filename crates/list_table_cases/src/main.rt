@@ -6,7 +6,7 @@
 
 ghost use Rattle.std.specs.Prelude.{◌≤◌};
 
-use libc::STDIN_FILENO;
+use std::io::Read;
 
 mod calls;
 mod lines;
@@ -56,15 +56,16 @@ fn fill(levels: &mut [i32]) {
     }
 }
 
-fn call(r: [u8; 10], table: &mut [u8], pattern: &[u8], levels: &[i32]) {
+fn call(rt: &impl Print, r: [u8; 10], table: &mut [u8], pattern: &[u8], levels: &[i32]) {
     let which = r[0];
     let stream = named(r[1]);
     let number = named(r[2]);
     match which {
-        0 => calls::store(table, stream, pattern, wide(r[3]), wide(r[4]), r[5]),
-        1 => calls::drop(table, stream, number),
-        2 => calls::look(table, stream, number, wide(r[4])),
+        0 => calls::store(rt, table, stream, pattern, wide(r[3]), wide(r[4]), r[5]),
+        1 => calls::drop(rt, table, stream, number),
+        2 => calls::look(rt, table, stream, number, wide(r[4])),
         _ => calls::scale(
+            rt,
             which,
             r[6],
             table,
@@ -82,44 +83,57 @@ fn call(r: [u8; 10], table: &mut [u8], pattern: &[u8], levels: &[i32]) {
 }
 
 // On a table that is too short, with every place held.
-fn short_call(r: [u8; 10], pattern: &[u8], levels: &[i32]) {
+fn short_call(rt: &impl Print, r: [u8; 10], pattern: &[u8], levels: &[i32]) {
     let mut table = [1u8; 1583];
-    call(r, &mut table, pattern, levels);
+    call(rt, r, &mut table, pattern, levels);
 }
 
 // One call; answers whether there was one.
-fn turn(table: &mut [u8], pattern: &[u8], levels: &[i32]) -> bool {
+fn turn(
+    rt: &impl Print,
+    stdin: &mut impl Read,
+    table: &mut [u8],
+    pattern: &[u8],
+    levels: &[i32],
+) -> bool {
     let mut r = [0u8; 10];
-    if io::read_full(STDIN_FILENO, &mut r) < 10 {
+    if streams::read_full(stdin, &mut r) < 10 {
         return false;
     }
     if r[6] == calls::SHORT_TABLE {
-        short_call(r, pattern, levels);
-        lines::end();
+        short_call(rt, r, pattern, levels);
+        lines::end(rt);
         return true;
     }
-    call(r, table, pattern, levels);
-    lines::end();
+    call(rt, r, table, pattern, levels);
+    lines::end(rt);
     true
 }
 
 // All calls, then the table.
-fn replay(table: &mut [u8], pattern: &[u8], levels: &[i32]) {
+fn replay(
+    rt: &impl Print,
+    stdin: &mut impl Read,
+    table: &mut [u8],
+    pattern: &[u8],
+    levels: &[i32],
+) {
     let mut going = true;
     let mut turns = u64::MAX;
     while turns > 0 && going {
-        going = turn(table, pattern, levels);
+        going = turn(rt, stdin, table, pattern, levels);
         turns -= 1;
     }
-    lines::put_bytes(table);
-    lines::end();
+    lines::put_bytes(rt, table);
+    lines::end(rt);
 }
 
-fn main() {
+fn main(rt: HostRuntime) {
+    let mut stdin = rt.stdin();
     let mut pattern = [0u8; 512];
     let mut levels = [0i32; 1025];
     let mut table = [0u8; 1585];
-    io::read_full(STDIN_FILENO, &mut pattern);
+    streams::read_full(&mut stdin, &mut pattern);
     fill(&mut levels);
-    replay(&mut table, &pattern, &levels);
+    replay(&rt, &mut stdin, &mut table, &pattern, &levels);
 }

@@ -8,7 +8,7 @@
 ghost use Rattle.std.specs.Prelude.{◌≤◌};
 
 use c_api::{Answered, CountAnswered};
-use libc::STDIN_FILENO;
+use std::io::Read;
 
 // `byte` is DC or m, `qp` is QP or QP', `count` the column count or an index.
 #[derive(Clone, Copy)]
@@ -23,77 +23,77 @@ struct Case {
     level: i32,
 }
 
-fn put_answer(number: u32, row: u8, column: u8) {
-    cases::put(number as u64);
-    cases::put(row as u64);
-    cases::put(column as u64);
+fn put_answer(rt: &impl Print, number: u32, row: u8, column: u8) {
+    cases::put(rt, number as u64);
+    cases::put(rt, row as u64);
+    cases::put(rt, column as u64);
 }
 
 // Whether a value is the next recorded one.
-fn put_next(z: i64) {
-    cases::put_same(cases::is_next_long(STDIN_FILENO, z));
+fn put_next(rt: &impl Print, stdin: &mut impl Read, z: i64) {
+    cases::put_same(rt, cases::is_next_long(stdin, z));
 }
 
-fn put_next_wide(z: i32) {
-    cases::put_same(cases::is_next_wide(STDIN_FILENO, z));
+fn put_next_wide(rt: &impl Print, stdin: &mut impl Read, z: i32) {
+    cases::put_same(rt, cases::is_next_wide(stdin, z));
 }
 
-fn run_range(case: Case) {
+fn run_range(rt: &impl Print, stdin: &mut impl Read, case: Case) {
     let r = c_api::residual_max_log2_transform_dynamic_range(
         case.bit_depth,
         case.extended_precision,
     );
-    put_answer(r.number, r.row, r.column);
-    put_next(r.value as i64);
+    put_answer(rt, r.number, r.row, r.column);
+    put_next(rt, stdin, r.value as i64);
 }
 
-fn run_dequant(case: Case) {
+fn run_dequant(rt: &impl Print, stdin: &mut impl Read, case: Case) {
     let r = c_api::residual_dequant_params(
         case.n,
         case.qp,
         case.bit_depth,
         case.extended_precision,
     );
-    put_answer(r.number, r.row, r.column);
-    put_next(r.factor);
-    put_next(r.add);
-    put_next(r.shift as i64);
-    put_next(r.clip_min);
-    put_next(r.clip_max);
+    put_answer(rt, r.number, r.row, r.column);
+    put_next(rt, stdin, r.factor);
+    put_next(rt, stdin, r.add);
+    put_next(rt, stdin, r.shift as i64);
+    put_next(rt, stdin, r.clip_min);
+    put_next(rt, stdin, r.clip_max);
 }
 
-fn run_transform_skip(case: Case) {
+fn run_transform_skip(rt: &impl Print, stdin: &mut impl Read, case: Case) {
     let r = c_api::residual_transform_skip_params(
         case.n,
         case.qp,
         case.bit_depth,
         case.extended_precision,
     );
-    put_answer(r.number, r.row, r.column);
-    put_next(r.factor);
-    put_next(r.add);
-    put_next(r.shift as i64);
-    put_next(r.clip_min);
-    put_next(r.clip_max);
-    put_next_wide(r.tr_add);
-    put_next_wide(r.tr_shift);
+    put_answer(rt, r.number, r.row, r.column);
+    put_next(rt, stdin, r.factor);
+    put_next(rt, stdin, r.add);
+    put_next(rt, stdin, r.shift as i64);
+    put_next(rt, stdin, r.clip_min);
+    put_next(rt, stdin, r.clip_max);
+    put_next_wide(rt, stdin, r.tr_add);
+    put_next_wide(rt, stdin, r.tr_shift);
 }
 
-fn run_factor(case: Case, list: &[u8]) {
+fn run_factor(rt: &impl Print, stdin: &mut impl Read, case: Case, list: &[u8]) {
     let r = c_api::residual_scaling_coeff(list, case.byte, case.n, case.count);
-    put_answer(r.number, r.row, r.column);
-    put_next(r.value as i64);
+    put_answer(rt, r.number, r.row, r.column);
+    put_next(rt, stdin, r.value as i64);
 }
 
-fn put_limited(limited: bool) {
+fn put_limited(rt: &impl Print, limited: bool) {
     if limited {
-        cases::put(1);
+        cases::put(rt, 1);
     } else {
-        cases::put(0);
+        cases::put(rt, 0);
     }
 }
 
-fn run_level(case: Case) {
+fn run_level(rt: &impl Print, stdin: &mut impl Read, case: Case) {
     let r = c_api::residual_scale_level(
         case.level,
         case.byte,
@@ -102,10 +102,10 @@ fn run_level(case: Case) {
         case.bit_depth,
         case.extended_precision,
     );
-    put_answer(r.number, r.row, r.column);
-    put_limited(r.level_limited);
-    put_limited(r.result_limited);
-    put_next_wide(r.value);
+    put_answer(rt, r.number, r.row, r.column);
+    put_limited(rt, r.level_limited);
+    put_limited(rt, r.result_limited);
+    put_next_wide(rt, stdin, r.value);
 }
 
 // A function of levels with 32-bit output.
@@ -176,55 +176,76 @@ fn scale_narrow(case: Case, list: &[u8], levels: &[i32], out: &mut [i16]) -> Cou
 }
 
 // The output is lent with the mark 77 in every place, as the recorder lent it to the Rust.
-fn scaled(case: Case, list: &[u8], levels: &[i32], out: &mut [i32]) {
+fn scaled(
+    rt: &impl Print,
+    stdin: &mut impl Read,
+    case: Case,
+    list: &[u8],
+    levels: &[i32],
+    out: &mut [i32],
+) {
     let r = scale_wide(case, list, levels, out);
-    put_answer(r.number, r.row, r.column);
-    cases::put(r.limited as u64);
-    cases::put_same(cases::are_next_wide(STDIN_FILENO, out));
+    put_answer(rt, r.number, r.row, r.column);
+    cases::put(rt, r.limited as u64);
+    cases::put_same(rt, cases::are_next_wide(stdin, out));
 }
 
-fn inverted(case: Case, coeff: &[i32], out: &mut [i32]) {
+fn inverted(rt: &impl Print, stdin: &mut impl Read, case: Case, coeff: &[i32], out: &mut [i32]) {
     let r = invert_wide(case, coeff, out);
-    put_answer(r.number, r.row, r.column);
-    cases::put_same(cases::are_next_wide(STDIN_FILENO, out));
+    put_answer(rt, r.number, r.row, r.column);
+    cases::put_same(rt, cases::are_next_wide(stdin, out));
 }
 
-fn wide(case: Case, list: &[u8], input: &[i32], out: &mut [i32]) {
+fn wide(
+    rt: &impl Print,
+    stdin: &mut impl Read,
+    case: Case,
+    list: &[u8],
+    input: &[i32],
+    out: &mut [i32],
+) {
     if case.function < 13 {
-        scaled(case, list, input, out);
+        scaled(rt, stdin, case, list, input, out);
     } else {
-        inverted(case, input, out);
+        inverted(rt, stdin, case, input, out);
     }
 }
 
-fn narrow(case: Case, list: &[u8], levels: &[i32], out: &mut [i16]) {
+fn narrow(
+    rt: &impl Print,
+    stdin: &mut impl Read,
+    case: Case,
+    list: &[u8],
+    levels: &[i32],
+    out: &mut [i16],
+) {
     let r = scale_narrow(case, list, levels, out);
-    put_answer(r.number, r.row, r.column);
-    cases::put(r.limited as u64);
-    cases::put_same(cases::are_next_narrow(STDIN_FILENO, out));
+    put_answer(rt, r.number, r.row, r.column);
+    cases::put(rt, r.limited as u64);
+    cases::put_same(rt, cases::are_next_narrow(stdin, out));
 }
 
-fn short(case: Case, coeff: &[i16], out: &mut [i16]) {
+fn short(rt: &impl Print, stdin: &mut impl Read, case: Case, coeff: &[i16], out: &mut [i16]) {
     let r = invert_narrow(case, coeff, out);
-    put_answer(r.number, r.row, r.column);
-    cases::put_same(cases::are_next_narrow(STDIN_FILENO, out));
+    put_answer(rt, r.number, r.row, r.column);
+    cases::put_same(rt, cases::are_next_narrow(stdin, out));
 }
 
 // How long a list or a block is; none is longer.
-fn list_length() -> usize
+fn list_length(stdin: &mut impl Read) -> usize
     ensures { result ≤ 64 }
 {
-    let n = cases::next_short(STDIN_FILENO);
+    let n = cases::next_short(stdin);
     if n <= 64 {
         return n;
     }
     64
 }
 
-fn block_length() -> usize
+fn block_length(stdin: &mut impl Read) -> usize
     ensures { result ≤ 1040 }
 {
-    let n = cases::next_short(STDIN_FILENO);
+    let n = cases::next_short(stdin);
     if n <= 1040 {
         return n;
     }
@@ -232,108 +253,127 @@ fn block_length() -> usize
 }
 
 // The first elements.
-fn read_list(count: usize, list: &mut [u8]) {
+fn read_list(stdin: &mut impl Read, count: usize, list: &mut [u8]) {
     if count <= list.len() {
-        io::read_full(STDIN_FILENO, &mut list[0..count]);
+        streams::read_full(stdin, &mut list[0..count]);
     }
 }
 
-fn read_wide(count: usize, block: &mut [i32]) {
+fn read_wide(stdin: &mut impl Read, count: usize, block: &mut [i32]) {
     if count <= block.len() {
-        cases::read_wide(STDIN_FILENO, &mut block[0..count]);
+        cases::read_wide(stdin, &mut block[0..count]);
     }
 }
 
-fn read_narrow(count: usize, block: &mut [i16]) {
+fn read_narrow(stdin: &mut impl Read, count: usize, block: &mut [i16]) {
     if count <= block.len() {
-        cases::read_narrow(STDIN_FILENO, &mut block[0..count]);
+        cases::read_narrow(stdin, &mut block[0..count]);
     }
 }
 
-fn run_wide(case: Case) {
+fn run_wide(rt: &impl Print, stdin: &mut impl Read, case: Case) {
     let mut list = [0u8; 64];
     let mut input = [0i32; 1040];
     let mut out = [77i32; 1040];
-    let entries = list_length();
-    let count = block_length();
-    let len = block_length();
-    read_list(entries, &mut list);
-    read_wide(count, &mut input);
-    wide(case, &list[0..entries], &input[0..count], &mut out[0..len]);
+    let entries = list_length(stdin);
+    let count = block_length(stdin);
+    let len = block_length(stdin);
+    read_list(stdin, entries, &mut list);
+    read_wide(stdin, count, &mut input);
+    wide(
+        rt,
+        stdin,
+        case,
+        &list[0..entries],
+        &input[0..count],
+        &mut out[0..len],
+    );
 }
 
-fn run_narrow(case: Case) {
+fn run_narrow(rt: &impl Print, stdin: &mut impl Read, case: Case) {
     let mut list = [0u8; 64];
     let mut levels = [0i32; 1040];
     let mut out = [77i16; 1040];
-    let entries = list_length();
-    let count = block_length();
-    let len = block_length();
-    read_list(entries, &mut list);
-    read_wide(count, &mut levels);
-    narrow(case, &list[0..entries], &levels[0..count], &mut out[0..len]);
+    let entries = list_length(stdin);
+    let count = block_length(stdin);
+    let len = block_length(stdin);
+    read_list(stdin, entries, &mut list);
+    read_wide(stdin, count, &mut levels);
+    narrow(
+        rt,
+        stdin,
+        case,
+        &list[0..entries],
+        &levels[0..count],
+        &mut out[0..len],
+    );
 }
 
-fn run_short(case: Case) {
+fn run_short(rt: &impl Print, stdin: &mut impl Read, case: Case) {
     let mut coeff = [0i16; 1040];
     let mut out = [77i16; 1040];
-    let count = block_length();
-    let len = block_length();
-    read_narrow(count, &mut coeff);
-    short(case, &coeff[0..count], &mut out[0..len]);
+    let count = block_length(stdin);
+    let len = block_length(stdin);
+    read_narrow(stdin, count, &mut coeff);
+    short(rt, stdin, case, &coeff[0..count], &mut out[0..len]);
 }
 
-fn list_factor(case: Case) {
+fn list_factor(rt: &impl Print, stdin: &mut impl Read, case: Case) {
     let mut list = [0u8; 64];
-    let entries = list_length();
-    read_list(entries, &mut list);
-    run_factor(case, &list[0..entries]);
+    let entries = list_length(stdin);
+    read_list(stdin, entries, &mut list);
+    run_factor(rt, stdin, case, &list[0..entries]);
 }
 
-fn run(case: Case) {
+fn run(rt: &impl Print, stdin: &mut impl Read, case: Case) {
     let function = case.function;
     match function {
-        0 => run_range(case),
-        1 => run_dequant(case),
-        2 => run_transform_skip(case),
-        3 => list_factor(case),
-        4 => run_level(case),
-        9..=12 => run_narrow(case),
-        17 | 18 => run_short(case),
-        _ => run_wide(case),
+        0 => run_range(rt, stdin, case),
+        1 => run_dequant(rt, stdin, case),
+        2 => run_transform_skip(rt, stdin, case),
+        3 => list_factor(rt, stdin, case),
+        4 => run_level(rt, stdin, case),
+        9..=12 => run_narrow(rt, stdin, case),
+        17 | 18 => run_short(rt, stdin, case),
+        _ => run_wide(rt, stdin, case),
     }
 }
 
 // One case; answers whether there was one.
-fn replay() -> bool {
-    if !cases::copy_text(STDIN_FILENO) {
+fn replay(rt: &impl Print, stdin: &mut impl Read) -> bool {
+    if !cases::copy_text(rt, stdin) {
         return false;
     }
-    let function = cases::next_byte(STDIN_FILENO);
-    let bit_depth = cases::next_byte(STDIN_FILENO);
-    let extended_precision = cases::next_byte(STDIN_FILENO) != 0;
-    let byte = cases::next_byte(STDIN_FILENO);
-    let n = cases::next_short(STDIN_FILENO);
-    let count = cases::next_short(STDIN_FILENO);
-    let qp = cases::next_wide(STDIN_FILENO);
-    let level = cases::next_wide(STDIN_FILENO);
-    run(Case {
-        function,
-        bit_depth,
-        extended_precision,
-        byte,
-        n,
-        count,
-        qp,
-        level,
-    });
-    cases::put_end();
+    let function = cases::next_byte(stdin);
+    let bit_depth = cases::next_byte(stdin);
+    let extended_precision = cases::next_byte(stdin) != 0;
+    let byte = cases::next_byte(stdin);
+    let n = cases::next_short(stdin);
+    let count = cases::next_short(stdin);
+    let qp = cases::next_wide(stdin);
+    let level = cases::next_wide(stdin);
+    run(
+        rt,
+        stdin,
+        Case {
+            function,
+            bit_depth,
+            extended_precision,
+            byte,
+            n,
+            count,
+            qp,
+            level,
+        },
+    );
+    cases::put_end(rt);
     true
 }
 
-fn main() {
+fn main(rt: HostRuntime) {
+    let mut stdin = rt.stdin();
     let mut turns = u64::MAX;
-    while turns > 0 && replay() {
+    while turns > 0 && replay(&rt, &mut stdin) {
         turns -= 1;
     }
 }

@@ -3,98 +3,102 @@
 // values. tests/parameters_cases.py writes cases and text.
 #![tactic(auto)]
 
-use libc::{STDIN_FILENO, STDOUT_FILENO};
 use parameters::{
     DequantAnswer, DequantParams, NumberAnswer, Qp, QpPrime, QpPrimeAnswer, TransformSkipAnswer,
 };
 use refusal::Answer;
+use std::io::Read;
 
 // Every value here fits 32 bits.
-fn put_long(z: i64) {
+fn put_long(rt: &impl Print, z: i64) {
     let low = -2147483647i64;
     let high = 2147483647i64;
     if z < low {
-        io::write_all(STDOUT_FILENO, b" below");
+        streams::write_all(rt, b" below");
         return;
     }
     if high < z {
-        io::write_all(STDOUT_FILENO, b" above");
+        streams::write_all(rt, b" above");
         return;
     }
-    cases::put_signed(z as i32);
+    cases::put_signed(rt, z as i32);
 }
 
-fn put_number(answer: NumberAnswer) {
+fn put_number(rt: &impl Print, answer: NumberAnswer) {
     match answer {
         NumberAnswer::Value(value) => {
-            cases::put_answer(Answer::Done);
-            cases::put(value as u64);
+            cases::put_answer(rt, Answer::Done);
+            cases::put(rt, value as u64);
         }
-        NumberAnswer::Refused(why) => cases::put_refusal(why),
+        NumberAnswer::Refused(why) => cases::put_refusal(rt, why),
     }
 }
 
-fn qp_prime(qp: i32, bit_depth: u8) {
+fn qp_prime(rt: &impl Print, qp: i32, bit_depth: u8) {
     match parameters::qp_prime(Qp(qp), bit_depth) {
         QpPrimeAnswer::Value(value) => {
-            cases::put_answer(Answer::Done);
-            cases::put_signed(value.0);
+            cases::put_answer(rt, Answer::Done);
+            cases::put_signed(rt, value.0);
         }
-        QpPrimeAnswer::Refused(why) => cases::put_refusal(why),
+        QpPrimeAnswer::Refused(why) => cases::put_refusal(rt, why),
     }
 }
 
-fn put_params(params: DequantParams) {
-    cases::put_answer(Answer::Done);
-    put_long(params.factor);
-    put_long(params.add);
-    cases::put(params.shift as u64);
-    put_long(params.clip_min);
-    put_long(params.clip_max);
+fn put_params(rt: &impl Print, params: DequantParams) {
+    cases::put_answer(rt, Answer::Done);
+    put_long(rt, params.factor);
+    put_long(rt, params.add);
+    cases::put(rt, params.shift as u64);
+    put_long(rt, params.clip_min);
+    put_long(rt, params.clip_max);
 }
 
-fn dequant(n: usize, qp: i32, bit_depth: u8, extended: bool) {
+fn dequant(rt: &impl Print, n: usize, qp: i32, bit_depth: u8, extended: bool) {
     match parameters::dequant_params(n, QpPrime(qp), bit_depth, extended) {
-        DequantAnswer::Params(params) => put_params(params),
-        DequantAnswer::Refused(why) => cases::put_refusal(why),
+        DequantAnswer::Params(params) => put_params(rt, params),
+        DequantAnswer::Refused(why) => cases::put_refusal(rt, why),
     }
 }
 
-fn skip(n: usize, qp: i32, bit_depth: u8, extended: bool) {
+fn skip(rt: &impl Print, n: usize, qp: i32, bit_depth: u8, extended: bool) {
     match parameters::transform_skip_params(n, QpPrime(qp), bit_depth, extended) {
         TransformSkipAnswer::Params(params) => {
-            put_params(params.dequant);
-            cases::put_signed(params.tr_add);
-            cases::put_signed(params.tr_shift);
+            put_params(rt, params.dequant);
+            cases::put_signed(rt, params.tr_add);
+            cases::put_signed(rt, params.tr_shift);
         }
-        TransformSkipAnswer::Refused(why) => cases::put_refusal(why),
+        TransformSkipAnswer::Refused(why) => cases::put_refusal(rt, why),
     }
 }
 
 // One case; answers whether there was one.
-fn replay() -> bool {
-    if !cases::copy_text(STDIN_FILENO) {
+fn replay(rt: &impl Print, stdin: &mut impl Read) -> bool {
+    if !cases::copy_text(rt, stdin) {
         return false;
     }
-    let which = cases::next_byte(STDIN_FILENO);
-    let n = cases::next_word(STDIN_FILENO);
-    let qp = cases::next_wide(STDIN_FILENO);
-    let bit_depth = cases::next_byte(STDIN_FILENO);
-    let extended = cases::next_byte(STDIN_FILENO) != 0;
+    let which = cases::next_byte(stdin);
+    let n = cases::next_word(stdin);
+    let qp = cases::next_wide(stdin);
+    let bit_depth = cases::next_byte(stdin);
+    let extended = cases::next_byte(stdin) != 0;
     match which {
-        0 => put_number(parameters::max_log2_transform_dynamic_range(bit_depth, extended)),
-        1 => put_number(parameters::qp_bd_offset(bit_depth)),
-        2 => qp_prime(qp, bit_depth),
-        3 => dequant(n, qp, bit_depth, extended),
-        _ => skip(n, qp, bit_depth, extended),
+        0 => put_number(
+            rt,
+            parameters::max_log2_transform_dynamic_range(bit_depth, extended),
+        ),
+        1 => put_number(rt, parameters::qp_bd_offset(bit_depth)),
+        2 => qp_prime(rt, qp, bit_depth),
+        3 => dequant(rt, n, qp, bit_depth, extended),
+        _ => skip(rt, n, qp, bit_depth, extended),
     }
-    cases::put_end();
+    cases::put_end(rt);
     true
 }
 
-fn main() {
+fn main(rt: HostRuntime) {
+    let mut stdin = rt.stdin();
     let mut turns = u64::MAX;
-    while turns > 0 && replay() {
+    while turns > 0 && replay(&rt, &mut stdin) {
         turns -= 1;
     }
 }

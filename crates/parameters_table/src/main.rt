@@ -1,69 +1,68 @@
 // Writes a table: for every depth, flag and size the range R, the shift s of scaling, the shift t of transform skip and the largest QP'.
 #![tactic(auto)]
 
-use libc::STDOUT_FILENO;
 use parameters::{NumberAnswer, Qp, QpPrime, QpPrimeAnswer, TransformSkipAnswer};
 
-fn put_number(n: u64) {
-    io::write_all(STDOUT_FILENO, b"\t");
-    io::print_decimal(STDOUT_FILENO, n);
+fn put_number(rt: &impl Print, n: u64) {
+    streams::write_all(rt, b"\t");
+    streams::print_decimal(rt, n);
 }
 
-fn put_signed(z: i32) {
-    io::write_all(STDOUT_FILENO, b"\t");
+fn put_signed(rt: &impl Print, z: i32) {
+    streams::write_all(rt, b"\t");
     if z < 0 {
-        io::write_all(STDOUT_FILENO, b"-");
+        streams::write_all(rt, b"-");
     }
-    io::print_decimal(STDOUT_FILENO, integers::magnitude(z) as u64);
+    streams::print_decimal(rt, integers::magnitude(z) as u64);
 }
 
-fn put_range(bit_depth: u8, extended_precision: bool) {
+fn put_range(rt: &impl Print, bit_depth: u8, extended_precision: bool) {
     match parameters::max_log2_transform_dynamic_range(bit_depth, extended_precision) {
-        NumberAnswer::Value(range) => put_number(range as u64),
-        NumberAnswer::Refused(refusal) => put_number(refusal::number(refusal) as u64),
+        NumberAnswer::Value(range) => put_number(rt, range as u64),
+        NumberAnswer::Refused(refusal) => put_number(rt, refusal::number(refusal) as u64),
     }
 }
 
-fn put_shifts(n: usize, bit_depth: u8, extended_precision: bool) {
+fn put_shifts(rt: &impl Print, n: usize, bit_depth: u8, extended_precision: bool) {
     match parameters::transform_skip_params(n, QpPrime(0), bit_depth, extended_precision) {
         TransformSkipAnswer::Params(params) => {
-            put_number(params.dequant.shift as u64);
-            put_signed(params.tr_shift);
+            put_number(rt, params.dequant.shift as u64);
+            put_signed(rt, params.tr_shift);
         }
-        TransformSkipAnswer::Refused(refusal) => put_number(refusal::number(refusal) as u64),
+        TransformSkipAnswer::Refused(refusal) => put_number(rt, refusal::number(refusal) as u64),
     }
 }
 
-fn put_largest_qp(bit_depth: u8) {
+fn put_largest_qp(rt: &impl Print, bit_depth: u8) {
     match parameters::qp_prime(Qp(51), bit_depth) {
-        QpPrimeAnswer::Value(largest) => put_signed(largest.0),
-        QpPrimeAnswer::Refused(refusal) => put_number(refusal::number(refusal) as u64),
+        QpPrimeAnswer::Value(largest) => put_signed(rt, largest.0),
+        QpPrimeAnswer::Refused(refusal) => put_number(rt, refusal::number(refusal) as u64),
     }
 }
 
-fn put_line(n: usize, bit_depth: u8, extended_precision: bool) {
-    io::print_decimal(STDOUT_FILENO, bit_depth as u64);
-    put_number(extended_precision as u64);
-    put_number(n as u64);
-    put_range(bit_depth, extended_precision);
-    put_shifts(n, bit_depth, extended_precision);
-    put_largest_qp(bit_depth);
-    io::write_all(STDOUT_FILENO, b"\n");
+fn put_line(rt: &impl Print, n: usize, bit_depth: u8, extended_precision: bool) {
+    streams::print_decimal(rt, bit_depth as u64);
+    put_number(rt, extended_precision as u64);
+    put_number(rt, n as u64);
+    put_range(rt, bit_depth, extended_precision);
+    put_shifts(rt, n, bit_depth, extended_precision);
+    put_largest_qp(rt, bit_depth);
+    streams::write_all(rt, b"\n");
 }
 
-fn put_sizes(bit_depth: u8, extended_precision: bool) {
-    put_line(4, bit_depth, extended_precision);
-    put_line(8, bit_depth, extended_precision);
-    put_line(16, bit_depth, extended_precision);
-    put_line(32, bit_depth, extended_precision);
+fn put_sizes(rt: &impl Print, bit_depth: u8, extended_precision: bool) {
+    put_line(rt, 4, bit_depth, extended_precision);
+    put_line(rt, 8, bit_depth, extended_precision);
+    put_line(rt, 16, bit_depth, extended_precision);
+    put_line(rt, 32, bit_depth, extended_precision);
 }
 
-fn main() {
-    io::write_all(STDOUT_FILENO, b"depth\text\tsize\tR\ts\tt\tQP'\n");
+fn main(rt: HostRuntime) {
+    streams::write_all(&rt, b"depth\text\tsize\tR\ts\tt\tQP'\n");
     let mut bit_depth: u8 = 8;
     while bit_depth < 17 {
-        put_sizes(bit_depth, false);
-        put_sizes(bit_depth, true);
+        put_sizes(&rt, bit_depth, false);
+        put_sizes(&rt, bit_depth, true);
         bit_depth += 1;
     }
 }

@@ -5,8 +5,8 @@
 #![tactic(auto)]
 
 use checksum::ChecksumAnswer;
-use libc::STDIN_FILENO;
 use refusal::Answer;
+use std::io::Read;
 
 #[derive(Clone, Copy)]
 struct Case {
@@ -20,15 +20,15 @@ struct Case {
     y: usize,
 }
 
-fn next_case() -> Case {
-    let which = cases::next_byte(STDIN_FILENO);
-    let n = cases::next_word(STDIN_FILENO);
-    let bit_depth = cases::next_byte(STDIN_FILENO);
-    let width = cases::next_word(STDIN_FILENO);
-    let height = cases::next_word(STDIN_FILENO);
-    let stride = cases::next_word(STDIN_FILENO);
-    let x = cases::next_word(STDIN_FILENO);
-    let y = cases::next_word(STDIN_FILENO);
+fn next_case(stdin: &mut impl Read) -> Case {
+    let which = cases::next_byte(stdin);
+    let n = cases::next_word(stdin);
+    let bit_depth = cases::next_byte(stdin);
+    let width = cases::next_word(stdin);
+    let height = cases::next_word(stdin);
+    let stride = cases::next_word(stdin);
+    let x = cases::next_word(stdin);
+    let y = cases::next_word(stdin);
     Case {
         which,
         n,
@@ -51,71 +51,87 @@ fn fill(first: u16, step: u16, plane: &mut [u16]) {
     }
 }
 
-fn rebuild(case: Case, residual: &[i32], prediction: &[u16], plane: &mut [u16]) {
+fn rebuild(rt: &impl Print, case: Case, residual: &[i32], prediction: &[u16], plane: &mut [u16]) {
     let n = case.n;
     let depth = case.bit_depth;
     let width = case.width;
     let height = case.height;
     let stride = case.stride;
-    cases::put_answer(picture::rebuild_block(
-        n, depth, residual, prediction, width, height, stride, case.x, case.y, plane,
-    ));
-    cases::put_samples(plane);
+    cases::put_answer(
+        rt,
+        picture::rebuild_block(
+            n, depth, residual, prediction, width, height, stride, case.x, case.y, plane,
+        ),
+    );
+    cases::put_samples(rt, plane);
 }
 
-fn checksum(case: Case, plane: &[u16]) {
+fn checksum(rt: &impl Print, case: Case, plane: &[u16]) {
     match checksum::picture_checksum(case.width, case.height, case.stride, case.bit_depth, plane) {
         ChecksumAnswer::Sum(sum) => {
-            cases::put_answer(Answer::Done);
-            cases::put(sum as u64);
+            cases::put_answer(rt, Answer::Done);
+            cases::put(rt, sum as u64);
         }
-        ChecksumAnswer::Refused(why) => cases::put_refusal(why),
+        ChecksumAnswer::Refused(why) => cases::put_refusal(rt, why),
     }
 }
 
-fn call(case: Case, residual: &[i32], prediction: &[u16], plane: &mut [u16]) {
+fn call(rt: &impl Print, case: Case, residual: &[i32], prediction: &[u16], plane: &mut [u16]) {
     if case.which == 0 {
-        rebuild(case, residual, prediction, plane);
+        rebuild(rt, case, residual, prediction, plane);
     } else {
-        checksum(case, plane);
+        checksum(rt, case, plane);
     }
 }
 
-fn make(plane: &mut [u16]) {
-    let first = cases::next_sample(STDIN_FILENO);
-    let step = cases::next_sample(STDIN_FILENO);
+fn make(stdin: &mut impl Read, plane: &mut [u16]) {
+    let first = cases::next_sample(stdin);
+    let step = cases::next_sample(stdin);
     fill(first, step, plane);
-    let count = cases::next_length(STDIN_FILENO, 1024);
-    cases::read_first_samples(STDIN_FILENO, count, plane);
+    let count = cases::next_length(stdin, 1024);
+    cases::read_first_samples(stdin, count, plane);
 }
 
-fn on_plane(case: Case, residual: &[i32], prediction: &[u16]) {
+fn on_plane(
+    rt: &impl Print,
+    stdin: &mut impl Read,
+    case: Case,
+    residual: &[i32],
+    prediction: &[u16],
+) {
     let mut plane = [0u16; 78300];
-    let len = cases::next_length(STDIN_FILENO, 78300);
-    make(&mut plane);
-    call(case, residual, prediction, &mut plane[0..len]);
+    let len = cases::next_length(stdin, 78300);
+    make(stdin, &mut plane);
+    call(rt, case, residual, prediction, &mut plane[0..len]);
 }
 
 // One case; answers whether there was one.
-fn replay() -> bool {
-    if !cases::copy_text(STDIN_FILENO) {
+fn replay(rt: &impl Print, stdin: &mut impl Read) -> bool {
+    if !cases::copy_text(rt, stdin) {
         return false;
     }
-    let case = next_case();
+    let case = next_case(stdin);
     let mut residual = [0i32; 1024];
     let mut prediction = [0u16; 1024];
-    let residuals = cases::next_length(STDIN_FILENO, 1024);
-    cases::read_first_wide(STDIN_FILENO, residuals, &mut residual);
-    let predictions = cases::next_length(STDIN_FILENO, 1024);
-    cases::read_first_samples(STDIN_FILENO, predictions, &mut prediction);
-    on_plane(case, &residual[0..residuals], &prediction[0..predictions]);
-    cases::put_end();
+    let residuals = cases::next_length(stdin, 1024);
+    cases::read_first_wide(stdin, residuals, &mut residual);
+    let predictions = cases::next_length(stdin, 1024);
+    cases::read_first_samples(stdin, predictions, &mut prediction);
+    on_plane(
+        rt,
+        stdin,
+        case,
+        &residual[0..residuals],
+        &prediction[0..predictions],
+    );
+    cases::put_end(rt);
     true
 }
 
-fn main() {
+fn main(rt: HostRuntime) {
+    let mut stdin = rt.stdin();
     let mut turns = u64::MAX;
-    while turns > 0 && replay() {
+    while turns > 0 && replay(&rt, &mut stdin) {
         turns -= 1;
     }
 }

@@ -2,42 +2,43 @@
 // text goes on with the answer and the bound. tests/rounding_cases.py writes cases and text.
 #![tactic(auto)]
 
-use libc::STDIN_FILENO;
 use refusal::Answer;
 use rounding::BoundAnswer;
+use std::io::Read;
 use transform_1d::Kind;
 
 fn kind_of(byte: u8) -> Kind {
     if byte == 0 { Kind::Dct } else { Kind::Dst }
 }
 
-fn show(answer: BoundAnswer) {
+fn show(rt: &impl Print, answer: BoundAnswer) {
     match answer {
         BoundAnswer::Bound(value) => {
-            cases::put_answer(Answer::Done);
-            cases::put(value as u64);
+            cases::put_answer(rt, Answer::Done);
+            cases::put(rt, value as u64);
         }
-        BoundAnswer::Refused(why) => cases::put_refusal(why),
+        BoundAnswer::Refused(why) => cases::put_refusal(rt, why),
     }
 }
 
 // One case; answers whether there was one.
-fn replay() -> bool {
-    if !cases::copy_text(STDIN_FILENO) {
+fn replay(rt: &impl Print, stdin: &mut impl Read) -> bool {
+    if !cases::copy_text(rt, stdin) {
         return false;
     }
-    let kind = kind_of(cases::next_byte(STDIN_FILENO));
-    let n = cases::next_word(STDIN_FILENO);
-    let bit_depth = cases::next_byte(STDIN_FILENO);
-    let extended = cases::next_byte(STDIN_FILENO) != 0;
-    show(rounding::rounding_bound(kind, n, bit_depth, extended));
-    cases::put_end();
+    let kind = kind_of(cases::next_byte(stdin));
+    let n = cases::next_word(stdin);
+    let bit_depth = cases::next_byte(stdin);
+    let extended = cases::next_byte(stdin) != 0;
+    show(rt, rounding::rounding_bound(kind, n, bit_depth, extended));
+    cases::put_end(rt);
     true
 }
 
-fn main() {
+fn main(rt: HostRuntime) {
+    let mut stdin = rt.stdin();
     let mut turns = u64::MAX;
-    while turns > 0 && replay() {
+    while turns > 0 && replay(&rt, &mut stdin) {
         turns -= 1;
     }
 }

@@ -6,11 +6,11 @@
 
 ghost use Rattle.std.specs.Prelude.{◌≤◌};
 
-use libc::STDIN_FILENO;
 use parameters::QpPrime;
 use refusal::Answer;
 use scaling::{FactorAnswer, LevelAnswer};
 use scaling_blocks::CountAnswer;
+use std::io::Read;
 
 #[derive(Clone, Copy)]
 struct Case {
@@ -24,15 +24,15 @@ struct Case {
     dc: u8,
 }
 
-fn next_case() -> Case {
-    let which = cases::next_byte(STDIN_FILENO);
-    let n = cases::next_word(STDIN_FILENO);
-    let index = cases::next_word(STDIN_FILENO);
-    let qp = cases::next_wide(STDIN_FILENO);
-    let level = cases::next_wide(STDIN_FILENO);
-    let bit_depth = cases::next_byte(STDIN_FILENO);
-    let extended = cases::next_byte(STDIN_FILENO) != 0;
-    let dc = cases::next_byte(STDIN_FILENO);
+fn next_case(stdin: &mut impl Read) -> Case {
+    let which = cases::next_byte(stdin);
+    let n = cases::next_word(stdin);
+    let index = cases::next_word(stdin);
+    let qp = cases::next_wide(stdin);
+    let level = cases::next_wide(stdin);
+    let bit_depth = cases::next_byte(stdin);
+    let extended = cases::next_byte(stdin) != 0;
+    let dc = cases::next_byte(stdin);
     Case {
         which,
         n,
@@ -45,40 +45,40 @@ fn next_case() -> Case {
     }
 }
 
-fn factor(case: Case, list: &[u8]) {
+fn factor(rt: &impl Print, case: Case, list: &[u8]) {
     match scaling::scaling_coeff(list, case.dc, case.n, case.index) {
         FactorAnswer::Factor(m) => {
-            cases::put_answer(Answer::Done);
-            cases::put(m as u64);
+            cases::put_answer(rt, Answer::Done);
+            cases::put(rt, m as u64);
         }
-        FactorAnswer::Refused(why) => cases::put_refusal(why),
+        FactorAnswer::Refused(why) => cases::put_refusal(rt, why),
     }
 }
 
-fn put_limited(limited: bool) {
+fn put_limited(rt: &impl Print, limited: bool) {
     if limited {
-        cases::put(1);
+        cases::put(rt, 1);
     } else {
-        cases::put(0);
+        cases::put(rt, 0);
     }
 }
 
 // The answer, and how many coefficients were limited.
-fn put_count(answer: CountAnswer) {
+fn put_count(rt: &impl Print, answer: CountAnswer) {
     match answer {
         CountAnswer::Limited(limited) => {
-            cases::put_answer(Answer::Done);
-            cases::put(limited as u64);
+            cases::put_answer(rt, Answer::Done);
+            cases::put(rt, limited as u64);
         }
         CountAnswer::Refused(why) => {
-            cases::put_refusal(why);
-            cases::put(0);
+            cases::put_refusal(rt, why);
+            cases::put(rt, 0);
         }
     }
 }
 
 // With DC as m.
-fn level(case: Case) {
+fn level(rt: &impl Print, case: Case) {
     let qp = QpPrime(case.qp);
     match scaling::scale_level(
         case.level,
@@ -89,12 +89,12 @@ fn level(case: Case) {
         case.extended,
     ) {
         LevelAnswer::Level(scaled) => {
-            cases::put_answer(Answer::Done);
-            cases::put_signed(scaled.value);
-            put_limited(scaled.level_limited);
-            put_limited(scaled.result_limited);
+            cases::put_answer(rt, Answer::Done);
+            cases::put_signed(rt, scaled.value);
+            put_limited(rt, scaled.level_limited);
+            put_limited(rt, scaled.result_limited);
         }
-        LevelAnswer::Refused(why) => cases::put_refusal(why),
+        LevelAnswer::Refused(why) => cases::put_refusal(rt, why),
     }
 }
 
@@ -140,93 +140,94 @@ fn scale_narrow(case: Case, list: &[u8], levels: &[i32], out: &mut [i16]) -> Cou
     }
 }
 
-fn wide(case: Case, list: &[u8], levels: &[i32], out: &mut [i32]) {
-    put_count(scale_wide(case, list, levels, out));
-    cases::put_wide(out);
+fn wide(rt: &impl Print, case: Case, list: &[u8], levels: &[i32], out: &mut [i32]) {
+    put_count(rt, scale_wide(case, list, levels, out));
+    cases::put_wide(rt, out);
 }
 
-fn narrow(case: Case, list: &[u8], levels: &[i32], out: &mut [i16]) {
-    put_count(scale_narrow(case, list, levels, out));
-    cases::put_narrow(out);
+fn narrow(rt: &impl Print, case: Case, list: &[u8], levels: &[i32], out: &mut [i16]) {
+    put_count(rt, scale_narrow(case, list, levels, out));
+    cases::put_narrow(rt, out);
 }
 
 // How long a list is, or a block; none is longer.
-fn list_length() -> usize
+fn list_length(stdin: &mut impl Read) -> usize
     ensures { result ≤ 65 }
 {
-    let n = cases::next_short(STDIN_FILENO);
+    let n = cases::next_short(stdin);
     if n <= 65 {
         return n;
     }
     65
 }
 
-fn block_length() -> usize
+fn block_length(stdin: &mut impl Read) -> usize
     ensures { result ≤ 1040 }
 {
-    let n = cases::next_short(STDIN_FILENO);
+    let n = cases::next_short(stdin);
     if n <= 1040 {
         return n;
     }
     1040
 }
 
-fn read_list(count: usize, list: &mut [u8]) {
+fn read_list(stdin: &mut impl Read, count: usize, list: &mut [u8]) {
     if count <= list.len() {
-        io::read_full(STDIN_FILENO, &mut list[0..count]);
+        streams::read_full(stdin, &mut list[0..count]);
     }
 }
 
-fn read_levels(count: usize, levels: &mut [i32]) {
+fn read_levels(stdin: &mut impl Read, count: usize, levels: &mut [i32]) {
     if count <= levels.len() {
-        cases::read_wide(STDIN_FILENO, &mut levels[0..count]);
+        cases::read_wide(stdin, &mut levels[0..count]);
     }
 }
 
-fn block(case: Case, len: usize, list: &[u8], levels: &[i32])
+fn block(rt: &impl Print, case: Case, len: usize, list: &[u8], levels: &[i32])
     requires { len ≤ 1040 }
 {
     let mut out = [7i32; 1040];
     let mut small = [7i16; 1040];
     if case.which < 6 {
-        wide(case, list, levels, &mut out[0..len]);
+        wide(rt, case, list, levels, &mut out[0..len]);
     } else {
-        narrow(case, list, levels, &mut small[0..len]);
+        narrow(rt, case, list, levels, &mut small[0..len]);
     }
 }
 
-fn call(case: Case, len: usize, list: &[u8], levels: &[i32])
+fn call(rt: &impl Print, case: Case, len: usize, list: &[u8], levels: &[i32])
     requires { len ≤ 1040 }
 {
     let which = case.which;
     match which {
-        0 => factor(case, list),
-        1 => level(case),
-        _ => block(case, len, list, levels),
+        0 => factor(rt, case, list),
+        1 => level(rt, case),
+        _ => block(rt, case, len, list, levels),
     }
 }
 
 // One case; answers whether there was one.
-fn replay() -> bool {
-    if !cases::copy_text(STDIN_FILENO) {
+fn replay(rt: &impl Print, stdin: &mut impl Read) -> bool {
+    if !cases::copy_text(rt, stdin) {
         return false;
     }
-    let case = next_case();
+    let case = next_case(stdin);
     let mut list = [0u8; 65];
     let mut levels = [0i32; 1040];
-    let entries = list_length();
-    let count = block_length();
-    let len = block_length();
-    read_list(entries, &mut list);
-    read_levels(count, &mut levels);
-    call(case, len, &list[0..entries], &levels[0..count]);
-    cases::put_end();
+    let entries = list_length(stdin);
+    let count = block_length(stdin);
+    let len = block_length(stdin);
+    read_list(stdin, entries, &mut list);
+    read_levels(stdin, count, &mut levels);
+    call(rt, case, len, &list[0..entries], &levels[0..count]);
+    cases::put_end(rt);
     true
 }
 
-fn main() {
+fn main(rt: HostRuntime) {
+    let mut stdin = rt.stdin();
     let mut turns = u64::MAX;
-    while turns > 0 && replay() {
+    while turns > 0 && replay(&rt, &mut stdin) {
         turns -= 1;
     }
 }

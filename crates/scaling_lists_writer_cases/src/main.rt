@@ -6,9 +6,9 @@
 
 ghost use Rattle.std.specs.Prelude.{◌≤◌};
 
-use libc::{STDIN_FILENO, STDOUT_FILENO};
 use refusal::Refusal;
 use scaling_lists_writer::WriteAnswer;
+use std::io::Read;
 
 // The largest room that is lent.
 const LARGEST: usize = 3000;
@@ -19,19 +19,19 @@ fn wide(byte: u8) -> usize
     byte as usize
 }
 
-fn put(n: u64) {
-    io::write_all(STDOUT_FILENO, b" ");
-    io::print_decimal(STDOUT_FILENO, n);
+fn put(rt: &impl Print, n: u64) {
+    streams::write_all(rt, b" ");
+    streams::print_decimal(rt, n);
 }
 
-fn put_byte(byte: u8) {
-    put(byte as u64);
+fn put_byte(rt: &impl Print, byte: u8) {
+    put(rt, byte as u64);
 }
 
-fn put_each(xs: &[u8]) {
+fn put_each(rt: &impl Print, xs: &[u8]) {
     let mut i = 0;
     while i < xs.len() {
-        put_byte(xs[i]);
+        put_byte(rt, xs[i]);
         i += 1;
     }
 }
@@ -48,13 +48,13 @@ fn kept(xs: &[u8]) -> bool {
     true
 }
 
-fn put_refused(why: Refusal, same: bool) {
-    put(refusal::number(why) as u64);
-    put(refusal::place(why) as u64);
+fn put_refused(rt: &impl Print, why: Refusal, same: bool) {
+    put(rt, refusal::number(why) as u64);
+    put(rt, refusal::place(why) as u64);
     if same {
-        io::write_all(STDOUT_FILENO, b" kept\n");
+        streams::write_all(rt, b" kept\n");
     } else {
-        io::write_all(STDOUT_FILENO, b" changed\n");
+        streams::write_all(rt, b" changed\n");
     }
 }
 
@@ -102,31 +102,48 @@ fn dcs_length(amiss: u8) -> usize
 }
 
 // One call on a buffer that holds the mark.
-fn write_into(lists: &[u8], dcs: &[u8], four: &[u8], intra: &[u8], inter: &[u8], out: &mut [u8]) {
+fn write_into(
+    rt: &impl Print,
+    lists: &[u8],
+    dcs: &[u8],
+    four: &[u8],
+    intra: &[u8],
+    inter: &[u8],
+    out: &mut [u8],
+) {
     let answer = scaling_lists_writer::write_scaling_lists(lists, dcs, four, intra, inter, out);
     match answer {
         WriteAnswer::Written(bits) => {
-            io::write_all(STDOUT_FILENO, b" 0 0");
-            put(bits as u64);
-            put_each(out);
-            io::write_all(STDOUT_FILENO, b"\n");
+            streams::write_all(rt, b" 0 0");
+            put(rt, bits as u64);
+            put_each(rt, out);
+            streams::write_all(rt, b"\n");
         }
         WriteAnswer::Refused(why) => {
             let same = kept(out);
-            put_refused(why, same);
+            put_refused(rt, why, same);
         }
     }
 }
 
-fn write_lent(lists: &[u8], dcs: &[u8], four: &[u8], intra: &[u8], inter: &[u8], room: usize) {
+fn write_lent(
+    rt: &impl Print,
+    lists: &[u8],
+    dcs: &[u8],
+    four: &[u8],
+    intra: &[u8],
+    inter: &[u8],
+    room: usize,
+) {
     let mut out = [7u8; 3000];
     if LARGEST < room {
         return;
     }
-    write_into(lists, dcs, four, intra, inter, &mut out[..room]);
+    write_into(rt, lists, dcs, four, intra, inter, &mut out[..room]);
 }
 
 fn write_case(
+    rt: &impl Print,
     amiss: u8,
     room: usize,
     lists: [u8; 1281],
@@ -141,6 +158,7 @@ fn write_case(
     let intra_end = intra_length(amiss);
     let inter_end = inter_length(amiss);
     write_lent(
+        rt,
         &lists[..lists_end],
         &dcs[..dcs_end],
         &four[..four_end],
@@ -151,34 +169,42 @@ fn write_case(
 }
 
 // One case; answers whether there was one.
-fn replay(number: u64, four: [u8; 65], intra: [u8; 64], inter: [u8; 64]) -> bool {
+fn replay(
+    rt: &impl Print,
+    stdin: &mut impl Read,
+    number: u64,
+    four: [u8; 65],
+    intra: [u8; 64],
+    inter: [u8; 64],
+) -> bool {
     let mut head = [0u8; 3];
     let mut lists = [0u8; 1281];
     let mut dcs = [0u8; 21];
-    if io::read_full(STDIN_FILENO, &mut head) < 3 {
+    if streams::read_full(stdin, &mut head) < 3 {
         return false;
     }
-    io::read_full(STDIN_FILENO, &mut lists);
-    io::read_full(STDIN_FILENO, &mut dcs);
+    streams::read_full(stdin, &mut lists);
+    streams::read_full(stdin, &mut dcs);
     let room = wide(head[1]) + 256 * wide(head[2]);
-    io::write_all(STDOUT_FILENO, b"case");
-    put(number);
-    io::write_all(STDOUT_FILENO, b":");
-    write_case(head[0], room, lists, dcs, four, intra, inter);
+    streams::write_all(rt, b"case");
+    put(rt, number);
+    streams::write_all(rt, b":");
+    write_case(rt, head[0], room, lists, dcs, four, intra, inter);
     true
 }
 
-fn main() {
+fn main(rt: HostRuntime) {
+    let mut stdin = rt.stdin();
     let mut four = [0u8; 65];
     let mut intra = [0u8; 64];
     let mut inter = [0u8; 64];
-    io::read_full(STDIN_FILENO, &mut four);
-    io::read_full(STDIN_FILENO, &mut intra);
-    io::read_full(STDIN_FILENO, &mut inter);
+    streams::read_full(&mut stdin, &mut four);
+    streams::read_full(&mut stdin, &mut intra);
+    streams::read_full(&mut stdin, &mut inter);
     let mut number: u64 = 0;
     let mut going = true;
     while number < u64::MAX && going {
-        going = replay(number, four, intra, inter);
+        going = replay(&rt, &mut stdin, number, four, intra, inter);
         number += 1;
     }
 }

@@ -4,7 +4,7 @@
 --   Checked                  no condition before row 9 holds
 --   inverted_size .. -output, -outside, -done   what each step answers
 --   residual_least, first_outside_least          a count above n means n
-use mathlib.Core.Path.{◌≡◌, refl, sym, ap, ap₂, ◌∙◌}
+use mathlib.Core.Path.{◌≡◌, sym, ap, ◌∙◌}
 use mathlib.Core.Bool.{Bool, true, false, ◌&&◌, cond}
 use mathlib.Core.List.{List}
 use Prim.Native.Nat.{ℕ, ◌*◌, ◌%◌, min, ◌≤◌, ◌<◌}
@@ -18,9 +18,8 @@ use Rattle.integers.specs.Lists.{overwrite}
 use Rattle.integers.proofs.ListsLaws.{overwrite_cong}
 use Rattle.integers.proofs.SearchLaws.{first_where_cong}
 use Rattle.h265.specs.Range.{transform_range, outside_range}
-use Rattle.h265.specs.Transform.{block_at, row_order, columns_read, intermediate, stage_two, stage_two_shift, residual}
+use Rattle.h265.specs.Transform.{block_at, row_order, columns_read, stage_two_shift, residual}
 use Rattle.h265.proofs.TransformLaws.{intermediate_cong, stage_two_cong, cell_column, row_order_cong}
-use Rattle.refusal.specs.declared.Answer.{Answer}
 use Rattle.refusal.specs.declared.Answer.TheVariants.{Done, Refused}
 use Rattle.refusal.specs.declared.Refusal.{Refusal}
 use Rattle.refusal.specs.declared.Refusal.TheVariants.{SizeInvalid, DepthInvalid, WidthTooNarrow, InputTooShort, OutputTooShort}

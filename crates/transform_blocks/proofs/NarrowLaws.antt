@@ -5,7 +5,7 @@
 use mathlib.Core.Path.{◌≡◌, refl, sym, ap₂}
 use mathlib.Core.Bool.{Bool, true, false, ◌||◌, ◌&&◌}
 use mathlib.Core.List.{List}
-use Prim.Native.Nat.{ℕ, ◌*◌, ◌%◌, ◌≤◌, ◌<◌}
+use Prim.Native.Nat.{ℕ, ◌*◌, ◌%◌, ◌≤◌}
 use native.Mathlib.Omega.{arith}
 use native.Mathlib.Nat.{le_refl, le_of_eq}
 use lib.Dec.{ltb}
@@ -15,7 +15,7 @@ use lib.Signed.{◌≤ℤ◌}
 use mir.Syntax.{w16}
 use mir.Val.{SFits}
 use Rattle.integers.proofs.LinearLaws.{le_in, le_out}
-use Rattle.integers.proofs.MachineLaws.{lt_z_of_le, sfits_out, sfits_pos_part, sfits_neg_part}
+use Rattle.integers.proofs.MachineLaws.{lt_z_of_le}
 use Rattle.integers.proofs.SearchLaws.{None, first_where-none}
 use Rattle.h265.specs.Range.{transform_range, coeff_min, coeff_max, outside_range}
 use Rattle.h265.proofs.RangeLaws.{outside_range_false}

@@ -4,8 +4,8 @@
 // the output. tests/transform_cases.py writes cases and text.
 #![tactic(auto)]
 
-use libc::STDIN_FILENO;
 use refusal::Answer;
+use std::io::Read;
 
 #[derive(Clone, Copy)]
 struct Case {
@@ -38,43 +38,43 @@ fn call_narrow(case: Case, coeff: &[i16], out: &mut [i16]) -> Answer {
     transform::inv_transform_dst_into_scalar16(coeff, depth, out)
 }
 
-fn show_wide(case: Case, coeff: &[i32], out: &mut [i32]) {
-    cases::put_answer(call_wide(case, coeff, out));
-    cases::put_wide(out);
+fn show_wide(rt: &impl Print, case: Case, coeff: &[i32], out: &mut [i32]) {
+    cases::put_answer(rt, call_wide(case, coeff, out));
+    cases::put_wide(rt, out);
 }
 
-fn show_narrow(case: Case, coeff: &[i16], out: &mut [i16]) {
-    cases::put_answer(call_narrow(case, coeff, out));
-    cases::put_narrow(out);
+fn show_narrow(rt: &impl Print, case: Case, coeff: &[i16], out: &mut [i16]) {
+    cases::put_answer(rt, call_narrow(case, coeff, out));
+    cases::put_narrow(rt, out);
 }
 
-fn wide(case: Case) {
+fn wide(rt: &impl Print, stdin: &mut impl Read, case: Case) {
     let mut coeff = [0i32; 1024];
     let mut out = [7i32; 1040];
-    let count = cases::next_length(STDIN_FILENO, 1024);
-    cases::read_first_wide(STDIN_FILENO, count, &mut coeff);
-    let len = cases::next_length(STDIN_FILENO, 1040);
-    show_wide(case, &coeff[0..count], &mut out[0..len]);
+    let count = cases::next_length(stdin, 1024);
+    cases::read_first_wide(stdin, count, &mut coeff);
+    let len = cases::next_length(stdin, 1040);
+    show_wide(rt, case, &coeff[0..count], &mut out[0..len]);
 }
 
-fn narrow(case: Case) {
+fn narrow(rt: &impl Print, stdin: &mut impl Read, case: Case) {
     let mut coeff = [0i16; 1024];
     let mut out = [7i16; 1040];
-    let count = cases::next_length(STDIN_FILENO, 1024);
-    cases::read_first_narrow(STDIN_FILENO, count, &mut coeff);
-    let len = cases::next_length(STDIN_FILENO, 1040);
-    show_narrow(case, &coeff[0..count], &mut out[0..len]);
+    let count = cases::next_length(stdin, 1024);
+    cases::read_first_narrow(stdin, count, &mut coeff);
+    let len = cases::next_length(stdin, 1040);
+    show_narrow(rt, case, &coeff[0..count], &mut out[0..len]);
 }
 
 // One case; answers whether there was one.
-fn replay() -> bool {
-    if !cases::copy_text(STDIN_FILENO) {
+fn replay(rt: &impl Print, stdin: &mut impl Read) -> bool {
+    if !cases::copy_text(rt, stdin) {
         return false;
     }
-    let which = cases::next_byte(STDIN_FILENO);
-    let n = cases::next_word(STDIN_FILENO);
-    let nx = cases::next_word(STDIN_FILENO);
-    let bit_depth = cases::next_byte(STDIN_FILENO);
+    let which = cases::next_byte(stdin);
+    let n = cases::next_word(stdin);
+    let nx = cases::next_word(stdin);
+    let bit_depth = cases::next_byte(stdin);
     let case = Case {
         which,
         n,
@@ -82,17 +82,18 @@ fn replay() -> bool {
         bit_depth,
     };
     if which < 4 {
-        wide(case);
+        wide(rt, stdin, case);
     } else {
-        narrow(case);
+        narrow(rt, stdin, case);
     }
-    cases::put_end();
+    cases::put_end(rt);
     true
 }
 
-fn main() {
+fn main(rt: HostRuntime) {
+    let mut stdin = rt.stdin();
     let mut turns = u64::MAX;
-    while turns > 0 && replay() {
+    while turns > 0 && replay(&rt, &mut stdin) {
         turns -= 1;
     }
 }

@@ -1,0 +1,35 @@
+// Bytes from a reader to a buffer's end, and bytes and numbers to standard output. Internal: what the programs read and write by.
+// A call that fails counts as one that moved nothing.
+#![tactic(auto)]
+
+ghost use Rattle.std.specs.Prelude.{take};
+ghost use Rattle.std.specs.Counts.{IsPrefixLen};
+ghost use Rattle.std.specs.Io.KnownBytes.{Consumes};
+
+use std::io::Read;
+
+// Writes all bytes; answers whether that could be done. If not, some may have been written.
+pub fn write_all(rt: &impl Print, bytes: &[u8]) -> bool {
+    rt.write_all(bytes).is_ok()
+}
+
+// The number's decimal digits; answers as `write_all`.
+pub fn print_decimal(rt: &impl Print, n: u64) -> bool {
+    rt.print(n).is_ok()
+}
+
+// Reads until the buffer is full, the input ends or a read fails; answers how many bytes stand at the buffer's start.
+pub fn read_full<R: Read>(input: &mut R, buffer: &mut [u8]) -> usize
+    ensures in_bounds { IsPrefixLen result buffer.new }
+    ensures bytes { Consumes (R.remaining input.old) (R.remaining input.new) (take result buffer.new) }
+{
+    let mut done = 0;
+    while done < buffer.len() {
+        match input.read(&mut buffer[done..]) {
+            Ok(0) => break,
+            Ok(n) => done += n,
+            Err(_) => break,
+        }
+    }
+    done
+}
