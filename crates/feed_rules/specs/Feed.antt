@@ -7,7 +7,7 @@
 --   History, in_history          the open block, if there is one; and how it is kept
 --   beginning h                 the state before the first record
 --   feed_text bytes              the text of a whole feed
-use Rattle.std.specs.Prelude.{Bool, true, cond, List, [], ◌∷◌, ◌++◌, ℕ, zero, suc, ◌+◌, eqb, ℤ, length, take, drop}
+use Rattle.std.specs.Prelude.{Bool, cond, List, [], ◌∷◌, ◌++◌, ℕ, zero, suc, ◌+◌, eqb, ℤ, length, take, drop}
 use Rattle.h265.specs.ScalingFactor.{ScalingList}
 use Rattle.h265.specs.ScalingFactor.ScalingList.{flat}
 use Rattle.refusal.specs.declared.Refusal.TheVariants.{BlockMissing}

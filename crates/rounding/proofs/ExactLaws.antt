@@ -11,15 +11,14 @@ use native.Mathlib.Decide.{dec_lt}
 use native.Mathlib.Omega.{arith}
 use borrow.Author.Tests.{le-ltb}
 use lib.Dec.{T}
-use lib.IntN.{ℤ, pos, negsuc, ◌*ℤ◌}
-use lib.Pow.{pow_pos}
+use lib.IntN.{ℤ, pos, ◌*ℤ◌}
 use lib.Signed.{◌≤ℤ◌}
-use Rattle.integers.specs.Shift.{pow2, round_shift, shift_right}
+use Rattle.integers.specs.Shift.{round_shift, shift_right}
 use Rattle.integers.specs.Sum.{sum}
-use Rattle.integers.proofs.LinearLaws.{parts_add, parts_neg, le_out, split, ring, diff_ext}
+use Rattle.integers.proofs.LinearLaws.{split, ring, diff_ext}
 use Rattle.integers.proofs.SumLaws.{sum_cong, sum-none, sum-short}
 use Rattle.h265.specs.Matrix.{trans_matrix, abs_sum}
-use Rattle.h265.specs.Range.{is_size, transform_range, coeff_min, coeff_max, clip_coeff}
+use Rattle.h265.specs.Range.{is_size, transform_range, clip_coeff}
 use Rattle.h265.specs.Transform.{transform_line, block_at, columns_read, stage_one_sum, stage_one_value, stage_two_shift}
 use Rattle.h265.proofs.RangeLaws.{size_cases, transform_range_least, transform_range_depth, clip_coeff_id, outside_range_false, clip_coeff_zero}
 use Rattle.h265.proofs.TransformLaws.{transform_line_cong, columns_read_in}
