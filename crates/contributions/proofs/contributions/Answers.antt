@@ -1,5 +1,4 @@
 -- `contributions::contributions` meets its contract: the refusals are the ladder's, and what passes them meets what the products ask.
-use borrow.Author.Rules.{rules}
 use mathlib.Core.Path.{sym, ap, ◌∙◌}
 use native.Mathlib.Omega.{arith}
 use lib.ListN.{length}
@@ -28,3 +27,8 @@ pub returns : goal.returns
 returns c =
     let a = c.args in
     sample_done a.kind a.n a.row a.column a.coeff.now a.out.now (passed (goal.at.returns c).In_default) c.block_products.ensures
+
+pub returns-in-Refused : goal.returns-in-Refused
+returns-in-Refused c =
+    let a = c.args in
+    sample_refused a.kind a.n a.row a.column a.coeff.now a.out.now c.in-Refused.why (ap answer (sym c.in-Refused.is) ∙ c.sample_refusal-checked.ensures)

@@ -1,16 +1,10 @@
 -- `contributions::matrix::dct_column` meets its contract: the loop has stored the entries of the rows passed.
-use mathlib.Core.Path.{◌≡◌, refl, ◌∙◌}
-use Prim.Native.Nat.{◌+◌, ◌*◌, ◌/◌, ◌-◌, ◌≤◌}
-use native.Mathlib.Omega.{arith}
+use mathlib.Core.Path.{◌≡◌}
+use Prim.Native.Nat.{◌/◌, ◌-◌, ◌≤◌}
 use lib.IntN.{pos}
-use lib.ListN.{get_or, replicate, length-replicate}
-use mir.Syntax.{w16}
-use mir.Val.{SFits}
-use Rattle.integers.proofs.ListsLaws.{Stored, stored_none, stored_more}
-use Rattle.integers.proofs.MachineLaws.{round_trip}
+use lib.ListN.{replicate}
+use Rattle.integers.proofs.ListsLaws.{Stored}
 use Rattle.h265.specs.Matrix.{trans_matrix}
-use Rattle.h265.proofs.RangeLaws.{size_bound}
-use Rattle.contributions.proofs.ColumnLaws.{TablePlace, table_place, table_entry, column_stored}
 use Rattle.contributions.proofs.matrix.dct_column.Given as goal
 
 abbrev pub invariant-loop-k : goal.invariant-loop-k

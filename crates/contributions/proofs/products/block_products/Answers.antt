@@ -1,5 +1,4 @@
 -- `contributions::products::block_products` meets its contract: a kind is the DCT, or the DST, whose size is 4.
-use borrow.Author.Rules.{rules}
 use mathlib.Core.Path.{◌≡◌, ap}
 use Prim.Native.Nat.{ℕ, ◌*◌}
 use native.Mathlib.Omega.{arith}

@@ -1,5 +1,4 @@
 -- `contributions::products::dst_products` meets its contract: the products by two columns of the matrix are the contributions.
-use borrow.Author.Rules.{rules}
 use mathlib.Core.Path.{◌∙◌}
 use Rattle.contributions.proofs.ColumnLaws.{products_are}
 use Rattle.contributions.proofs.products.dst_products.Goals as goal

@@ -1,14 +1,14 @@
 -- `contributions::products::products` meets its contract: the loop has stored the products of the coefficients passed.
 use mir.Syntax.{w64}
 use mathlib.Core.Path.{◌≡◌, refl, ap₂, ◌∙◌}
-use Prim.Native.Nat.{◌*◌, ◌/◌, ◌%◌, ◌-◌, ◌≤◌, ◌<◌}
+use Prim.Native.Nat.{◌/◌, ◌%◌, ◌<◌}
 use native.Mathlib.Omega.{arith}
 use borrow.Author.Rules.{sfits_of}
 use lib.IntN.{pos, ◌*ℤ◌}
 use lib.ListN.{get_or}
 use mir.Syntax.{w16, w32}
 use mir.Val.{SFits}
-use Rattle.integers.proofs.ListsLaws.{Stored, stored_none, stored_more, stored_length, stored_all}
+use Rattle.integers.proofs.ListsLaws.{stored_none, stored_more, stored_length, stored_all}
 use Rattle.integers.proofs.MachineLaws.{round_trip}
 use Rattle.h265.specs.Transform.{row_order}
 use Rattle.h265.proofs.RangeLaws.{size_bound, size_square}

@@ -1,19 +1,9 @@
 -- `contributions::products::products` meets its contract: the loop has stored the products of the coefficients passed.
-use mathlib.Core.Path.{◌≡◌, refl, ap₂, ◌∙◌}
-use Prim.Native.Nat.{◌*◌, ◌/◌, ◌%◌, ◌-◌, ◌≤◌, ◌<◌}
-use native.Mathlib.Omega.{arith}
-use borrow.Author.Rules.{sfits_of}
-use lib.IntN.{pos, ◌*ℤ◌}
-use lib.ListN.{get_or}
-use mir.Syntax.{w16, w32}
-use mir.Val.{SFits}
-use Rattle.integers.proofs.ListsLaws.{Stored, stored_none, stored_more, stored_length, stored_all}
-use Rattle.integers.proofs.MachineLaws.{round_trip}
+use mathlib.Core.Path.{◌≡◌}
+use Prim.Native.Nat.{◌*◌, ◌-◌, ◌≤◌}
+use Rattle.integers.proofs.ListsLaws.{Stored}
 use Rattle.h265.specs.Transform.{row_order}
-use Rattle.h265.proofs.RangeLaws.{size_bound, size_square}
-use Rattle.h265.proofs.TransformLaws.{cell_row, cell_column}
 use Rattle.contributions.specs.Work.{product_of}
-use Rattle.contributions.proofs.ColumnLaws.{product_at}
 use Rattle.contributions.proofs.products.products.Given as goal
 
 abbrev pub invariant-loop-i : goal.invariant-loop-i
