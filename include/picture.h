@@ -1,4 +1,4 @@
-/* Rebuilt samples and the picture checksum for C: what the archive of the crate c_api defines beside include/residual.h, on x86-64.
+/* Rebuilt samples and the picture checksum for C: what the archive of the crate c_api_c defines beside include/residual.h, on x86-64.
  *
  * Answers, buffers and state are as residual.h says: a refused call changes nothing, a buffer is a pointer that is not null with its number of elements, a call
  * keeps no state, and a plane that a call writes overlaps no other buffer of that call. Row and column name a coefficient: here they are 0.

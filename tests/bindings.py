@@ -89,7 +89,7 @@ def compare(header):
     versions = {"bindings/rust/Cargo.toml": re.search(r'^version = "(.*)"', pathlib.Path("bindings/rust/Cargo.toml").read_text(), re.M)[1]}
     number = int(re.search(r"^#define RESIDUAL_VERSION_NUMBER (\d+)", pathlib.Path("include/residual_refusals.h").read_text(), re.M)[1])
     versions["RESIDUAL_VERSION_NUMBER"] = f"{number // 10000}.{number // 100 % 100}.{number % 100}"
-    proved = int(re.search(r"\br ≡ (\d+) ⌝", pathlib.Path("crates/c_api/src/version.rt").read_text(encoding="utf-8"))[1])
+    proved = int(re.search(r"\bresult ≡ (\d+) \}", pathlib.Path("crates/c_api/src/version.rt").read_text(encoding="utf-8"))[1])
     versions["crates/c_api/src/version.rt"] = f"{proved // 10000}.{proved // 100 % 100}.{proved % 100}"
     versions["CHANGELOG.md"] = re.search(r"^## ([0-9.]+)", pathlib.Path("CHANGELOG.md").read_text(encoding="utf-8"), re.M)[1]
     for where, version in versions.items():

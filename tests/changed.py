@@ -11,7 +11,8 @@ def git(*words):
 
 def dependencies(text):
     lines = (line.split("#")[0] for line in text.split("\n"))
-    return {name.strip(): rest.split() for name, _, rest in (line.partition(":") for line in lines) if name.strip()}
+    # behind a name may stand what is made of it, as `staticlib`
+    return {head.split()[0]: rest.split() for head, _, rest in (line.partition(":") for line in lines) if head.strip()}
 
 
 def main():

@@ -233,14 +233,18 @@ RT = """#!/bin/sh
 # a stand-in for rt: it says what rt says, and builds a program that answers
 case $1 in
 version) echo another kit ;;
-check)
-    echo 'rt: integers proved (unchanged since it was last proved)'
-    echo 'rt: h265 proved (2 s)'
-    [ ! -f fail ] || { echo 'rt: feed_main NOT PROVED (exit 1, 3 s)'; exit 1; }
-    mkdir -p target/bin
-    printf '#!/bin/sh\\ncat > /dev/null\\necho blocks 0\\n' > target/bin/feed_main
-    chmod +x target/bin/feed_main
-    echo 'rt: feed_main proved (3 s)' ;;
+run)
+    echo 'rt: chose --jobs 2 for integers'
+    echo 'logic=proved functions=4 sum=0'
+    echo 'rt: chose --jobs 2 for h265'
+    echo 'logic=proved functions=2 sum=0'
+    echo 'rt: chose --jobs 2 for feed_main'
+    [ ! -f ../../fail ] || { echo 'logic=not-proved'; exit 1; }
+    mkdir -p out
+    printf '#!/bin/sh\\ncat > /dev/null\\necho blocks 0\\n' > out/feed_main
+    chmod +x out/feed_main
+    echo 'logic=proved functions=1 sum=0'
+    echo 'rt: running out/feed_main; to give it other input, run that file yourself' ;;
 esac
 """
 
@@ -252,7 +256,7 @@ def building():
     for name in ("foxentu", "crates.txt", "KIT"):
         shutil.copy(ROOT / name, clone / name)
     for name in ("bindings/python", "include", "crates/feed_main"):
-        shutil.copytree(ROOT / name, clone / name, ignore=shutil.ignore_patterns("__pycache__"))
+        shutil.copytree(ROOT / name, clone / name, ignore=shutil.ignore_patterns("__pycache__", "out"))
     tools = room / "tools"
     tools.mkdir()
     for name in ("python3", "sh", "env", "cat", "mkdir", "chmod"):
@@ -264,7 +268,7 @@ def building():
     (tools / "rt").write_text(RT)
     (tools / "rt").chmod(0o755)
     (clone / "fail").touch()
-    expect("a build that fails", run(), 2, "", "rt check feed_main ended with status 1; target/foxentu/feed_main.log has all it said")
+    expect("a build that fails", run(), 2, "", "rt run in crates/feed_main ended with status 1; target/foxentu/feed_main.log has all it said")
     (clone / "fail").unlink()
     first = run()
     expect("the first use", first, 0, "blocks 0\n", "feed_main is proved and built, in")

@@ -16,9 +16,10 @@ def crates():
     listed = {}
     for line in pathlib.Path("crates.txt").read_text().split("\n"):
         body, _, note = line.partition("#")
-        name, colon, on = body.partition(":")
+        head, colon, on = body.partition(":")
         if colon:
-            listed[name.strip()] = (on.split(), note.strip())
+            # behind a name may stand what is made of it, as `staticlib`
+            listed[head.split()[0]] = (on.split(), note.strip())
     return {name: ([on for on in builds if on in listed], note) for name, (builds, note) in listed.items()}
 
 

@@ -11,14 +11,20 @@ import same_laws
 # public only so that the crates above can call them; docs/ARCHITECTURE.md says so
 INTERNAL = {"integers", "coefficients", "scaling_values", "scaling_blocks", "block_tool_work", "list_places", "bits", "bits_written", "diagonal", "scaling_lists_put", "transform_1d", "lines", "lines_16", "lines_32", "lines_quarter", "tiles", "tiles_32", "tiles_quarter", "wide_parts", "tiles_wide", "lines_wide", "stages", "stages_wide", "transform_blocks", "block_work", "level_work", "edited_steps", "edit_values", "edit_tables", "edit_blocks", "text", "feed_format", "feed_lines", "feed_state", "feed_block", "feed_records", "scale_trace_block", "scaling_lists_codes", "scaling_lists_taken", "planes"}
 
-# each function calls one entry point and cites its definition, so that entry point's edits stand for it too
-WRAPPERS = {"c_api"}
+# each function calls one entry point and cites its definition, so that entry point's edits stand for it too; c_api_c has the same functions as exports
+WRAPPERS = {"c_api", "c_api_c"}
 
-# what the programs share, no part of the library: they read and write, of which contracts say little
+# what the programs share, no part of the library: it reads and writes, of which no contract can speak but for what a reader's bytes become
 SUPPORT = {"streams", "cases"}
 
 # how many statements stand under two names, as tests/same_laws.py counts them: it only goes down
 SAME_LAWS = 0
+
+# what is written of the proof of one function
+PROOFS = {"Invariants.antt", "Answers.antt", "Proof.antt"}
+
+# a path into the proofs of a crate; some definitions of std, as SFits and paste, stand in its proofs/
+OWN_PROOFS = re.compile(r"\bRattle\.(?!std\.)\w+\.proofs\.")
 
 # in halves, so that the rule does not find itself
 MARKS = re.compile(r"\b(" + "|".join(("TO" "DO", "FIX" "ME", "X" "XX")) + r")\b")
@@ -38,7 +44,7 @@ def tracked():
 def heads(text):
     """Each public function of a Rattle file, with the words that begin its clauses."""
     text = re.sub(r"//[^\n]*", "", text)
-    clause = re.compile(r"\b(requires|ensures|ghost)\b(?:\s+\w+)?\s*\{|\{")
+    clause = re.compile(r"\b(requires|ensures|ghost)\b\*?(?:\s+\w+)?(?:\s*:)?\s*\{|\{")
     for fn in re.finditer(r"\bpub (?:extern \"C\" )?fn (\w+)", text):
         at, words = fn.end(), []
         while True:
@@ -58,7 +64,7 @@ def crate_rules():
     for line in pathlib.Path("crates.txt").read_text().split("\n"):
         line = line.split("#")[0].strip()
         if line:
-            listed.add(line.split(":")[0].strip())
+            listed.add(line.split(":")[0].split()[0])
     for folder in sorted(p for p in pathlib.Path("crates").iterdir() if p.is_dir()):
         if folder.name not in listed:
             say("a crate folder that crates.txt does not list", folder)
@@ -66,7 +72,7 @@ def crate_rules():
         if not (folder / "src" / "lib.rt").exists() or folder.name in SUPPORT:
             continue
         for source in sorted((folder / "src").rglob("*.rt")):
-            # tests/archive would take the module for the crate
+            # a path would not say which of the two it means
             if source.stem in listed:
                 say("a module named like a crate", source)
             for name, words in heads(source.read_text()):
@@ -106,13 +112,13 @@ def text_rules(files):
                 say("a path of one machine", where)
             if MARKS.search(line):
                 say("a left-over mark", where)
-            if "specs" in path.parts and ".proofs." in line and path.suffix == ".antt":
+            if "specs" in path.parts and path.suffix == ".antt" and OWN_PROOFS.search(line):
                 say("proofs cited inside specs/", where)
-            if path.suffix == ".rt" and re.match(r"\s*ghost use .*\.proofs\.", line):
+            if path.suffix == ".rt" and re.match(r"\s*ghost use ", line) and OWN_PROOFS.search(line):
                 say("a clause that cites proofs", where)
-            if path.name == "Proof.antt" and re.search(r" as (reads|lts|\S+-reads)$", line):
+            if path.name in PROOFS and re.search(r" as (reads|lts|\S+-reads)$", line):
                 say("a line that the check printed, left in a finished proof", where)
-        if path.name == "Proof.antt" and not text.startswith("-- `"):
+        if path.name in PROOFS and "proofs" in path.parts and not text.startswith("-- `"):
             say("a proof that does not begin with its function", path)
 
 

@@ -1,4 +1,4 @@
-//! The archive of `rt staticlib c_api`, by the declarations of the crate in bindings/rust, which are those of the headers. A slice is a pointer and a length.
+//! The archive of `c_api_c`, by the declarations of the crate in bindings/rust, which are those of the headers. A slice is a pointer and a length.
 //! A group of functions is left out (`cfg`) where the archive does not have it yet; `harness/build` looks.
 
 #[path = "../../bindings/rust/src/ffi.rs"]

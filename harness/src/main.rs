@@ -1,4 +1,4 @@
-//! Compares the archive of the crate c_api with the Rust that was ported, on every exported function; the functions of pictures, of scaling lists, of tables of them, of the block tools, of the searches for levels and for edits, of the contributions and of the rounding bound, which were not ported, with a plain writing of their rules.
+//! Compares the archive of the crate c_api_c with the Rust that was ported, on every exported function; the functions of pictures, of scaling lists, of tables of them, of the block tools, of the searches for levels and for edits, of the contributions and of the rounding bound, which were not ported, with a plain writing of their rules.
 #![cfg_attr(not(all(has_contributions, has_scaling, has_transform, has_edits, has_lists, has_picture, has_rounding, has_search, has_tables, has_tools)), allow(dead_code, unused_mut))]
 mod archive;
 mod blocks;

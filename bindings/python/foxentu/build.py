@@ -1,5 +1,7 @@
 """Builds the proved programs and the archive by `rt`, once, and knows when they are still those of the sources.
 
+`rt` leaves what it builds in crates/NAME/out; it is copied to target/, where nothing but a build of this module and tests/run writes.
+
 Where FOXENTU_BIN names a folder of programs, or FOXENTU_ARCHIVE an archive, that is taken as it is and nothing is built.
 """
 import fcntl
@@ -37,7 +39,8 @@ def program(name):
         if not path.is_file():
             raise BuildError(f"FOXENTU_BIN is {folder}, and there is no {name} in it")
         return path
-    return _built(name, ROOT / "target" / "bin" / name, ["check", name])
+    # rt builds a program by running it, here on no input
+    return _built(name, ROOT / "target" / "bin" / name, ["run"], name)
 
 
 def archive():
@@ -47,7 +50,7 @@ def archive():
         if not pathlib.Path(given).is_file():
             raise BuildError(f"FOXENTU_ARCHIVE is {given}, and there is no such file")
         return pathlib.Path(given)
-    return _built("c_api", ARCHIVE, ["staticlib", "c_api"])
+    return _built("c_api_c", ARCHIVE, ["lib"], "libc_api_c.a")
 
 
 # ---- crates
@@ -55,9 +58,10 @@ def crates():
     """What each crate of crates.txt builds on."""
     listed = {}
     for line in (ROOT / "crates.txt").read_text(encoding="utf-8").splitlines():
-        name, colon, rest = line.split("#")[0].partition(":")
+        head, colon, rest = line.split("#")[0].partition(":")
         if colon:
-            listed[name.strip()] = rest.split()
+            # behind a name may stand what is made of it, as `staticlib`
+            listed[head.split()[0]] = rest.split()
     return listed
 
 
@@ -149,7 +153,7 @@ def kit_message():
 
 
 # ---- the build itself
-def _built(name, product, words):
+def _built(name, product, words, made):
     if not (ROOT / "crates.txt").is_file():
         raise BuildError(f"there are no sources at {ROOT}; FOXENTU_BIN and FOXENTU_ARCHIVE name what is built already")
     KEPT.mkdir(parents=True, exist_ok=True)
@@ -162,11 +166,11 @@ def _built(name, product, words):
             note("another build is under way; waiting for it")
             fcntl.flock(lock, fcntl.LOCK_EX)
         if not _is_fresh(name, product):
-            _make(name, product, words)
+            _make(name, product, words, made)
     return product
 
 
-def _make(name, product, words):
+def _make(name, product, words, made):
     message = kit_message()
     if kit() is None:
         raise BuildError(message)
@@ -178,13 +182,14 @@ def _make(name, product, words):
     shown = Progress(count, begun)
     log = KEPT / f"{name}.log"
     with open(log, "w") as whole:
-        process = subprocess.Popen(["rt", *words], cwd=ROOT, stdout=subprocess.PIPE, stderr=subprocess.STDOUT, text=True, errors="replace")
+        folder = ROOT / "crates" / name
+        process = subprocess.Popen(["rt", *words], cwd=folder, stdin=subprocess.DEVNULL, stdout=subprocess.PIPE, stderr=subprocess.STDOUT, text=True, errors="replace")
         try:
             for line in process.stdout:
                 whole.write(line)
                 whole.flush()
                 last = (last + [line.rstrip()])[-12:]
-                shown.line(line)
+                shown.line(line.rstrip())
             status = process.wait()
         except BaseException:
             process.terminate()
@@ -192,8 +197,12 @@ def _make(name, product, words):
             raise
         finally:
             shown.end()
-    if status != 0 or not product.is_file():
-        raise BuildError("\n".join(last + [f"rt {' '.join(words)} ended with status {status}; {log.relative_to(ROOT)} has all it said"]))
+    if status != 0 or not (folder / "out" / made).is_file():
+        raise BuildError("\n".join(last + [f"rt {' '.join(words)} in crates/{name} ended with status {status}; {log.relative_to(ROOT)} has all it said"]))
+    product.parent.mkdir(parents=True, exist_ok=True)
+    # in two steps, since the old one may be running
+    shutil.copy(folder / "out" / made, f"{product}.new")
+    os.replace(f"{product}.new", product)
     _keep(name, product)
     note(f"{name} is proved and built, in {time.monotonic() - begun:.0f} s")
 
@@ -203,16 +212,20 @@ class Progress:
 
     def __init__(self, count, begun):
         self.count, self.begun, self.done, self.moving = count, begun, 0, sys.stderr is not None and sys.stderr.isatty()
+        self.name = None
 
     def line(self, text):
-        found = re.match(r"rt: (\w+) (proved|NOT PROVED)", text)
-        if not found or sys.stderr is None:
+        began = re.match(r"rt: chose --jobs \d+ for (\w+)$", text)
+        if began:
+            self.name = began[1]
+        ended = re.match(r"logic=(proved|not-proved)\b", text)
+        if not ended or not self.name or sys.stderr is None:
             return
         self.done += 1
-        told = f"foxentu: crate {min(self.done, self.count)} of {self.count}: {found[1]} {found[2]}, {time.monotonic() - self.begun:.0f} s"
+        told = f"foxentu: crate {min(self.done, self.count)} of {self.count}: {self.name} {ended[1]}, {time.monotonic() - self.begun:.0f} s"
         if self.moving:
             sys.stderr.write(f"\r{told:<79}")
-        elif "unchanged" not in text:
+        else:
             sys.stderr.write(told + "\n")
         sys.stderr.flush()
 

@@ -136,8 +136,7 @@ fn level_edit_answered(given: LimitsAnswer, block: EditedBlock) -> LevelEditAnsw
 }
 
 // Opens a block on coefficients: writes its intermediate and its residual.
-#[unsafe(no_mangle)]
-pub extern "C" fn residual_open_block(
+pub fn residual_open_block(
     dst: bool,
     n: usize,
     bit_depth: u8,
@@ -163,8 +162,7 @@ pub extern "C" fn residual_open_block(
 }
 
 // Opens a block on levels without a list: writes its coefficients, its intermediate and its residual.
-#[unsafe(no_mangle)]
-pub extern "C" fn residual_open_levels(
+pub fn residual_open_levels(
     dst: bool,
     n: usize,
     bit_depth: u8,
@@ -194,8 +192,7 @@ pub extern "C" fn residual_open_levels(
 }
 
 // The same with a list, which the record keeps.
-#[unsafe(no_mangle)]
-pub extern "C" fn residual_open_levels_scaled(
+pub fn residual_open_levels_scaled(
     dst: bool,
     n: usize,
     bit_depth: u8,
@@ -229,8 +226,7 @@ pub extern "C" fn residual_open_levels_scaled(
 }
 
 // One edit of a coefficient; a refused one hands back the record that it was given.
-#[unsafe(no_mangle)]
-pub extern "C" fn residual_edit(
+pub fn residual_edit(
     block: Block,
     coeff: &mut [i32],
     inter: &mut [i32],
@@ -249,8 +245,7 @@ pub extern "C" fn residual_edit(
 }
 
 // One edit of a level of a block that was opened on levels.
-#[unsafe(no_mangle)]
-pub extern "C" fn residual_edit_level(
+pub fn residual_edit_level(
     block: Block,
     levels: &mut [i32],
     coeff: &mut [i32],
@@ -292,8 +287,7 @@ fn list_answered(l: Listed) -> ListAnswered
 // Opens a block on coefficients and makes a list of edits, of levels where ways has true; each edit's answer goes to numbers, and the row and column
 // that it names to named and across; limits gets 1 where the level was limited, 2 where the result was, 3 where both were. The list is as long as the
 // shortest of the eight slices.
-#[unsafe(no_mangle)]
-pub extern "C" fn residual_open_and_edit(
+pub fn residual_open_and_edit(
     dst: bool,
     n: usize,
     bit_depth: u8,
@@ -335,8 +329,7 @@ pub extern "C" fn residual_open_and_edit(
 }
 
 // The same of a block that is opened on levels without a list.
-#[unsafe(no_mangle)]
-pub extern "C" fn residual_open_levels_and_edit(
+pub fn residual_open_levels_and_edit(
     dst: bool,
     n: usize,
     bit_depth: u8,
@@ -380,8 +373,7 @@ pub extern "C" fn residual_open_levels_and_edit(
 }
 
 // The same of a block that is opened on levels with a list.
-#[unsafe(no_mangle)]
-pub extern "C" fn residual_open_levels_scaled_and_edit(
+pub fn residual_open_levels_scaled_and_edit(
     dst: bool,
     n: usize,
     bit_depth: u8,
@@ -429,8 +421,7 @@ pub extern "C" fn residual_open_levels_scaled_and_edit(
 }
 
 // The residual of an intermediate: stage two alone.
-#[unsafe(no_mangle)]
-pub extern "C" fn residual_refresh_residual(
+pub fn residual_refresh_residual(
     dst: bool,
     n: usize,
     bit_depth: u8,

@@ -19,30 +19,26 @@ fn ran_answered(ran: Ran) -> FeedRan
     }
 }
 
-#[unsafe(no_mangle)]
-pub extern "C" fn residual_feed_room(bytes: &[u8]) -> usize
+pub fn residual_feed_room(bytes: &[u8]) -> usize
     ensures { result ≡ min (feed_room bytes.now) 18446744073709551615 }
 {
     feed::feed_room(bytes)
 }
 
-#[unsafe(no_mangle)]
-pub extern "C" fn residual_feed_run(bytes: &[u8], text: &mut [u8]) -> FeedRan
+pub fn residual_feed_run(bytes: &[u8], text: &mut [u8]) -> FeedRan
     ensures { RunsTo result text.old text.new bytes.now }
 {
     let ran = feed::run(bytes, text);
     ran_answered(ran)
 }
 
-#[unsafe(no_mangle)]
-pub extern "C" fn residual_listing_room(bytes: &[u8]) -> usize
+pub fn residual_listing_room(bytes: &[u8]) -> usize
     ensures { result ≡ min (listing_room bytes.now) 18446744073709551615 }
 {
     scale_trace::listing_room(bytes)
 }
 
-#[unsafe(no_mangle)]
-pub extern "C" fn residual_listing_run(bytes: &[u8], text: &mut [u8]) -> FeedRan
+pub fn residual_listing_run(bytes: &[u8], text: &mut [u8]) -> FeedRan
     ensures { ListsTo result text.old text.new bytes.now }
 {
     let ran = scale_trace::run(bytes, text);

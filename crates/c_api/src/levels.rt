@@ -11,21 +11,14 @@ use crate::{CountAnswered, LevelAnswered, NumberAnswered, answers};
 use parameters::QpPrime;
 
 // m at an index of a block.
-#[unsafe(no_mangle)]
-pub extern "C" fn residual_scaling_coeff(
-    list: &[u8],
-    dc: u8,
-    n: usize,
-    index: usize,
-) -> NumberAnswered
+pub fn residual_scaling_coeff(list: &[u8], dc: u8, n: usize, index: usize) -> NumberAnswered
     ensures { of_number result ≡ scaling_coeff list.now dc n index }
 {
     answers::factor_answered(scaling::scaling_coeff(list, dc, n, index))
 }
 
 // One level of a block, scaled: its coefficient, whether the level was limited, and whether the result was.
-#[unsafe(no_mangle)]
-pub extern "C" fn residual_scale_level(
+pub fn residual_scale_level(
     level: i32,
     m: u8,
     n: usize,
@@ -41,8 +34,7 @@ pub extern "C" fn residual_scale_level(
 }
 
 // The coefficients of a block without a list, 32-bit, and how many were limited.
-#[unsafe(no_mangle)]
-pub extern "C" fn residual_dequantize_into_scalar_i32(
+pub fn residual_dequantize_into_scalar_i32(
     levels: &[i32],
     n: usize,
     qp_prime: i32,
@@ -64,8 +56,7 @@ pub extern "C" fn residual_dequantize_into_scalar_i32(
 }
 
 // The coefficients of a block with a list, 32-bit, and how many were limited.
-#[unsafe(no_mangle)]
-pub extern "C" fn residual_dequantize_scaled_into_scalar_i32(
+pub fn residual_dequantize_scaled_into_scalar_i32(
     levels: &[i32],
     n: usize,
     qp_prime: i32,
@@ -91,8 +82,7 @@ pub extern "C" fn residual_dequantize_scaled_into_scalar_i32(
 }
 
 // The residuals of a block without a list, 32-bit, and how many coefficients were limited.
-#[unsafe(no_mangle)]
-pub extern "C" fn residual_dequantize_transform_skip_into_scalar_i32(
+pub fn residual_dequantize_transform_skip_into_scalar_i32(
     levels: &[i32],
     n: usize,
     qp_prime: i32,
@@ -114,8 +104,7 @@ pub extern "C" fn residual_dequantize_transform_skip_into_scalar_i32(
 }
 
 // The residuals of a block with a list, 32-bit, and how many coefficients were limited.
-#[unsafe(no_mangle)]
-pub extern "C" fn residual_dequantize_transform_skip_scaled_into_scalar_i32(
+pub fn residual_dequantize_transform_skip_scaled_into_scalar_i32(
     levels: &[i32],
     n: usize,
     qp_prime: i32,
@@ -141,8 +130,7 @@ pub extern "C" fn residual_dequantize_transform_skip_scaled_into_scalar_i32(
 }
 
 // The coefficients of a block without a list, 16-bit, and how many were limited.
-#[unsafe(no_mangle)]
-pub extern "C" fn residual_dequantize_into_scalar_i16(
+pub fn residual_dequantize_into_scalar_i16(
     levels: &[i32],
     n: usize,
     qp_prime: i32,
@@ -164,8 +152,7 @@ pub extern "C" fn residual_dequantize_into_scalar_i16(
 }
 
 // The coefficients of a block with a list, 16-bit, and how many were limited.
-#[unsafe(no_mangle)]
-pub extern "C" fn residual_dequantize_scaled_into_scalar_i16(
+pub fn residual_dequantize_scaled_into_scalar_i16(
     levels: &[i32],
     n: usize,
     qp_prime: i32,
@@ -191,8 +178,7 @@ pub extern "C" fn residual_dequantize_scaled_into_scalar_i16(
 }
 
 // The residuals of a block without a list, 16-bit, and how many coefficients were limited.
-#[unsafe(no_mangle)]
-pub extern "C" fn residual_dequantize_transform_skip_into_scalar_i16(
+pub fn residual_dequantize_transform_skip_into_scalar_i16(
     levels: &[i32],
     n: usize,
     qp_prime: i32,
@@ -214,8 +200,7 @@ pub extern "C" fn residual_dequantize_transform_skip_into_scalar_i16(
 }
 
 // The residuals of a block with a list, 16-bit, and how many coefficients were limited.
-#[unsafe(no_mangle)]
-pub extern "C" fn residual_dequantize_transform_skip_scaled_into_scalar_i16(
+pub fn residual_dequantize_transform_skip_scaled_into_scalar_i16(
     levels: &[i32],
     n: usize,
     qp_prime: i32,

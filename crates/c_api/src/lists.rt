@@ -7,8 +7,7 @@ ghost use Rattle.c_api.specs.Lists.{Reads, Writes};
 use crate::{BitsAnswered, answers};
 
 // The 20 lists of scaling list data, and their DC numbers.
-#[unsafe(no_mangle)]
-pub extern "C" fn residual_read_scaling_lists(
+pub fn residual_read_scaling_lists(
     bytes: &[u8],
     default_4x4: &[u8],
     default_intra: &[u8],
@@ -30,8 +29,7 @@ pub extern "C" fn residual_read_scaling_lists(
 }
 
 // 20 lists and their DC numbers as scaling list data.
-#[unsafe(no_mangle)]
-pub extern "C" fn residual_write_scaling_lists(
+pub fn residual_write_scaling_lists(
     lists: &[u8],
     dcs: &[u8],
     default_4x4: &[u8],

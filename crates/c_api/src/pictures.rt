@@ -8,8 +8,7 @@ ghost use Rattle.c_api.specs.Pictures.{Rebuilds};
 use crate::{Answered, NumberAnswered, answers};
 
 // The samples of a block, put into a plane.
-#[unsafe(no_mangle)]
-pub extern "C" fn picture_rebuild_block(
+pub fn picture_rebuild_block(
     n: usize,
     bit_depth: u8,
     residual: &[i32],
@@ -30,8 +29,7 @@ pub extern "C" fn picture_rebuild_block(
 }
 
 // The checksum of the picture in a plane.
-#[unsafe(no_mangle)]
-pub extern "C" fn picture_checksum(
+pub fn picture_checksum(
     width: usize,
     height: usize,
     stride: usize,

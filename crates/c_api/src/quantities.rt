@@ -11,8 +11,7 @@ use crate::{
 use parameters::{Qp, QpPrime};
 
 // R: coefficients lie in -2^R .. 2^R - 1.
-#[unsafe(no_mangle)]
-pub extern "C" fn residual_max_log2_transform_dynamic_range(
+pub fn residual_max_log2_transform_dynamic_range(
     bit_depth: u8,
     extended_precision: bool,
 ) -> NumberAnswered
@@ -23,24 +22,21 @@ pub extern "C" fn residual_max_log2_transform_dynamic_range(
 }
 
 // What QP' is above QP.
-#[unsafe(no_mangle)]
-pub extern "C" fn residual_qp_bd_offset(bit_depth: u8) -> NumberAnswered
+pub fn residual_qp_bd_offset(bit_depth: u8) -> NumberAnswered
     ensures { of_number result ≡ qp_bd_offset_of bit_depth }
 {
     answers::number_answered(parameters::qp_bd_offset(bit_depth))
 }
 
 // QP' of any 32-bit QP.
-#[unsafe(no_mangle)]
-pub extern "C" fn residual_qp_prime(qp: i32, bit_depth: u8) -> SignedAnswered
+pub fn residual_qp_prime(qp: i32, bit_depth: u8) -> SignedAnswered
     ensures { of_qp_prime result ≡ qp_prime_of qp bit_depth }
 {
     answers::qp_prime_answered(parameters::qp_prime(Qp(qp), bit_depth))
 }
 
 // The numbers by which a block of a size is scaled.
-#[unsafe(no_mangle)]
-pub extern "C" fn residual_dequant_params(
+pub fn residual_dequant_params(
     n: usize,
     qp_prime: i32,
     bit_depth: u8,
@@ -54,8 +50,7 @@ pub extern "C" fn residual_dequant_params(
 }
 
 // The same, with the shift of transform skip and its rounding.
-#[unsafe(no_mangle)]
-pub extern "C" fn residual_transform_skip_params(
+pub fn residual_transform_skip_params(
     n: usize,
     qp_prime: i32,
     bit_depth: u8,
@@ -69,8 +64,7 @@ pub extern "C" fn residual_transform_skip_params(
 }
 
 // By how much 2^(7 + s2) times a residual may differ from the exact product, where no stage-one value was limited.
-#[unsafe(no_mangle)]
-pub extern "C" fn residual_rounding_bound(
+pub fn residual_rounding_bound(
     dst: bool,
     n: usize,
     bit_depth: u8,

@@ -11,8 +11,7 @@ use crate::{Answered, answers, edits};
 use parameters::QpPrime;
 
 // The least and the most value of each coefficient.
-#[unsafe(no_mangle)]
-pub extern "C" fn residual_find_edits(
+pub fn residual_find_edits(
     dst: bool,
     n: usize,
     bit_depth: u8,
@@ -40,8 +39,7 @@ pub extern "C" fn residual_find_edits(
 }
 
 // The least and the most of each level.
-#[unsafe(no_mangle)]
-pub extern "C" fn residual_find_level_edits(
+pub fn residual_find_level_edits(
     dst: bool,
     n: usize,
     qp_prime: i32,
@@ -71,8 +69,7 @@ pub extern "C" fn residual_find_level_edits(
 }
 
 // The same with a list.
-#[unsafe(no_mangle)]
-pub extern "C" fn residual_find_level_edits_scaled(
+pub fn residual_find_level_edits_scaled(
     dst: bool,
     n: usize,
     qp_prime: i32,
@@ -106,8 +103,7 @@ pub extern "C" fn residual_find_level_edits_scaled(
 }
 
 // What each coefficient adds to one sample.
-#[unsafe(no_mangle)]
-pub extern "C" fn residual_contributions(
+pub fn residual_contributions(
     dst: bool,
     n: usize,
     row: usize,

@@ -11,29 +11,21 @@ use crate::{Answered, CountAnswered, NumberAnswered, StoreAnswered, answers};
 use parameters::QpPrime;
 
 // Stores a list and its DC under the lowest free number of a stream.
-#[unsafe(no_mangle)]
-pub extern "C" fn residual_store_list(
-    table: &mut [u8],
-    stream: usize,
-    list: &[u8],
-    dc: u8,
-) -> StoreAnswered
+pub fn residual_store_list(table: &mut [u8], stream: usize, list: &[u8], dc: u8) -> StoreAnswered
     ensures { Stores result table.new table.old stream list.now dc }
 {
     answers::store_answered(list_table::store_list(table, stream, list, dc))
 }
 
 // Frees a number of a stream.
-#[unsafe(no_mangle)]
-pub extern "C" fn residual_drop_list(table: &mut [u8], stream: usize, number: usize) -> Answered
+pub fn residual_drop_list(table: &mut [u8], stream: usize, number: usize) -> Answered
     ensures { Drops result table.new table.old stream number }
 {
     answers::answered(list_table::drop_list(table, stream, number))
 }
 
 // The list and the DC of a number.
-#[unsafe(no_mangle)]
-pub extern "C" fn residual_list_at(
+pub fn residual_list_at(
     table: &[u8],
     stream: usize,
     number: usize,
@@ -45,8 +37,7 @@ pub extern "C" fn residual_list_at(
 }
 
 // The coefficients of a block with the list of a number, 32-bit.
-#[unsafe(no_mangle)]
-pub extern "C" fn residual_dequantize_by_number_i32(
+pub fn residual_dequantize_by_number_i32(
     table: &[u8],
     stream: usize,
     number: usize,
@@ -74,8 +65,7 @@ pub extern "C" fn residual_dequantize_by_number_i32(
 }
 
 // The coefficients of a block with the list of a number, 16-bit.
-#[unsafe(no_mangle)]
-pub extern "C" fn residual_dequantize_by_number_i16(
+pub fn residual_dequantize_by_number_i16(
     table: &[u8],
     stream: usize,
     number: usize,
@@ -103,8 +93,7 @@ pub extern "C" fn residual_dequantize_by_number_i16(
 }
 
 // The residuals of a block with the list of a number, 32-bit.
-#[unsafe(no_mangle)]
-pub extern "C" fn residual_dequantize_transform_skip_by_number_i32(
+pub fn residual_dequantize_transform_skip_by_number_i32(
     table: &[u8],
     stream: usize,
     number: usize,
@@ -132,8 +121,7 @@ pub extern "C" fn residual_dequantize_transform_skip_by_number_i32(
 }
 
 // The residuals of a block with the list of a number, 16-bit.
-#[unsafe(no_mangle)]
-pub extern "C" fn residual_dequantize_transform_skip_by_number_i16(
+pub fn residual_dequantize_transform_skip_by_number_i16(
     table: &[u8],
     stream: usize,
     number: usize,

@@ -21,8 +21,7 @@ fn accumulate_of(accumulate: u8) -> Accumulate
 }
 
 // The residuals of transform skip without a list, rotated and accumulated.
-#[unsafe(no_mangle)]
-pub extern "C" fn residual_transform_skip_residual(
+pub fn residual_transform_skip_residual(
     levels: &[i32],
     n: usize,
     qp_prime: i32,
@@ -48,8 +47,7 @@ pub extern "C" fn residual_transform_skip_residual(
 }
 
 // The same with a list.
-#[unsafe(no_mangle)]
-pub extern "C" fn residual_transform_skip_scaled_residual(
+pub fn residual_transform_skip_scaled_residual(
     levels: &[i32],
     n: usize,
     qp_prime: i32,
@@ -79,8 +77,7 @@ pub extern "C" fn residual_transform_skip_scaled_residual(
 }
 
 // Levels that are the residual, rotated and accumulated.
-#[unsafe(no_mangle)]
-pub extern "C" fn residual_bypass_residual(
+pub fn residual_bypass_residual(
     levels: &[i32],
     n: usize,
     bit_depth: u8,
@@ -104,8 +101,7 @@ pub extern "C" fn residual_bypass_residual(
 }
 
 // The levels that give the coefficients of a block without a list.
-#[unsafe(no_mangle)]
-pub extern "C" fn residual_find_levels(
+pub fn residual_find_levels(
     coeff: &[i32],
     n: usize,
     qp_prime: i32,
@@ -127,8 +123,7 @@ pub extern "C" fn residual_find_levels(
 }
 
 // The same with a list.
-#[unsafe(no_mangle)]
-pub extern "C" fn residual_find_levels_scaled(
+pub fn residual_find_levels_scaled(
     coeff: &[i32],
     n: usize,
     qp_prime: i32,

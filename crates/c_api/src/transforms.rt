@@ -7,8 +7,7 @@ ghost use Rattle.c_api.specs.Blocks.{Writes};
 use crate::{Answered, answers};
 
 // The inverse DCT, 32-bit.
-#[unsafe(no_mangle)]
-pub extern "C" fn residual_inv_transform_into_scalar(
+pub fn residual_inv_transform_into_scalar(
     coeff: &[i32],
     n: usize,
     bit_depth: u8,
@@ -22,8 +21,7 @@ pub extern "C" fn residual_inv_transform_into_scalar(
 }
 
 // The inverse DCT, extended precision, 32-bit.
-#[unsafe(no_mangle)]
-pub extern "C" fn residual_inv_transform_into_scalar_extended(
+pub fn residual_inv_transform_into_scalar_extended(
     coeff: &[i32],
     n: usize,
     bit_depth: u8,
@@ -37,8 +35,7 @@ pub extern "C" fn residual_inv_transform_into_scalar_extended(
 }
 
 // The inverse DCT, 16-bit.
-#[unsafe(no_mangle)]
-pub extern "C" fn residual_inv_transform_into_scalar16(
+pub fn residual_inv_transform_into_scalar16(
     coeff: &[i16],
     n: usize,
     bit_depth: u8,
@@ -52,8 +49,7 @@ pub extern "C" fn residual_inv_transform_into_scalar16(
 }
 
 // The inverse DST of size 4, 32-bit.
-#[unsafe(no_mangle)]
-pub extern "C" fn residual_inv_transform_dst_into_scalar(
+pub fn residual_inv_transform_dst_into_scalar(
     coeff: &[i32],
     bit_depth: u8,
     out: &mut [i32],
@@ -65,8 +61,7 @@ pub extern "C" fn residual_inv_transform_dst_into_scalar(
 }
 
 // The inverse DST of size 4, extended precision, 32-bit.
-#[unsafe(no_mangle)]
-pub extern "C" fn residual_inv_transform_dst_into_scalar_extended(
+pub fn residual_inv_transform_dst_into_scalar_extended(
     coeff: &[i32],
     bit_depth: u8,
     out: &mut [i32],
@@ -78,8 +73,7 @@ pub extern "C" fn residual_inv_transform_dst_into_scalar_extended(
 }
 
 // The inverse DST of size 4, 16-bit.
-#[unsafe(no_mangle)]
-pub extern "C" fn residual_inv_transform_dst_into_scalar16(
+pub fn residual_inv_transform_dst_into_scalar16(
     coeff: &[i16],
     bit_depth: u8,
     out: &mut [i16],

@@ -2,12 +2,10 @@
 --   sum_rows     a sum in row order is the sum over rows of the sums along them
 use mathlib.Core.Path.{◌≡◌, sym, ap, ap₂, ◌∙◌}
 use Prim.Native.Nat.{ℕ, zero, suc, ◌+◌, ◌*◌}
-use native.Mathlib.Nat.{add-zero, add-suc, suc-mul, zero-mul}
-use native.Mathlib.Omega.{arith}
-use lib.IntN.{ℤ, ◌+ℤ◌, +ℤ_idr}
+use native.Mathlib.Nat.{suc-mul, zero-mul}
+use lib.IntN.{ℤ, ◌+ℤ◌}
 use Rattle.integers.specs.Sum.{sum}
-use Rattle.integers.proofs.LinearLaws.{split, ring, diff_ext}
-use Rattle.integers.proofs.SumLaws.{sum_zero, sum_suc, sum_cong, sum-none, sum_add, sum-append}
+use Rattle.integers.proofs.SumLaws.{sum_zero, sum_suc, sum_cong, sum-append}
 use Rattle.h265.specs.Transform.{row_order}
 use Rattle.h265.proofs.TransformLaws.{row_order-at}
 

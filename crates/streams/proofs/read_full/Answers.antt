@@ -1,4 +1,4 @@
--- What one read gave stands behind what earlier ones gave.
+-- `streams::read_full` meets its contract: what one read gave stands behind what earlier ones gave.
 use Rattle.std.proofs.Common.{Option, None, Some, append_assoc, drop, ◌≡◌, ℕ, ◌+◌, ◌-◌, ◌≤◌, List, ◌++◌, rules, arith, length, take, slice_range, sym, ap, ◌∙◌, subst, le_refl, drop_at, length-take-le}
 use Rattle.std.proofs.lemmas.Slice.{take-put_mid_below}
 use Rattle.std.specs.Io.KnownBytes.{Consumes}

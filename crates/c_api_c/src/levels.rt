@@ -1,0 +1,230 @@
+// Scaling and transform skip: m, one level, and blocks at two widths.
+ghost use Rattle.std.specs.Prelude.{◌≡◌};
+ghost use Rattle.h265.specs.ScalingFactor.ScalingList.{flat, listed};
+ghost use Rattle.scaling_blocks.specs.Blocks.{bits16, bits32, dequantized, transform_skipped};
+ghost use Rattle.scaling.specs.Factor.{scaling_coeff};
+ghost use Rattle.scaling.specs.Level.{scaled_level};
+ghost use Rattle.c_api.specs.Answers.{of_number, of_level};
+ghost use Rattle.c_api.specs.Blocks.{CountWrites};
+
+use c_api::{CountAnswered, LevelAnswered, NumberAnswered};
+
+// m at an index of a block.
+#[unsafe(no_mangle)]
+pub extern "C" fn residual_scaling_coeff(
+    list: &[u8],
+    dc: u8,
+    n: usize,
+    index: usize,
+) -> NumberAnswered
+    ensures { of_number result ≡ scaling_coeff list.now dc n index }
+{
+    c_api::residual_scaling_coeff(list, dc, n, index)
+}
+
+// One level of a block, scaled: its coefficient, whether the level was limited, and whether the result was.
+#[unsafe(no_mangle)]
+pub extern "C" fn residual_scale_level(
+    level: i32,
+    m: u8,
+    n: usize,
+    qp_prime: i32,
+    bit_depth: u8,
+    extended_precision: bool,
+) -> LevelAnswered
+    ensures { of_level result ≡ scaled_level level m n qp_prime bit_depth extended_precision }
+{
+    c_api::residual_scale_level(level, m, n, qp_prime, bit_depth, extended_precision)
+}
+
+// The coefficients of a block without a list, 32-bit, and how many were limited.
+#[unsafe(no_mangle)]
+pub extern "C" fn residual_dequantize_into_scalar_i32(
+    levels: &[i32],
+    n: usize,
+    qp_prime: i32,
+    bit_depth: u8,
+    extended_precision: bool,
+    out: &mut [i32],
+) -> CountAnswered
+    ensures { CountWrites result out.new (dequantized bits32 flat n qp_prime bit_depth extended_precision levels.now out.old) }
+{
+    c_api::residual_dequantize_into_scalar_i32(
+        levels,
+        n,
+        qp_prime,
+        bit_depth,
+        extended_precision,
+        out,
+    )
+}
+
+// The coefficients of a block with a list, 32-bit, and how many were limited.
+#[unsafe(no_mangle)]
+pub extern "C" fn residual_dequantize_scaled_into_scalar_i32(
+    levels: &[i32],
+    n: usize,
+    qp_prime: i32,
+    bit_depth: u8,
+    extended_precision: bool,
+    list: &[u8],
+    dc: u8,
+    out: &mut [i32],
+) -> CountAnswered
+    ensures { CountWrites result out.new (dequantized bits32 (listed list.now dc) n qp_prime bit_depth extended_precision levels.now out.old) }
+{
+    c_api::residual_dequantize_scaled_into_scalar_i32(
+        levels,
+        n,
+        qp_prime,
+        bit_depth,
+        extended_precision,
+        list,
+        dc,
+        out,
+    )
+}
+
+// The residuals of a block without a list, 32-bit, and how many coefficients were limited.
+#[unsafe(no_mangle)]
+pub extern "C" fn residual_dequantize_transform_skip_into_scalar_i32(
+    levels: &[i32],
+    n: usize,
+    qp_prime: i32,
+    bit_depth: u8,
+    extended_precision: bool,
+    out: &mut [i32],
+) -> CountAnswered
+    ensures { CountWrites result out.new (transform_skipped bits32 flat n qp_prime bit_depth extended_precision levels.now out.old) }
+{
+    c_api::residual_dequantize_transform_skip_into_scalar_i32(
+        levels,
+        n,
+        qp_prime,
+        bit_depth,
+        extended_precision,
+        out,
+    )
+}
+
+// The residuals of a block with a list, 32-bit, and how many coefficients were limited.
+#[unsafe(no_mangle)]
+pub extern "C" fn residual_dequantize_transform_skip_scaled_into_scalar_i32(
+    levels: &[i32],
+    n: usize,
+    qp_prime: i32,
+    bit_depth: u8,
+    extended_precision: bool,
+    list: &[u8],
+    dc: u8,
+    out: &mut [i32],
+) -> CountAnswered
+    ensures { CountWrites result out.new (transform_skipped bits32 (listed list.now dc) n qp_prime bit_depth extended_precision levels.now out.old) }
+{
+    c_api::residual_dequantize_transform_skip_scaled_into_scalar_i32(
+        levels,
+        n,
+        qp_prime,
+        bit_depth,
+        extended_precision,
+        list,
+        dc,
+        out,
+    )
+}
+
+// The coefficients of a block without a list, 16-bit, and how many were limited.
+#[unsafe(no_mangle)]
+pub extern "C" fn residual_dequantize_into_scalar_i16(
+    levels: &[i32],
+    n: usize,
+    qp_prime: i32,
+    bit_depth: u8,
+    extended_precision: bool,
+    out: &mut [i16],
+) -> CountAnswered
+    ensures { CountWrites result out.new (dequantized bits16 flat n qp_prime bit_depth extended_precision levels.now out.old) }
+{
+    c_api::residual_dequantize_into_scalar_i16(
+        levels,
+        n,
+        qp_prime,
+        bit_depth,
+        extended_precision,
+        out,
+    )
+}
+
+// The coefficients of a block with a list, 16-bit, and how many were limited.
+#[unsafe(no_mangle)]
+pub extern "C" fn residual_dequantize_scaled_into_scalar_i16(
+    levels: &[i32],
+    n: usize,
+    qp_prime: i32,
+    bit_depth: u8,
+    extended_precision: bool,
+    list: &[u8],
+    dc: u8,
+    out: &mut [i16],
+) -> CountAnswered
+    ensures { CountWrites result out.new (dequantized bits16 (listed list.now dc) n qp_prime bit_depth extended_precision levels.now out.old) }
+{
+    c_api::residual_dequantize_scaled_into_scalar_i16(
+        levels,
+        n,
+        qp_prime,
+        bit_depth,
+        extended_precision,
+        list,
+        dc,
+        out,
+    )
+}
+
+// The residuals of a block without a list, 16-bit, and how many coefficients were limited.
+#[unsafe(no_mangle)]
+pub extern "C" fn residual_dequantize_transform_skip_into_scalar_i16(
+    levels: &[i32],
+    n: usize,
+    qp_prime: i32,
+    bit_depth: u8,
+    extended_precision: bool,
+    out: &mut [i16],
+) -> CountAnswered
+    ensures { CountWrites result out.new (transform_skipped bits16 flat n qp_prime bit_depth extended_precision levels.now out.old) }
+{
+    c_api::residual_dequantize_transform_skip_into_scalar_i16(
+        levels,
+        n,
+        qp_prime,
+        bit_depth,
+        extended_precision,
+        out,
+    )
+}
+
+// The residuals of a block with a list, 16-bit, and how many coefficients were limited.
+#[unsafe(no_mangle)]
+pub extern "C" fn residual_dequantize_transform_skip_scaled_into_scalar_i16(
+    levels: &[i32],
+    n: usize,
+    qp_prime: i32,
+    bit_depth: u8,
+    extended_precision: bool,
+    list: &[u8],
+    dc: u8,
+    out: &mut [i16],
+) -> CountAnswered
+    ensures { CountWrites result out.new (transform_skipped bits16 (listed list.now dc) n qp_prime bit_depth extended_precision levels.now out.old) }
+{
+    c_api::residual_dequantize_transform_skip_scaled_into_scalar_i16(
+        levels,
+        n,
+        qp_prime,
+        bit_depth,
+        extended_precision,
+        list,
+        dc,
+        out,
+    )
+}

@@ -1,0 +1,37 @@
+// Scaling lists read from the bitstream, and written to one.
+ghost use Rattle.scaling_lists.specs.Answers.{lists_read};
+ghost use Rattle.scaling_lists_codes.specs.Syntax.{defaults};
+ghost use Rattle.scaling_lists_writer.specs.Answers.{lists_written};
+ghost use Rattle.c_api.specs.Lists.{Reads, Writes};
+
+use c_api::BitsAnswered;
+
+// The 20 lists of scaling list data, and their DC numbers.
+#[unsafe(no_mangle)]
+pub extern "C" fn residual_read_scaling_lists(
+    bytes: &[u8],
+    default_4x4: &[u8],
+    default_intra: &[u8],
+    default_inter: &[u8],
+    lists: &mut [u8],
+    dcs: &mut [u8],
+) -> BitsAnswered
+    ensures { Reads result lists.new dcs.new (lists_read (defaults default_4x4.now default_intra.now default_inter.now) bytes.now lists.old dcs.old) }
+{
+    c_api::residual_read_scaling_lists(bytes, default_4x4, default_intra, default_inter, lists, dcs)
+}
+
+// 20 lists and their DC numbers as scaling list data.
+#[unsafe(no_mangle)]
+pub extern "C" fn residual_write_scaling_lists(
+    lists: &[u8],
+    dcs: &[u8],
+    default_4x4: &[u8],
+    default_intra: &[u8],
+    default_inter: &[u8],
+    out: &mut [u8],
+) -> BitsAnswered
+    ensures { Writes result out.new (lists_written (defaults default_4x4.now default_intra.now default_inter.now) lists.now dcs.now out.old) }
+{
+    c_api::residual_write_scaling_lists(lists, dcs, default_4x4, default_intra, default_inter, out)
+}
