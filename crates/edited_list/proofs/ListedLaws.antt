@@ -7,24 +7,22 @@ use mathlib.Core.List.{List, [], ◌∷◌, ◌++◌}
 use Prim.Native.Nat.{ℕ, ◌*◌}
 use native.Mathlib.Omega.{arith}
 use borrow.Author.Tests.{ne_eqb}
-use lib.Dec.{eqb, ltb}
+use lib.Dec.{ltb}
 use lib.IntN.{ℤ}
 use lib.ListN.{length, take, drop, take-append-drop}
 use Rattle.refusal.specs.declared.Answer.{Answer}
-use Rattle.refusal.specs.declared.Refusal.{Refusal}
 use Rattle.refusal.specs.declared.Refusal.TheVariants.{SizeInvalid, DepthInvalid, DstSizeInvalid, ListLengthInvalid, InputTooShort, OutputTooShort}
 use Rattle.refusal.specs.Refusal.{number}
-use Rattle.refusal.specs.Outcome.{Outcome, refused, answer}
+use Rattle.refusal.specs.Outcome.{Outcome, answer}
 use Rattle.refusal.specs.Condition.{size_refused, depth_refused, list_refused, block_refused}
 use Rattle.refusal.proofs.RefusalLaws.{number_least}
-use Rattle.refusal.proofs.LadderLaws.{Rung, first_both}
+use Rattle.refusal.proofs.LadderLaws.{first_both}
 use Rattle.refusal.proofs.LadderLaws.Rung.{rung}
 use Rattle.coefficients.specs.Outside.{first_outside, refusal_at}
 use Rattle.block_rules.specs.declared.EditedBlock.{EditedBlock}
-use Rattle.block_rules.specs.Columns.{column_count}
 use Rattle.transform_1d.specs.Kinds.{dst_refused}
 use Rattle.block_rules.specs.Edit.{Buffers, Left, buffers, zero_block, block_ladder, stopped, opened_buffers, opened, Opens}
-use Rattle.block_rules.specs.Opening.{Opening, range_of, opened_as, block_of}
+use Rattle.block_rules.specs.Opening.{Opening, range_of, opened_as}
 use Rattle.scaling_blocks.specs.declared.CountAnswer.{CountAnswer}
 use Rattle.scaling_blocks.specs.declared.CountAnswer.TheVariants.{Limited, Refused}
 use Rattle.scaling_blocks.specs.Blocks.{entries_of, count_outcome}

@@ -49,7 +49,7 @@ fn answer_column(given: LimitsAnswer) -> u8
 }
 
 fn limits_number(level: bool, res: bool) -> u8
-    ensures* { λ r. ⌜ r ≡ limits_number (record { level = level; result = res }) ⌝ }
+    ensures { result ≡ limits_number (record { level = level; result = res }) }
 {
     if level {
         return if res { 3 } else { 1 };

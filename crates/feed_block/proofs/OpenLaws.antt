@@ -4,15 +4,14 @@
 --   opened-limited, opened_rows    how many coefficients were limited, and the residual
 --   opens_block                    both, of what a call hands back
 use mathlib.Core.Path.{◌≡◌, refl, sym, ap, subst, ◌∙◌}
-use mathlib.Core.Bool.{Bool, true, false, ◌||◌, cond}
+use mathlib.Core.Bool.{Bool, false, ◌||◌}
 use mathlib.Core.List.{List, []}
 use Prim.Native.Nat.{ℕ, ◌*◌, ◌≤◌, ◌<◌}
 use lib.IntN.{ℤ, pos}
 use lib.ListN.{length, get_or, take}
 use lib.Seq.{get_or-take}
-use Rattle.integers.specs.Lists.{tabulate, overwrite}
-use Rattle.integers.proofs.ListsLaws.{overwrite-length, overwrite-take, tabulate-length, tabulate-get_or}
-use Rattle.h265.specs.Range.{is_size, transform_range}
+use Rattle.integers.specs.Lists.{overwrite}
+use Rattle.integers.proofs.ListsLaws.{overwrite-length, overwrite-take}
 use Rattle.h265.specs.ScalingFactor.{ScalingList}
 use Rattle.h265.specs.ScalingFactor.ScalingList.{flat, listed}
 use Rattle.h265.specs.Limited.{limited_at, limited_count}

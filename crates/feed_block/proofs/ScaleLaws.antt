@@ -3,23 +3,21 @@
 --   dequantized_out, skipped_out   the output of scaling and of transform skip, and the count
 --   size_ok, block_ok              a size and a buffer that no row refuses
 --   coefficients_in_range          every coefficient lies in its range
-use mathlib.Core.Path.{◌≡◌, refl, sym, ap, ◌∙◌, subst}
+use mathlib.Core.Path.{◌≡◌, refl, sym, ap, ◌∙◌}
 use mathlib.Core.Bool.{Bool, true, false, not, ◌&&◌, cond}
 use mathlib.Core.List.{List}
 use Prim.Native.Nat.{ℕ, ◌*◌, ◌≤◌, ◌<◌}
-use native.Mathlib.Omega.{arith}
-use borrow.Author.Tests.{eq-eqb, le-ltb}
+use borrow.Author.Tests.{le-ltb}
 use lib.Dec.{T}
 use lib.IntN.{ℤ, pos}
 use lib.ListN.{length, get_or}
-use Rattle.integers.specs.Lists.{tabulate, overwrite}
+use Rattle.integers.specs.Lists.{overwrite}
 use Rattle.integers.proofs.MachineLaws.{lt_z_of_le}
 use Rattle.integers.proofs.ListsLaws.{tabulate-length, tabulate-get_or}
-use Rattle.h265.specs.Range.{is_size, log2_size, transform_range, clip_coeff, outside_range}
-use Rattle.h265.specs.Quantization.{clip_qp_prime}
-use Rattle.h265.specs.ScalingFactor.{ScalingList, scaling_factor}
+use Rattle.h265.specs.Range.{is_size, transform_range, clip_coeff, outside_range}
+use Rattle.h265.specs.ScalingFactor.{ScalingList}
 use Rattle.h265.specs.ScalingFactor.ScalingList.{flat}
-use Rattle.h265.specs.Scaling.{scale_level, scaled_at, scaled_value, bd_shift}
+use Rattle.h265.specs.Scaling.{scale_level, scaled_at}
 use Rattle.h265.specs.TransformSkip.{skipped_at}
 use Rattle.h265.specs.Limited.{limited_count}
 use Rattle.h265.proofs.RangeLaws.{clip_coeff_between}

@@ -1,0 +1,11 @@
+-- `edited_steps::edit_count` meets its contract: the least of all lengths, two by two.
+use mathlib.Core.Path.{ap₂, ◌∙◌}
+use Prim.Native.Nat.{min}
+use Rattle.edited_steps.specs.Steps.{edit_count}
+use Rattle.edited_steps.proofs.edit_count.Goals as goal
+
+pub returns : goal.returns
+unfolding edit_count
+returns c =
+    c.least-7.ensures
+    ∙ ap₂ min (c.least-3.ensures ∙ ap₂ min c.least.ensures c.least-2.ensures) (c.least-6.ensures ∙ ap₂ min c.least-4.ensures c.least-5.ensures)

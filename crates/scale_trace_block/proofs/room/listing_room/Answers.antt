@@ -1,0 +1,40 @@
+-- `scale_trace_block::room::listing_room` meets its contract: what is counted and what the rest asks are what the whole asks.
+use mathlib.Core.Path.{◌≡◌, sym, ap, ◌∙◌}
+use mathlib.Core.Bool.{Bool}
+use native.Mathlib.Omega.{arith}
+use lib.ListN.{get_or}
+use Rattle.feed_format.specs.Format.{kind_of, is_unknown}
+use Rattle.feed_format.proofs.RoomLaws.{room_start, room_more, room_unknown, room_end}
+use Rattle.scale_trace_rules.specs.Trace.{list_room, listing_room}
+use Rattle.scale_trace_block.proofs.room.listing_room.Goals as goal
+use Rattle.scale_trace_block.proofs.room.listing_room.Goals.{After-is_unknown}
+
+pub loop-at-init : goal.loop-at-init
+loop-at-init c = room_start list_room _
+
+pub bounds-input-at : goal.bounds-input-at
+bounds-input-at c = omega arith
+
+known : {b : Bool} (c : After-is_unknown) → c.is_unknown.result ≡ b → is_unknown (kind_of (get_or c.args.input.now c.loop-at.at 0)) ≡ b
+known c e = sym (c.is_unknown.ensures ∙ ap is_unknown c.kind_of.ensures) ∙ e
+
+pub returns-then-is_unknown : goal.returns-then-is_unknown
+unfolding listing_room
+returns-then-is_unknown c = c.capped_sum.ensures ∙ sym (room_unknown c.loop-at.invariant c.loop-at-test.true (known (goal.at.returns-then-is_unknown c).After-is_unknown c.if-is_unknown.true))
+
+pub overflow_add-at : goal.overflow_add-at
+overflow_add-at c = omega arith
+
+pub overflow_add-at-in-loop-at : goal.overflow_add-at-in-loop-at
+overflow_add-at-in-loop-at c = omega arith
+
+pub loop-at-smaller : goal.loop-at-smaller
+loop-at-smaller c = omega (arith, c.least-at.ensures, c.loop-at-test.true)
+
+pub loop-at-preserved : goal.loop-at-preserved
+loop-at-preserved c =
+    room_more c.loop-at.invariant _ c.loop-at-test.true (known (goal.at.loop-at-preserved c).After-is_unknown c.if-is_unknown.false) (rw c.record_length.ensures.value at c.least-at.ensures) _ (rw c.list_room.ensures at c.capped_sum-room.ensures)
+
+pub returns : goal.returns
+unfolding listing_room
+returns c = c.capped_sum-2.ensures ∙ sym (room_end c.loop-at.invariant c.loop-at-test.false)
