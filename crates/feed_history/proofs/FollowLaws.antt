@@ -7,9 +7,9 @@
 --   follows_start              before the first record
 --   buffers_follow_history     the statement over every feed
 use mathlib.Core.Path.{◌≡◌, refl, sym, ap, ap₂, subst, ◌∙◌}
-use mathlib.Core.Bool.{Bool, true, false, ◌||◌, cond, true≢false}
+use mathlib.Core.Bool.{Bool, true, false, cond}
 use mathlib.Core.List.{List, [], ◌∷◌, ◌++◌}
-use Prim.Native.Nat.{ℕ, zero, suc, ◌+◌, ◌*◌, ◌≤◌, ◌<◌}
+use Prim.Native.Nat.{ℕ, zero, suc, ◌+◌, ◌*◌, ◌≤◌}
 use native.Mathlib.Omega.{arith}
 use borrow.Author.Tests.{ltb-false, eqb-true}
 use lib.Dec.{T, eqb, ltb}
@@ -20,23 +20,22 @@ use Rattle.integers.specs.Lists.{overwrite}
 use Rattle.integers.proofs.ListsLaws.{overwrite-length}
 use Rattle.h265.specs.Range.{is_size}
 use Rattle.h265.specs.ScalingFactor.{ScalingList}
-use Rattle.h265.specs.ScalingFactor.ScalingList.{flat, listed}
 use Rattle.h265.specs.Transform.{row_order}
 use Rattle.h265.proofs.RangeLaws.{size_square}
 use Rattle.refusal.specs.declared.Refusal.{Refusal}
-use Rattle.refusal.specs.declared.Refusal.TheVariants.{DepthInvalid, DstSizeInvalid, KindUnknown, BodyTooShort, LevelsBeforeParameters, ParameterInvalid, BlockMissing}
+use Rattle.refusal.specs.declared.Refusal.TheVariants.{DepthInvalid, DstSizeInvalid, KindUnknown, BodyTooShort, LevelsBeforeParameters, ParameterInvalid}
 use Rattle.refusal.specs.Condition.{size_refused, depth_refused}
-use Rattle.refusal.specs.Outcome.{Outcome, accepted, refused}
+use Rattle.refusal.specs.Outcome.{Outcome, refused}
 use Rattle.scaling_blocks.specs.Blocks.{entries_of}
 use Rattle.transform_1d.specs.declared.Kind.{Kind as TransformKind}
 use Rattle.transform_1d.specs.declared.Kind.TheVariants.{Dct as DctKind, Dst as DstKind}
 use Rattle.block_rules.specs.declared.EditedBlock.{EditedBlock}
 use Rattle.block_rules.specs.Columns.{column_count}
 use Rattle.block_rules.specs.Edit.{Buffers}
-use Rattle.block_rules.specs.Opening.{Opening, block_of}
-use Rattle.block_laws.proofs.OpeningLaws.{Agrees, inter_long, res_long, stage_one_of, stage_two_of}
+use Rattle.block_rules.specs.Opening.{Opening}
+use Rattle.block_laws.proofs.OpeningLaws.{inter_long, res_long, stage_one_of, stage_two_of}
 use Rattle.block_rules.specs.declared.Limits.{Limits}
-use Rattle.block_rules.specs.Level.{OpenLeft, LevelLeft, level_opened, level_edited}
+use Rattle.block_rules.specs.Level.{OpenLeft, LevelLeft, level_opened}
 use Rattle.edited_history.specs.History.{Edit, answer_to, values_after, history_of, coefficients_of, history_residual}
 use Rattle.edited_history.specs.Run.{held_opened, held_edited, opened_on}
 use Rattle.edited_history.proofs.AgreesLaws.{coeff_length, agrees_history}
@@ -50,8 +49,8 @@ use Rattle.feed_format.specs.declared.Mode.TheVariants.{Dct, Dst, Skip}
 use Rattle.feed_format.specs.declared.Parameters.{Parameters}
 use Rattle.feed_format.specs.declared.Given.{Given}
 use Rattle.feed_format.specs.declared.Given.TheVariants.{Nothing, These}
-use Rattle.feed_format.specs.Format.{kind_of, body_length, record_length, level_at, levels_of, edit_row, edit_column, edit_level, dst_refused, size_known, is_unknown}
-use Rattle.feed_rules.specs.Block.{block_residual, block_limited, mode_of_kind, opening_of}
+use Rattle.feed_format.specs.Format.{kind_of, body_length, record_length, level_at, levels_of, dst_refused, size_known, is_unknown}
+use Rattle.feed_rules.specs.Block.{mode_of_kind, opening_of}
 use Rattle.feed_block.specs.Work.{Accepted}
 use Rattle.feed_format.proofs.FormatLaws.{kind_size}
 use Rattle.feed_block.proofs.OpenLaws.{opened-number, levels_are}
