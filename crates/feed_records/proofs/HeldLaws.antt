@@ -5,7 +5,7 @@
 --   edit_kept, edit_moved          what a refused edit, and an accepted one, hand back
 --   reading_sized, reading_takes   of a record with a size that row 1 refuses, and of any other
 use mathlib.Core.Path.{◌≡◌, refl, sym, ap, subst, ◌∙◌}
-use mathlib.Core.Bool.{Bool, true, false, cond}
+use mathlib.Core.Bool.{true, false}
 use mathlib.Core.List.{List, [], ◌++◌}
 use Prim.Native.Nat.{ℕ, ◌+◌, ◌*◌, ◌≤◌, min}
 use native.Mathlib.Omega.{arith}
@@ -13,7 +13,7 @@ use borrow.Author.Tests.{ne_eqb}
 use lib.IntN.{ℤ}
 use lib.ListN.{take}
 use Rattle.integers.proofs.ListsLaws.{overwrite-take}
-use Rattle.refusal.specs.declared.Answer.TheVariants.{Done, Refused}
+use Rattle.refusal.specs.declared.Answer.TheVariants.{Done}
 use Rattle.refusal.specs.declared.Refusal.{Refusal}
 use Rattle.refusal.specs.declared.Refusal.TheVariants.{SizeInvalid, BlockMissing}
 use Rattle.refusal.specs.Condition.{size_refused}
@@ -23,7 +23,6 @@ use Rattle.refusal.proofs.RefusalLaws.{number_least}
 use Rattle.transform_1d.specs.declared.Kind.{Kind}
 use Rattle.transform_1d.specs.declared.Kind.TheVariants.{Dct, Dst}
 use Rattle.block_rules.specs.declared.EditedBlock.{EditedBlock}
-use Rattle.block_rules.specs.Edit as edit
 use Rattle.block_rules.specs.declared.Limits.{Limits}
 use Rattle.block_rules.specs.declared.LimitsAnswer.{LimitsAnswer}
 use Rattle.block_rules.specs.declared.LimitsAnswer.TheVariants.{Done as EditDone, Refused as EditRefused}
@@ -44,7 +43,7 @@ use Rattle.feed_format.specs.Format.{text_room, levels_of, edit_row, edit_column
 use Rattle.feed_rules.specs.Block.{list_in, residual_at, block_residual, block_limited, mode_of_kind}
 use Rattle.feed_block.specs.Work.{Accepted, Leaves, OpensBlock}
 use Rattle.feed_state.specs.declared.Taken.{Taken}
-use Rattle.feed_rules.specs.Record.{FeedState, Effect, unchanged, block_after, counted, levels_by, edit_effect, reading_effect}
+use Rattle.feed_rules.specs.Record.{FeedState, unchanged, block_after, counted, levels_by, edit_effect, reading_effect}
 use Rattle.feed_state.specs.Buffers.{Lent, lent, Buffered, closed_in, opened_in, edited_in, read_text, read_in, in_buffers}
 use Rattle.feed_state.specs.Buffers.Held.{block as held-block}
 use Rattle.feed_state.specs.Taken.{state_of, capped, Takes, Quiet}

@@ -1,0 +1,55 @@
+-- `feed_records::open_block::take_reading` meets its contract: without an open block it is refused; else the rows of the buffer are written, and the record's column count.
+use mathlib.Core.Path.{◌≡◌, sym, ◌∙◌}
+use mathlib.Core.Bool.{false}
+use Prim.Native.Nat.{◌*◌, ◌≤◌}
+use native.Mathlib.Omega.{arith}
+use lib.Dec.{T}
+use Rattle.h265.specs.Range.{is_size}
+use Rattle.h265.proofs.RangeLaws.{size_square}
+use Rattle.refusal.specs.Condition.{size_refused}
+use Rattle.refusal.proofs.ConditionLaws.{size_accepted}
+use Rattle.feed_state.specs.Buffers.{lent}
+use Rattle.feed_state.proofs.StateLaws.{quiet_takes}
+use Rattle.feed_records.proofs.HeldLaws.{reading-closed, reading_sized, reading_takes}
+use Rattle.feed_records.proofs.open_block.take_reading.Goals as goal
+use Rattle.feed_records.proofs.open_block.take_reading.Goals.{Else-size_refused, Start}
+
+pub returns-then-not-editing : goal.returns-then-not-editing
+returns-then-not-editing c =
+    let e = c.args.residual.now in
+    record { leaves = λ ls d g. rw (reading-closed c.args.s (lent ls d g e) c.if-not-editing.true) (quiet_takes _ _ (c.kept.ensures.leaves (lent ls d g e))) }
+
+pub returns-then-size_refused : goal.returns-then-size_refused
+returns-then-size_refused c =
+    let e = c.args.residual.now in
+    record {
+      leaves = λ ls d g.
+          rw (reading_sized c.args.s (lent ls d g e) c.if-not-editing.false (sym c.size_refused.ensures ∙ c.if-size_refused.true))
+          (quiet_takes _ _ (c.kept-then-size_refused.ensures.leaves (lent ls d g e)));
+    }
+
+sized : (c : Else-size_refused) → size_refused c.args.s.block.size ≡ false
+sized c = sym c.size_refused.ensures ∙ c.if-size_refused.false
+
+known : (c : Else-size_refused) → T (is_size c.args.s.block.size)
+known c = size_accepted c.args.s.block.size (sized c)
+
+few : (c : Else-size_refused) → let n = c.args.s.block.size in n * n ≤ 1024
+few c = size_square c.args.s.block.size (known c)
+
+pub put_reading-end-requires : goal.put_reading-end-requires
+put_reading-end-requires c =
+    (known (goal.at.put_reading-end-requires c).Else-size_refused, omega (arith, few (goal.at.put_reading-end-requires c).Else-size_refused, c.requires.in_bounds), omega (arith, few (goal.at.put_reading-end-requires c).Else-size_refused, c.requires.text_room_in_bounds))
+
+fits : (c : Start) → c.args.s.blocks ≤ 18446744073709551615
+fits c = omega arith
+
+pub returns : goal.returns
+returns c =
+    let e = c.args.residual.now in
+    rw (c.moved.ensures, c.with_open.ensures)
+    (record {
+      leaves = λ ls d g.
+          reading_takes c.args.s (lent ls d g e) c.if-not-editing.false (sized (goal.at.returns c).Else-size_refused) (fits (goal.at.returns c).Start)
+          (record { wrote = c.put_reading-end.ensures.wrote; bound = omega (arith, few (goal.at.returns c).Else-size_refused, c.put_reading-end.ensures.bound) });
+    })
