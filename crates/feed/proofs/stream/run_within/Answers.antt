@@ -1,0 +1,133 @@
+-- `feed::stream::run_within` meets its contract: what is left to write in the state reached is what is left of the whole text, and that is the history's.
+use mathlib.Core.Path.{refl, sym, subst, ◌∙◌}
+use mathlib.Core.List.{List}
+use Prim.Native.Nat.{ℕ, ◌+◌, ◌≤◌}
+use native.Mathlib.Omega.{arith}
+use lib.ListN.{length, drop_of_length-le}
+use Rattle.text.specs.Text.{Wrote}
+use Rattle.text.proofs.WroteLaws.{left_last, counts}
+use Rattle.feed_format.proofs.RoomLaws.{room_last}
+use Rattle.feed_format.specs.Room.{feed_room}
+use Rattle.feed_format.specs.Format.{record_room}
+use Rattle.feed_state.specs.Buffers.{Lent, lent}
+use Rattle.feed_rules.specs.Feed.{feed_text}
+use Rattle.feed_history.specs.Steps.{buffered_text}
+use Rattle.feed_history.proofs.FollowLaws.{buffers_follow_history}
+use Rattle.feed_history.proofs.WalkLaws.{walk_text, going_start, going_room, Turn, turn, going_more, going_done}
+use Rattle.feed.proofs.FeedLaws.{feed_walk, Answered, feed_refused, feed_passed}
+use Rattle.feed.proofs.LocalLaws.{Full, full, full_ample}
+use Rattle.feed.proofs.stream.run_within.Goals as goal
+use Rattle.feed.proofs.stream.run_within.Goals.{After-take_record-taken, At-loop-state, Start}
+
+-- the text of the walk in buffers is the history's
+told : (v : Lent) (input l m : List ℕ) (end : ℕ) → Full v → Wrote l 0 (walk_text feed_walk v input) m end → Wrote l 0 (feed_text input) m end
+unfolding buffered_text
+told v input l m end f w = subst (λ (t : List ℕ). Wrote l 0 t m end) (buffers_follow_history v input (full_ample v f)) w
+
+pub loop-state-init : goal.loop-state-init
+unfolding feed_room
+loop-state-init c =
+    (going_start feed_walk _ _ _ _ (c.start-state.ensures _) c.requires (full_ample _ (full _ refl refl refl refl)), full _ refl refl refl refl, full _ refl refl refl refl)
+
+pub bounds-input-at : goal.bounds-input-at
+bounds-input-at c = omega arith
+
+pub overflow_add-from : goal.overflow_add-from
+overflow_add-from c = omega arith
+
+pub overflow_add-from-in-loop-state : goal.overflow_add-from-in-loop-state
+overflow_add-from-in-loop-state c = omega arith
+
+pub slice_bounds-take_record-count : goal.slice_bounds-take_record-count
+slice_bounds-take_record-count c = omega arith
+
+pub slice_bounds-take_record-start : goal.slice_bounds-take_record-start
+slice_bounds-take_record-start c = omega arith
+
+pub slice_bounds-take_record-end : goal.slice_bounds-take_record-end
+slice_bounds-take_record-end c = omega arith
+
+pub slice_bounds-take_record-end-in-loop-state : goal.slice_bounds-take_record-end-in-loop-state
+slice_bounds-take_record-end-in-loop-state c = sym c.loop-state.invariant.1.levels
+
+pub slice_bounds-take_record-end-in-loop-state-2 : goal.slice_bounds-take_record-end-in-loop-state-2
+slice_bounds-take_record-end-in-loop-state-2 c = sym c.loop-state.invariant.1.coeff
+
+pub slice_bounds-take_record-end-in-loop-state-3 : goal.slice_bounds-take_record-end-in-loop-state-3
+slice_bounds-take_record-end-in-loop-state-3 c = sym c.loop-state.invariant.1.inter
+
+pub slice_bounds-take_record-end-in-loop-state-4 : goal.slice_bounds-take_record-end-in-loop-state-4
+slice_bounds-take_record-end-in-loop-state-4 c = sym c.loop-state.invariant.1.res
+
+pub take_record-taken-requires : goal.take_record-taken-requires
+take_record-taken-requires c =
+    let l = c.loop-state in
+    let g = l.invariant.0 in
+    record { ample = full_ample _ l.invariant.1; kind_in_bounds = omega (arith, going_room g c.loop-state-test.true, g.left.long) }
+
+abbrev lent-after : After-take_record-taken → Lent
+lent-after c = lent c.take_record-taken.new.levels c.take_record-taken.new.coeff c.take_record-taken.new.inter c.take_record-taken.new.residual
+
+full_after : (c : After-take_record-taken) → Full (lent-after c)
+full_after c =
+    let f = c.loop-state.invariant.1 in
+    let k = c.take_record-taken.auto in
+    record { levels = k.levels ∙ f.levels; coeff = k.coeff ∙ f.coeff; inter = k.inter ∙ f.inter; res = k.residual ∙ f.res }
+
+input_fits : (c : After-take_record-taken) → length c.args.input.now ≤ 18446744073709551615
+input_fits c = omega arith
+
+-- what the record at the loop's offset did
+turned : (c : After-take_record-taken)
+    → let l = c.loop-state in let r = c.take_record-taken.result in
+    Turn feed_walk (Answered r.answer) c.args.input.now l.state (lent l.levels l.coeff l.inter l.residual) r.state (lent-after c) l.out l.end c.take_record-taken.new.out r.end
+turned c =
+    let l = c.loop-state in
+    let k = c.take_record-taken.ensures in
+    turn feed_walk _ _ l.state _ c.record_length.result c.least-stop.result (input_fits c) c.loop-state-test.true c.record_length.ensures.value c.least-stop.ensures (record { is = k.answered }) k.state k.text (full_ample _ (full_after c))
+
+-- the buffer behind a record has room for a line
+room_behind : (c : After-take_record-taken) → c.take_record-taken.result.end + 40 ≤ length c.take_record-taken.new.out
+room_behind c =
+    let g = c.loop-state.invariant.0 in
+    omega (arith, (turned c).text.bound, going_room g c.loop-state-test.true, g.left.long, c.take_record-taken.auto.out)
+
+pub put_refused-requires : goal.put_refused-requires
+put_refused-requires c = room_behind (goal.at.put_refused-requires c).After-take_record-taken
+
+pub shape_of-out-then-number-ne0 : goal.shape_of-out-then-number-ne0
+shape_of-out-then-number-ne0 c = c.put_refused.auto.out ∙ c.take_record-taken.auto.out ∙ c.loop-state.invariant.0.left.long
+
+pub returns-then-number-ne0 : goal.returns-then-number-ne0
+returns-then-number-ne0 c =
+    let l = c.loop-state in
+    let f = c.put_refused in (
+      told _ _ _ _ _ l.invariant.2 (left_last (feed_refused l.invariant.0 (turned (goal.at.returns-then-number-ne0 c).After-take_record-taken) c.number_of-number.ensures c.if-number-ne0.true) f.ensures.wrote),
+      counts _ _ (omega (arith, f.ensures.bound, f.auto.out, room_behind (goal.at.returns-then-number-ne0 c).After-take_record-taken)),
+    )
+
+pub loop-state-smaller : goal.loop-state-smaller
+loop-state-smaller c =
+    omega (arith, (turned (goal.at.loop-state-smaller c).After-take_record-taken).inside, (feed_passed c.loop-state.invariant.0 (turned (goal.at.loop-state-smaller c).After-take_record-taken) c.number_of-number.ensures c.if-number-ne0.false).next)
+
+pub loop-state-preserved : goal.loop-state-preserved
+loop-state-preserved c =
+    let l = c.loop-state in
+    (going_more l.invariant.0 (turned (goal.at.loop-state-preserved c).After-take_record-taken) (feed_passed l.invariant.0 (turned (goal.at.loop-state-preserved c).After-take_record-taken) c.number_of-number.ensures c.if-number-ne0.false), full_after (goal.at.loop-state-preserved c).After-take_record-taken, l.invariant.2)
+
+room_last_line : (c : At-loop-state) → length c.args.input.now ≤ c.loop-state.state.offset → c.loop-state.end + 40 ≤ length c.loop-state.out
+room_last_line c h = let g = c.loop-state.invariant.0 in omega (arith, g.left.long, g.room, rw (drop_of_length-le c.args.input.now h, room_last record_room g.fuel) at g.room)
+
+pub put_blocks-requires : goal.put_blocks-requires
+put_blocks-requires c = room_last_line (goal.at.put_blocks-requires c).At-loop-state c.loop-state-test.false
+
+pub shape_of-out : goal.shape_of-out
+shape_of-out c = c.put_blocks.auto.out ∙ c.loop-state.invariant.0.left.long
+
+pub returns : goal.returns
+returns c =
+    let l = c.loop-state in
+    let b = c.put_blocks in (
+      told _ _ _ _ _ l.invariant.2 (left_last (going_done l.invariant.0 c.loop-state-test.false) b.ensures.wrote),
+      counts _ _ (omega (arith, b.ensures.bound, b.auto.out, room_last_line (goal.at.returns c).At-loop-state c.loop-state-test.false)),
+    )
