@@ -1,0 +1,5 @@
+use Rattle.oracle_cases.proofs.main.Given as goal
+
+-- the number of turns that are left
+abbrev pub decreases-loop-turns : goal.decreases-loop-turns
+decreases-loop-turns l = l.turns

@@ -1,0 +1,120 @@
+-- `scale_trace::stream::run_within` meets its contract: what is left to write in the state reached is what is left of the whole listing, and that is the
+-- history's.
+use mathlib.Core.Path.{refl, sym, subst, ◌∙◌}
+use mathlib.Core.List.{List}
+use Prim.Native.Nat.{ℕ, ◌+◌, ◌≤◌}
+use native.Mathlib.Omega.{arith}
+use lib.ListN.{length}
+use Rattle.text.specs.Text.{Wrote}
+use Rattle.text.proofs.WroteLaws.{left_last, left_done, counts}
+use Rattle.feed_state.specs.Buffers.{Lent, lent}
+use Rattle.feed_history.proofs.WalkLaws.{walk_text, going_start, going_room, Turn, turn, going_more, going_done}
+use Rattle.scale_trace_rules.specs.Trace.{trace_text, listing_room}
+use Rattle.scale_trace.proofs.RunLaws.{listing_walk, Answered, traces_full, listing_refused, listing_passed, listing_follows}
+use Rattle.feed.proofs.LocalLaws.{Full, full, full_ample}
+use Rattle.scale_trace.proofs.stream.run_within.Goals as goal
+use Rattle.scale_trace.proofs.stream.run_within.Goals.{After-take_record-taken, Start}
+
+-- the listing in buffers is the history's
+told : (v : Lent) (input l m : List ℕ) (end : ℕ) → Full v → Wrote l 0 (walk_text listing_walk v input) m end → Wrote l 0 (trace_text input) m end
+told v input l m end f w = subst (λ (t : List ℕ). Wrote l 0 t m end) (listing_follows v input (full_ample v f)) w
+
+pub loop-state-init : goal.loop-state-init
+unfolding listing_room
+loop-state-init c =
+    (going_start listing_walk _ _ _ _ (c.start-state.ensures _) c.requires (full_ample _ (full _ refl refl refl refl)), full _ refl refl refl refl, full _ refl refl refl refl)
+
+pub bounds-input-at : goal.bounds-input-at
+bounds-input-at c = omega arith
+
+pub overflow_add-from : goal.overflow_add-from
+overflow_add-from c = omega arith
+
+pub overflow_add-from-in-loop-state : goal.overflow_add-from-in-loop-state
+overflow_add-from-in-loop-state c = omega arith
+
+pub slice_bounds-take_record-count : goal.slice_bounds-take_record-count
+slice_bounds-take_record-count c = omega arith
+
+pub slice_bounds-take_record-start : goal.slice_bounds-take_record-start
+slice_bounds-take_record-start c = omega arith
+
+pub slice_bounds-take_record-end : goal.slice_bounds-take_record-end
+slice_bounds-take_record-end c = omega arith
+
+pub slice_bounds-take_record-end-in-loop-state : goal.slice_bounds-take_record-end-in-loop-state
+slice_bounds-take_record-end-in-loop-state c = sym c.loop-state.invariant.1.levels
+
+pub slice_bounds-take_record-end-in-loop-state-2 : goal.slice_bounds-take_record-end-in-loop-state-2
+slice_bounds-take_record-end-in-loop-state-2 c = sym c.loop-state.invariant.1.coeff
+
+pub slice_bounds-take_record-end-in-loop-state-3 : goal.slice_bounds-take_record-end-in-loop-state-3
+slice_bounds-take_record-end-in-loop-state-3 c = sym c.loop-state.invariant.1.inter
+
+pub slice_bounds-take_record-end-in-loop-state-4 : goal.slice_bounds-take_record-end-in-loop-state-4
+slice_bounds-take_record-end-in-loop-state-4 c = sym c.loop-state.invariant.1.res
+
+pub take_record-taken-requires : goal.take_record-taken-requires
+take_record-taken-requires c =
+    let l = c.loop-state in
+    let g = l.invariant.0 in
+    omega (arith, going_room g c.loop-state-test.true, g.left.long)
+
+abbrev lent-after : After-take_record-taken → Lent
+lent-after c = lent c.take_record-taken.new.levels c.take_record-taken.new.coeff c.take_record-taken.new.inter c.take_record-taken.new.residual
+
+full_after : (c : After-take_record-taken) → Full (lent-after c)
+full_after c =
+    let f = c.loop-state.invariant.1 in
+    let k = c.take_record-taken.auto in
+    record { levels = k.levels ∙ f.levels; coeff = k.coeff ∙ f.coeff; inter = k.inter ∙ f.inter; res = k.residual ∙ f.res }
+
+input_fits : (c : After-take_record-taken) → length c.args.input.now ≤ 18446744073709551615
+input_fits c = omega arith
+
+-- what the record at the loop's offset did
+turned : (c : After-take_record-taken)
+    → let l = c.loop-state in let r = c.take_record-taken.result in
+    Turn listing_walk (Answered r.answer) c.args.input.now l.state (lent l.levels l.coeff l.inter l.residual) r.state (lent-after c) l.out l.end c.take_record-taken.new.out r.end
+turned c =
+    let l = c.loop-state in
+    let k = traces_full _ _ _ (full_ample _ l.invariant.1) c.take_record-taken.ensures in
+    turn listing_walk _ _ l.state _ c.record_length.result c.least-stop.result (input_fits c) c.loop-state-test.true c.record_length.ensures.value c.least-stop.ensures (record { is = k.answered }) k.state k.text (full_ample _ (full_after c))
+
+-- the buffer behind a record has room for a line
+room_behind : (c : After-take_record-taken) → c.take_record-taken.result.end + 40 ≤ length c.take_record-taken.new.out
+room_behind c =
+    let g = c.loop-state.invariant.0 in
+    omega (arith, (turned c).text.bound, going_room g c.loop-state-test.true, g.left.long, c.take_record-taken.auto.out)
+
+pub put_refusal-requires : goal.put_refusal-requires
+put_refusal-requires c = room_behind (goal.at.put_refusal-requires c).After-take_record-taken
+
+pub shape_of-out-then-not-is_done : goal.shape_of-out-then-not-is_done
+shape_of-out-then-not-is_done c = c.put_refusal.auto.out ∙ c.take_record-taken.auto.out ∙ c.loop-state.invariant.0.left.long
+
+pub returns-then-not-is_done : goal.returns-then-not-is_done
+returns-then-not-is_done c =
+    let l = c.loop-state in
+    let f = c.put_refusal in (
+      told _ _ _ _ _ l.invariant.2 (left_last (listing_refused l.invariant.0 (turned (goal.at.returns-then-not-is_done c).After-take_record-taken) (sym c.is_done.ensures ∙ c.if-not-is_done.true)) f.ensures.wrote),
+      counts _ _ (omega (arith, f.ensures.bound, f.auto.out, room_behind (goal.at.returns-then-not-is_done c).After-take_record-taken)),
+    )
+
+pub loop-state-smaller : goal.loop-state-smaller
+loop-state-smaller c =
+    omega (arith, (turned (goal.at.loop-state-smaller c).After-take_record-taken).inside, (listing_passed c.loop-state.invariant.0 (turned (goal.at.loop-state-smaller c).After-take_record-taken) (sym c.is_done.ensures ∙ c.if-not-is_done.false)).next)
+
+pub loop-state-preserved : goal.loop-state-preserved
+loop-state-preserved c =
+    let l = c.loop-state in
+    (going_more l.invariant.0 (turned (goal.at.loop-state-preserved c).After-take_record-taken) (listing_passed l.invariant.0 (turned (goal.at.loop-state-preserved c).After-take_record-taken) (sym c.is_done.ensures ∙ c.if-not-is_done.false)), full_after (goal.at.loop-state-preserved c).After-take_record-taken, l.invariant.2)
+
+pub shape_of-out : goal.shape_of-out
+shape_of-out c = c.loop-state.invariant.0.left.long
+
+pub returns : goal.returns
+returns c =
+    let l = c.loop-state in
+    let g = l.invariant.0 in
+    (told _ _ _ _ _ l.invariant.2 (left_done (going_done g c.loop-state-test.false)), counts _ _ (omega (arith, g.left.long, g.room)))
