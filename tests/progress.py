@@ -12,7 +12,7 @@ import time
 CRATE = re.compile(r"rt: (\w+) (proved$|NOT PROVED\b|is kept: )")
 EDIT = re.compile(r"rt: must-fail ")
 OK = re.compile(r"rt: ok; ")
-REFUSED = re.compile(r"; must-fail edits: (\d+) refused(?:, \d+ of them only by a limit)?(?:, (\d+) bad)?;")
+REFUSED = re.compile(r"; must-fail edits: (\d+) refused(?:, (\d+) of them only by a limit)?(?:, (\d+) bad)?;")
 VERDICT = re.compile(r"\d+ passed, (\d+) failed$")
 
 
@@ -43,7 +43,9 @@ def main():
             far = f"edit {tried} of {edits}"
         elif OK.match(line):
             told = REFUSED.search(line)
-            refused = (int(told[1]), int(told[2] or 0)) if told else (0, 0)
+            refused = (int(told[1]), int(told[3] or 0)) if told else (0, 0)
+            if told and told[2]:
+                far = f"{told[2]} of them only by a limit, which says less of the contract"
         minutes = (time.monotonic() - began) / 60
         print(f"{line}  [{far}, {minutes:.1f} min]" if far else line, flush=True)
     if failed == 0 and refused != (edits, 0):

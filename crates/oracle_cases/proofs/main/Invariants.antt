@@ -1,3 +1,4 @@
+-- `oracle_cases::main` ends: each turn takes one from the count of turns.
 use Rattle.oracle_cases.proofs.main.Given as goal
 
 -- the number of turns that are left
