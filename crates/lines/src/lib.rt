@@ -1,121 +1,166 @@
-// The parts of a line of 2 to 32 points, at twice its value, on 16-bit data: products of its odd values, and even and odd part put together.
-// x holds the values of a line; a line of n points reads every st-th of them, where n × st is their number.
+// Lines of 2 to 32 points by even and odd parts, at twice their value, on 16-bit data. x holds the first values of a line, and those past its
+// end are zero: all of a line, or its first quarter. A line of n points reads every st-th value, and is one function for each length of x.
 #![tactic(auto)]
 
-ghost use Rattle.std.specs.Prelude.{◌≡◌, ◌*◌, ◌+ℤ◌, ◌*ℤ◌};
+ghost use Rattle.std.specs.Prelude.{◌≡◌, ◌*◌, ◌≤◌, pos, ◌+ℤ◌, ◌*ℤ◌, get_or};
 ghost use Rattle.integers.specs.Within.{Within};
-ghost use Rattle.lines.specs.Fold.{value_most, dot_sum, Small, DotNeeds, Folded};
+ghost use Rattle.lines.specs.Fold.{value_most, dot_sum, Small, DotNeeds, FoldNeeds, Folded, Twice, TwiceOdd};
+
+// Value i.
+fn value<const N: usize>(x: &[i16; N], i: usize) -> i16
+    ensures { result ≡ get_or x.now i (pos 0) }
+{
+    match x.get(i) {
+        Some(v) => *v,
+        None => 0,
+    }
+}
 
 // Two products.
-pub fn pair(u: i16, x: i16, v: i16, y: i16) -> i32
+fn pair(u: i16, x: i16, v: i16, y: i16) -> i32
     requires { Within 180 u × Within 180 v }
-    ensures { (result ≡ u *ℤ x +ℤ v *ℤ y) × Within 11796480 result }
+    ensures { (result ≡ u *ℤ x +ℤ v *ℤ y) × Within (2 * value_most) result }
 {
     (u as i32) * (x as i32) + (v as i32) * (y as i32)
 }
 
-// The odd values of x, st apart, by the entries t.
-pub fn dot_2(x: &[i16], st: usize, t: [i16; 2]) -> i32
-    requires { DotNeeds 2 st x.now t }
-    ensures { (result ≡ dot_sum 2 t st x.now) × Within 11796480 result }
+// The odd values of x, st apart, by the entries t, in pairs: of these the compiler makes its 16-bit multiply-add.
+fn dot<const N: usize, const H: usize>(x: &[i16; N], st: usize, t: [i16; H]) -> i32
+    requires { DotNeeds H st t }
+    ensures { (result ≡ dot_sum H t.entry st x.now) × Within (H * value_most) result }
 {
-    pair(t[0], x[st], t[1], x[3 * st])
-}
-
-// The same by four entries: the pairs' sums first, then their sum.
-pub fn dot_4(x: &[i16], st: usize, t: [i16; 4]) -> i32
-    requires { DotNeeds 4 st x.now t }
-    ensures { (result ≡ dot_sum 4 t st x.now) × Within 23592960 result }
-{
-    let mut s = [0i32; 2];
-    let mut k: usize = 0;
-    while k < x.len() / (4 * st) {
-        s[k] = pair(
+    let mut s: i32 = 0;
+    for k in 0..H / 2 {
+        s += pair(
             t[2 * k],
-            x[st * (4 * k + 1)],
+            value(x, st * (4 * k + 1)),
             t[2 * k + 1],
-            x[st * (4 * k + 3)],
+            value(x, st * (4 * k + 3)),
         );
-        k += 1;
     }
-    s[0] + s[1]
+    s
 }
 
-// The same by 8 entries.
-pub fn dot_8(x: &[i16], st: usize, t: [i16; 8]) -> i32
-    requires { DotNeeds 8 st x.now t }
-    ensures { (result ≡ dot_sum 8 t st x.now) × Within 47185920 result }
+// The line of M points from twice its even and its odd part: sums, and from the end on differences.
+fn fold<const H: usize, const M: usize>(e: &[i32; H], o: &[i32; H]) -> [i32; M]
+    requires { FoldNeeds H M e.now o.now }
+    ensures { Folded H e.now o.now result }
 {
-    let mut s = [0i32; 4];
-    let mut k: usize = 0;
-    while k < x.len() / (4 * st) {
-        s[k] = pair(
-            t[2 * k],
-            x[st * (4 * k + 1)],
-            t[2 * k + 1],
-            x[st * (4 * k + 3)],
-        );
-        k += 1;
-    }
-    s[0] + s[1] + s[2] + s[3]
-}
-
-// The line of 4 points from twice its even and its odd part: sums, and from the end on differences.
-pub fn fold_4(e: &[i32; 2], o: &[i32; 2]) -> [i32; 4]
-    requires { Small (2 * value_most) e.now × Small (2 * value_most) o.now }
-    ensures { Folded 2 e.now o.now result }
-{
-    let mut z = [0i32; 4];
-    let mut m: usize = 0;
-    while m < 2 {
+    let mut z = [0i32; M];
+    for m in 0..H {
         z[m] = e[m] + o[m];
-        z[3 - m] = e[m] - o[m];
-        m += 1;
+        z[M - 1 - m] = e[m] - o[m];
     }
     z
 }
 
-// The line of 8 points from twice its even and its odd part: sums, and from the end on differences.
-pub fn fold_8(e: &[i32; 4], o: &[i32; 4]) -> [i32; 8]
-    requires { Small (4 * value_most) e.now × Small (4 * value_most) o.now }
-    ensures { Folded 4 e.now o.now result }
+#[inline(always)]
+fn line_2<const N: usize>(x: &[i16; N], st: usize) -> [i32; 2]
+    ensures { Twice 2 st x.now result }
 {
-    let mut z = [0i32; 8];
-    let mut m: usize = 0;
-    while m < 4 {
-        z[m] = e[m] + o[m];
-        z[7 - m] = e[m] - o[m];
-        m += 1;
-    }
-    z
+    let a = value(x, 0);
+    let b = value(x, st);
+    [pair(128, a, 128, b), pair(128, a, -128, b)]
 }
 
-// The line of 16 points from twice its even and its odd part: sums, and from the end on differences.
-pub fn fold_16(e: &[i32; 8], o: &[i32; 8]) -> [i32; 16]
-    requires { Small (8 * value_most) e.now × Small (8 * value_most) o.now }
-    ensures { Folded 8 e.now o.now result }
+#[inline(always)]
+fn odd_4<const N: usize>(x: &[i16; N], st: usize) -> [i32; 2]
+    requires { 4 * st ≤ 32 }
+    ensures { TwiceOdd 2 st x.now result }
 {
-    let mut z = [0i32; 16];
-    let mut m: usize = 0;
-    while m < 8 {
-        z[m] = e[m] + o[m];
-        z[15 - m] = e[m] - o[m];
-        m += 1;
-    }
-    z
+    [dot(x, st, [166, 72]), dot(x, st, [72, -166])]
 }
 
-// The line of 32 points from twice its even and its odd part: sums, and from the end on differences.
-pub fn fold_32(e: &[i32; 16], o: &[i32; 16]) -> [i32; 32]
-    requires { Small (16 * value_most) e.now × Small (16 * value_most) o.now }
-    ensures { Folded 16 e.now o.now result }
+#[inline(always)]
+fn line_4<const N: usize>(x: &[i16; N], st: usize) -> [i32; 4]
+    requires { 4 * st ≤ 32 }
+    ensures { Twice 4 st x.now result }
 {
-    let mut z = [0i32; 32];
-    let mut m: usize = 0;
-    while m < 16 {
-        z[m] = e[m] + o[m];
-        z[31 - m] = e[m] - o[m];
-        m += 1;
-    }
-    z
+    let e = line_2(x, 2 * st);
+    let o = odd_4(x, st);
+    fold(&e, &o)
+}
+
+#[inline(always)]
+fn odd_8<const N: usize>(x: &[i16; N], st: usize) -> [i32; 4]
+    requires { 8 * st ≤ 32 }
+    ensures { TwiceOdd 4 st x.now result }
+{
+    [
+        dot(x, st, [178, 150, 100, 36]),
+        dot(x, st, [150, -36, -178, -100]),
+        dot(x, st, [100, -178, 36, 150]),
+        dot(x, st, [36, -100, 150, -178]),
+    ]
+}
+
+#[inline(always)]
+pub fn line_8<const N: usize>(x: &[i16; N], st: usize) -> [i32; 8]
+    requires { 8 * st ≤ 32 }
+    ensures { Twice 8 st x.now result }
+{
+    let e = line_4(x, 2 * st);
+    let o = odd_8(x, st);
+    fold(&e, &o)
+}
+
+#[inline(always)]
+fn odd_16<const N: usize>(x: &[i16; N], st: usize) -> [i32; 8]
+    requires { 16 * st ≤ 32 }
+    ensures { TwiceOdd 8 st x.now result }
+{
+    [
+        dot(x, st, [180, 174, 160, 140, 114, 86, 50, 18]),
+        dot(x, st, [174, 114, 18, -86, -160, -180, -140, -50]),
+        dot(x, st, [160, 18, -140, -174, -50, 114, 180, 86]),
+        dot(x, st, [140, -86, -174, 18, 180, 50, -160, -114]),
+        dot(x, st, [114, -160, -50, 180, -18, -174, 86, 140]),
+        dot(x, st, [86, -180, 114, 50, -174, 140, 18, -160]),
+        dot(x, st, [50, -140, 180, -160, 86, 18, -114, 174]),
+        dot(x, st, [18, -50, 86, -114, 140, -160, 174, -180]),
+    ]
+}
+
+#[inline(always)]
+pub fn line_16<const N: usize>(x: &[i16; N], st: usize) -> [i32; 16]
+    requires { 16 * st ≤ 32 }
+    ensures { Twice 16 st x.now result }
+{
+    let e = line_8(x, 2 * st);
+    let o = odd_16(x, st);
+    fold(&e, &o)
+}
+
+#[rattlefmt::skip]
+#[inline(always)]
+fn odd_32<const N: usize>(x: &[i16; N]) -> [i32; 16]
+    ensures { TwiceOdd 16 1 x.now result }
+{
+    [
+        dot(x, 1, [180, 180, 176, 170, 164, 156, 146, 134, 122, 108, 92, 76, 62, 44, 26, 8]),
+        dot(x, 1, [180, 164, 134, 92, 44, -8, -62, -108, -146, -170, -180, -176, -156, -122, -76, -26]),
+        dot(x, 1, [176, 134, 62, -26, -108, -164, -180, -156, -92, -8, 76, 146, 180, 170, 122, 44]),
+        dot(x, 1, [170, 92, -26, -134, -180, -146, -44, 76, 164, 176, 108, -8, -122, -180, -156, -62]),
+        dot(x, 1, [164, 44, -108, -180, -122, 26, 156, 170, 62, -92, -180, -134, 8, 146, 176, 76]),
+        dot(x, 1, [156, -8, -164, -146, 26, 170, 134, -44, -176, -122, 62, 180, 108, -76, -180, -92]),
+        dot(x, 1, [146, -62, -180, -44, 156, 134, -76, -180, -26, 164, 122, -92, -176, -8, 170, 108]),
+        dot(x, 1, [134, -108, -156, 76, 170, -44, -180, 8, 180, 26, -176, -62, 164, 92, -146, -122]),
+        dot(x, 1, [122, -146, -92, 164, 62, -176, -26, 180, -8, -180, 44, 170, -76, -156, 108, 134]),
+        dot(x, 1, [108, -170, -8, 176, -92, -122, 164, 26, -180, 76, 134, -156, -44, 180, -62, -146]),
+        dot(x, 1, [92, -180, 76, 108, -180, 62, 122, -176, 44, 134, -170, 26, 146, -164, 8, 156]),
+        dot(x, 1, [76, -176, 146, -8, -134, 180, -92, -62, 170, -156, 26, 122, -180, 108, 44, -164]),
+        dot(x, 1, [62, -156, 180, -122, 8, 108, -176, 164, -76, -44, 146, -180, 134, -26, -92, 170]),
+        dot(x, 1, [44, -122, 170, -180, 146, -76, -8, 92, -156, 180, -164, 108, -26, -62, 134, -176]),
+        dot(x, 1, [26, -76, 122, -156, 176, -180, 170, -146, 108, -62, 8, 44, -92, 134, -164, 180]),
+        dot(x, 1, [8, -26, 44, -62, 76, -92, 108, -122, 134, -146, 156, -164, 170, -176, 180, -180]),
+    ]
+}
+
+#[inline(always)]
+pub fn line_32<const N: usize>(x: &[i16; N]) -> [i32; 32]
+    ensures { Twice 32 1 x.now result }
+{
+    let e = line_16(x, 2);
+    let o = odd_32(x);
+    fold(&e, &o)
 }

@@ -9,27 +9,24 @@
 --   pass_two                so does stage two, over what stage one stored
 --   intermediate-past       columns from the count on are zero
 --   block-residual          what stage two stores is the residual
---   block_fits              with a shift of 11 or 12 it fits 16 bits
+--   block_fits              what holds of every sum of at most 1862 × 2^15, shifted, holds of it
 use mathlib.Core.Path.{◌≡◌, refl, sym, ap, ap₂, ◌∙◌, subst}
 use mathlib.Core.List.{List}
 use Prim.Native.Nat.{ℕ, ◌+◌, ◌*◌, ◌/◌, ◌≤◌, ◌<◌}
-use native.Mathlib.Nat.{zero-add, add_comm, mul-le-mul_right, mul-suc}
-use native.Mathlib.Decide.{ℕ_discrete, dec_lt}
+use native.Mathlib.Nat.{zero-add, add_comm, mul-le-mul_right}
+use native.Mathlib.Decide.{dec_lt}
 use native.Mathlib.Omega.{arith}
 use borrow.Author.Tests.{lt-ltb, le-ltb}
 use lib.Arith.{digits_lt}
-use lib.IntN.{ℤ, pos, negsuc, ◌+ℤ◌, ◌*ℤ◌, *ℤ-zero}
+use lib.IntN.{ℤ, pos, negsuc, ◌*ℤ◌, *ℤ-zero}
 use lib.ListN.{length, get_or, replicate, length-replicate}
-use lib.Signed.{shr_z, ◌≤ℤ◌}
+use lib.Signed.{◌≤ℤ◌}
 use mir.Syntax.{w16}
 use mir.Val.{SFits}
 use Rattle.integers.specs.Clip.{clip3}
 use Rattle.integers.specs.Lists.{overwrite}
 use Rattle.integers.specs.Shift.{shift_right, round_shift}
 use Rattle.integers.specs.Within.{Within}
-use Rattle.integers.proofs.LinearLaws.{pos_part, neg_part, parts_add_le}
-use Rattle.integers.proofs.OrderLaws.{Floor, shr_floor}
-use Rattle.integers.proofs.BoundLaws.{within_in}
 use Rattle.integers.proofs.ClipLaws.{clip3_within}
 use Rattle.integers.proofs.SumLaws.{sum_cong, sum-short, sum-none}
 use Rattle.h265.specs.Range.{coeff_min, coeff_max, clip_coeff}
@@ -41,25 +38,12 @@ use Rattle.transform_1d.proofs.RowsLaws.{row_unique, filled_cong, filled-overwri
 use Rattle.transform_1d.proofs.MatrixLaws.{transform_line_within, Laid}
 use Rattle.coefficients.specs.Rows.{RowsUsed}
 use Rattle.stages.specs.Passes.{shifted_residual, PassNeeds, column_value, row_value}
-use Rattle.stages.proofs.FinishLaws.{clip_fits}
+use Rattle.stages.specs.Fits.{clip_fits}
 
 pub transform_line-short : (t : ℕ → ℕ → ℤ) (n k : ℕ) (y : ℕ → ℤ) (m : ℕ) → k ≤ n → ((i : ℕ) → k ≤ i → i < n → y i ≡ pos 0)
     → transform_line t n y m ≡ transform_line t k y m
 unfolding transform_line
 transform_line-short t n k y m l h = sum-short n k (λ i. t i m *ℤ y i) l (λ i a b. ap (λ (z : ℤ). t i m *ℤ z) (h i a b) ∙ *ℤ-zero (t i m))
-
--- ---- 16 bits: a sum of at most 1862 × 2^15, shifted by 11 or 12
-floor_fits : (x : ℤ) (m : ℕ) → 2048 ≤ m → pos_part x + neg_part x ≤ 61016064 → (q : ℤ) → Floor x m q → SFits w16 q
-floor_fits x m h l (pos a) f = record { sfits = omega (arith, mul-le-mul_right a h) }
-floor_fits x m h l (negsuc a) f = record { sfits = omega (arith, mul-le-mul_right a h, mul-suc m a) }
-
-pub round_shift_fits : (s : ℕ) {x : ℤ} → 11 ≤ s → s ≤ 12 → Within 61014016 x → SFits w16 (round_shift x s)
-unfolding round_shift shift_right
-round_shift_fits s {x} h l w =
-    elim (ℕ_discrete s 11) [
-      | yes e ↦ rw e (floor_fits (x +ℤ pos 1024) 2048 (omega arith) (omega (arith, within_in w, parts_add_le x (pos 1024))) (shr_z (x +ℤ pos 1024) 2048) (shr_floor (x +ℤ pos 1024) 2048 (omega arith)))
-      | no d ↦ rw (let e : s ≡ 12 = omega arith in e) (floor_fits (x +ℤ pos 2048) 4096 (omega arith) (omega (arith, within_in w, parts_add_le x (pos 2048))) (shr_z (x +ℤ pos 2048) 4096) (shr_floor (x +ℤ pos 2048) 4096 (omega arith)))
-    ]
 
 pub clip_coeff_within : (x : ℤ) → Within 32768 (clip_coeff 15 x)
 unfolding clip_coeff coeff_min coeff_max
@@ -202,9 +186,9 @@ module _ {t : ℕ → ℕ → ℤ} {n : ℕ} {xs : List ℤ} (T : Laid t n xs) {
     block-residual {outputs} L s l p =
         filled-overwrite n T.some (filled_cong (λ m j hm hj. ap (λ (z : ℤ). round_shift z s) (line_two m j (outputs j) hm (λ k b. L.reads k j b hj))) p) l
 
-    pub block_fits : {outputs column : ℕ → ℕ} → Lanes t n xs outputs column → (s : ℕ) → 11 ≤ s → s ≤ 12 → ((m : ℕ) → m < n → abs_sum t n m ≤ℤ pos 1862)
-        → (m p : ℕ) → m < n → p < n → SFits w16 (row_value xs d n g s (place m) (outputs p))
+    pub block_fits : (P : ℤ → Type 0) {outputs column : ℕ → ℕ} → Lanes t n xs outputs column → (s : ℕ) → ((x : ℤ) → Within 61014016 x → P (round_shift x s))
+        → ((m : ℕ) → m < n → abs_sum t n m ≤ℤ pos 1862) → (m p : ℕ) → m < n → p < n → P (row_value xs d n g s (place m) (outputs p))
     unfolding stage_two_sum intermediate
-    block_fits {outputs} {column} L s h l b m p hm hp =
-        subst (λ (z : ℤ). SFits w16 (round_shift z s)) (sym (line_two m (column p) (outputs p) hm (λ k a. L.reads k p a hp)))
-        (round_shift_fits s h l (transform_line_within t n (λ c. intermediate t n 15 read m c) (column p) (b (column p) (L.inside p hp)) (λ c k. clip_coeff_within (stage_one_value t n read m c))))
+    block_fits P {outputs} {column} L s h b m p hm hp =
+        subst (λ (z : ℤ). P (round_shift z s)) (sym (line_two m (column p) (outputs p) hm (λ k a. L.reads k p a hp)))
+        (h _ (transform_line_within t n (λ c. intermediate t n 15 read m c) (column p) (b (column p) (L.inside p hp)) (λ c k. clip_coeff_within (stage_one_value t n read m c))))

@@ -1,4 +1,5 @@
 -- Laws of both stages by lines over columns: what they give is the residual.
+--   stored_small         what stage one stored is 16 bits wide
 --   line_two             a line over what stage one stored is the residual
 --   both_rows            so are its rows, by a function of them
 --   wide_not             one of the two outputs is used
@@ -6,7 +7,6 @@
 --   rows_rest            where the rest of a block is zero, its first rows are in use
 --   first_rows           a copy of the first rows of a block reads as the block
 --   copied_block         what both stages give of the copy is the residual of the block
---   residual_fits        with a shift of 11 or 12 it fits 16 bits
 use mathlib.Core.Path.{◌≡◌, sym, ap, ◌∙◌, subst}
 use mathlib.Core.Bool.{true, false}
 use mathlib.Core.List.{List}
@@ -17,24 +17,20 @@ use native.Mathlib.Omega.{arith}
 use lib.Arith.{digits_lt}
 use lib.IntN.{ℤ, pos}
 use lib.ListN.{length, get_or, replicate, length-replicate, get_or-eq_default}
-use lib.Signed.{◌≤ℤ◌}
-use mir.Syntax.{w16}
-use mir.Val.{SFits}
 use Rattle.integers.specs.Lists.{overwrite}
 use Rattle.integers.specs.Shift.{pow2}
+use Rattle.integers.specs.Within.{Within}
 use Rattle.h265.specs.Range.{clip_coeff}
-use Rattle.h265.specs.Matrix.{trans_matrix, abs_sum}
-use Rattle.h265.specs.Transform.{block_at, row_order, columns_read, stage_one_value, intermediate, stage_two_sum, stage_two}
+use Rattle.h265.specs.Matrix.{trans_matrix}
+use Rattle.h265.specs.Transform.{block_at, row_order, columns_read, stage_one_value, intermediate}
 use Rattle.h265.proofs.TransformLaws.{intermediate_cong, stage_two_cong, columns_read_in}
 use Rattle.transform_1d.specs.Rows.{Placed, Filled}
 use Rattle.transform_1d.proofs.RowsLaws.{row_unique, filled_cong, filled-overwrite, zeros-get_or}
-use Rattle.transform_1d.proofs.MatrixLaws.{transform_line_within}
 use Rattle.coefficients.specs.Rows.{RowsUsed}
 use Rattle.tiles.specs.Tile.{line_value}
 use Rattle.tiles.proofs.TileLaws.{line_value-stage_two, line_value-intermediate}
 use Rattle.stages.specs.Passes.{shifted_residual}
-use Rattle.stages.proofs.FinishLaws.{clip_fits}
-use Rattle.stages.proofs.BlockLaws.{intermediate-past, round_shift_fits, clip_coeff_within}
+use Rattle.stages.proofs.BlockLaws.{intermediate-past, clip_coeff_within}
 
 -- ---- both stages
 module _ (n nx w : ℕ) (xs : List ℤ) {d : List ℤ} (f : Filled n n (λ c m. clip_coeff 15 (line_value n (pos 64) 7 xs c m)) nx (replicate w (pos 0)) d) where
@@ -47,6 +43,11 @@ module _ (n nx w : ℕ) (xs : List ℤ) {d : List ℤ} (f : Filled n n (λ c m. 
         | no b ↦ f.kept (c * n + m) (λ r j p q e. b (subst (λ (i : ℕ). i < nx) (sym (row_unique n c r m j h q e)) p))
             ∙ zeros-get_or w (c * n + m) ∙ sym (intermediate-past (trans_matrix n) n nx (block_at n xs) m c (omega arith))
       ]
+
+  pub stored_small : (c m : ℕ) → m < n → Within 32768 (get_or d (c * n + m) (pos 0))
+  unfolding block_at intermediate
+  stored_small c m h =
+      subst (λ (z : ℤ). Within 32768 z) (sym (stored m c h)) (clip_coeff_within (stage_one_value (trans_matrix n) n (columns_read nx (block_at n xs)) m c))
 
   pub line_two : (s m j : ℕ) → m < n → line_value n (pow2 (s - 1)) s d m j ≡ shifted_residual (trans_matrix n) n s nx xs m j
   unfolding shifted_residual
@@ -103,16 +104,3 @@ module _ {q n nx : ℕ} {coeff a : List ℤ} {f : ℕ → ℤ} (p : Placed 0 (q 
   pub copied_block : (s : ℕ) {out r : List ℤ} → 0 < n → n * n ≤ length out → Filled n n (shifted_residual (trans_matrix n) n s nx a) n out r
       → r ≡ overwrite (n * n) (row_order n (shifted_residual (trans_matrix n) n s nx coeff)) out
   copied_block s o h b = filled-overwrite n o (filled_cong (λ m j x y. same_residual s m j) b) h
-
--- ---- 16 bits
-pub residual_fits : (n s nx : ℕ) (xs : List ℤ) (m j : ℕ) → 11 ≤ s → s ≤ 12 → j < n → ((j : ℕ) → j < n → abs_sum (trans_matrix n) n j ≤ℤ pos 1862)
-    → SFits w16 (shifted_residual (trans_matrix n) n s nx xs m j)
-unfolding shifted_residual stage_two stage_two_sum intermediate
-residual_fits n s nx xs m j h l a b =
-    round_shift_fits s h l
-    (transform_line_within (trans_matrix n) n (λ c. intermediate (trans_matrix n) n 15 (columns_read nx (block_at n xs)) m c) j (b j a)
-    (λ c k. clip_coeff_within (stage_one_value (trans_matrix n) n (columns_read nx (block_at n xs)) m c)))
-
-pub thin_rows_lem : {n : ℕ} (s nx : ℕ) (xs : List ℤ) {out r : List ℤ} → 11 ≤ s → s ≤ 12 → ((j : ℕ) → j < n → abs_sum (trans_matrix n) n j ≤ℤ pos 1862)
-    → Filled n n (λ m j. clip_coeff 15 (shifted_residual (trans_matrix n) n s nx xs m j)) n out r → Filled n n (shifted_residual (trans_matrix n) n s nx xs) n out r
-thin_rows_lem {n} s nx xs h l b p = filled_cong (λ m j x y. clip_fits (residual_fits n s nx xs m j h l y b)) p

@@ -3,4 +3,5 @@ pub mod FinishLaws
 pub mod PassesLaws
 pub mod BlockLaws
 pub mod BothLaws
+pub mod SizesLaws
 pub mod PlainLaws

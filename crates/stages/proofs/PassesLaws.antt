@@ -11,8 +11,6 @@ use native.Mathlib.Nat.{add_comm}
 use native.Mathlib.Omega.{arith}
 use lib.Arith.{digits_lt}
 use lib.IntN.{ℤ}
-use mir.Syntax.{w16}
-use mir.Val.{SFits}
 use Rattle.transform_1d.specs.Lanes.{lane_output, line_sum, LineNeeds, LineSums}
 use Rattle.transform_1d.specs.Rows.{Placed, Filled}
 use Rattle.transform_1d.proofs.RowsLaws.{placed_cong, filled_suc}
@@ -41,7 +39,7 @@ pub filled_line : (f : ℤ → ℤ) {n : ℕ} {t x : List ℤ} {c groups : ℕ} 
 filled_line f h s p q = filled_suc (omega arith) p (placed_cong (λ j l. ap f (s.output j (omega arith))) q)
 
 -- what fits for a line fits for the outputs of its sums
-module _ (f : ℤ → ℤ) {n : ℕ} {t x : List ℤ} {m groups : ℕ} {z : List ℤ} (s : LineSums t x m n groups z) (l : n ≤ 32)
-    (fits : (j : ℕ) → j < n → SFits w16 (f (line_sum t x m n groups j))) where
-  pub outputs_fit : (j : ℕ) → j < n → SFits w16 (f (lane_output z j))
-  outputs_fit j h = subst (λ (y : ℤ). SFits w16 y) (sym (ap f (s.output j (omega arith)))) (fits j h)
+module _ (P : ℤ → Type 0) (f : ℤ → ℤ) {n : ℕ} {t x : List ℤ} {m groups : ℕ} {z : List ℤ} (s : LineSums t x m n groups z) (l : n ≤ 32)
+    (fits : (j : ℕ) → j < n → P (f (line_sum t x m n groups j))) where
+  pub outputs_fit : (j : ℕ) → j < n → P (f (lane_output z j))
+  outputs_fit j h = subst (λ (y : ℤ). P y) (sym (ap f (s.output j (omega arith)))) (fits j h)

@@ -3,16 +3,18 @@
 --   block_needs_size              what a block asks, by another name of its size or of its column count
 --   result_size                a block's result, by another name of its size
 --   plain_needs_block             what the plain range asks covers what a block asks
---   result_dct, result_dst     a block's result is the residual of its kind
+--   result_dct, result_size_4  a block's result is the residual of its kind
+--   layout_of, kind_abs_sum    the layout of a kind of 4 points, and how large its entries are
 --   first_inside, first_fits, times_64   the first coefficient, and 64 times it
 --   dc_residual, dc_result  one coefficient alone: every output is the same
-use mathlib.Core.Path.{◌≡◌, sym, ap, ◌∙◌, subst}
+use mathlib.Core.Path.{◌≡◌, refl, sym, ap, ◌∙◌, subst}
 use mathlib.Core.List.{List}
 use Prim.Native.Nat.{ℕ, ◌*◌, ◌-◌, ◌/◌, ◌%◌, ◌<◌}
 use native.Mathlib.Nat.{zero-mul, add-zero, mul-le-mul}
 use native.Mathlib.Omega.{arith}
 use lib.IntN.{ℤ, pos, ◌*ℤ◌, +ℤ_idl}
 use lib.ListN.{length, get_or}
+use lib.Signed.{◌≤ℤ◌}
 use mir.Syntax.{w16}
 use mir.Val.{SFits}
 use Rattle.integers.specs.Lists.{overwrite}
@@ -21,12 +23,16 @@ use Rattle.integers.specs.Sum.{sum}
 use Rattle.integers.specs.Within.{Within}
 use Rattle.integers.proofs.BoundLaws.{within_lit_mul, within_sfits}
 use Rattle.integers.proofs.ListsLaws.{overwrite_cong}
+use Rattle.integers.proofs.OrderLaws.{≤ℤ_trans}
 use Rattle.h265.specs.Range.{clip_coeff}
-use Rattle.h265.specs.Matrix.{trans_matrix32, trans_matrix, dst_matrix}
+use Rattle.h265.specs.Matrix.{trans_matrix32, trans_matrix, dst_matrix, abs_sum}
 use Rattle.h265.specs.Transform.{transform_line, block_at, row_order, columns_read, stage_one_sum, stage_one_value, intermediate, stage_two_sum, stage_two_shift, stage_two, residual}
 use Rattle.transform_1d.specs.declared.Kind.{Kind}
 use Rattle.transform_1d.specs.declared.Kind.TheVariants.{Dct, Dst}
 use Rattle.transform_1d.specs.MatrixOf.{matrix_of}
+use Rattle.transform_1d.specs.Lanes.{lanes}
+use Rattle.transform_1d.proofs.LanesLaws.{trans_matrix_within, dst_matrix_within}
+use Rattle.transform_1d.proofs.MatrixLaws.{Laid, laid, trans_matrix-abs_sum_4, dst_matrix-abs_sum}
 use Rattle.stages.specs.Plain.{PlainNeeds}
 use Rattle.coefficients.specs.Rows.{RowsUsed}
 use Rattle.stages.specs.Passes.{shifted_residual, BlockNeeds}
@@ -61,11 +67,21 @@ pub result_dct : {kind : Kind} (n b nx : ℕ) (coeff out r : List ℤ) → kind 
 unfolding residual shifted_residual stage_two_shift matrix_of
 result_dct n b nx coeff out r e h = subst (λ (k : Kind). Plain k n b nx coeff out r) (sym e) h
 
-pub result_dst : {kind : Kind} (n b nx : ℕ) (coeff out r : List ℤ) → kind ≡ Dst → n ≡ 4
-    → r ≡ overwrite (4 * 4) (row_order 4 (shifted_residual dst_matrix 4 (20 - b) nx coeff)) out → Plain kind n b nx coeff out r
-unfolding residual shifted_residual stage_two_shift matrix_of
-result_dst n b nx coeff out r e f h =
-    subst (λ (k : Kind). Plain k n b nx coeff out r) (sym e) (subst (λ (i : ℕ). Plain Dst i b nx coeff out r) (sym f) h)
+pub result_size_4 : (kind : Kind) {n : ℕ} (b nx : ℕ) (coeff out r : List ℤ) → n ≡ 4
+    → r ≡ overwrite (4 * 4) (row_order 4 (shifted_residual (matrix_of kind 4) 4 (20 - b) nx coeff)) out → Plain kind n b nx coeff out r
+unfolding residual shifted_residual stage_two_shift
+result_size_4 kind b nx coeff out r e h = subst (λ (i : ℕ). Plain kind i b nx coeff out r) (sym e) h
+
+-- ---- layouts of both kinds of 4 points
+pub layout_of : (kind : Kind) (xs : List ℤ) → xs ≡ lanes (matrix_of kind 4) 4 → Laid (matrix_of kind 4) 4 xs
+unfolding matrix_of
+layout_of Dct xs e = laid (trans_matrix 4) 4 e (trans_matrix_within 4) (omega arith) refl (omega arith)
+layout_of Dst xs e = laid dst_matrix 4 e dst_matrix_within (omega arith) refl (omega arith)
+
+pub kind_abs_sum : (kind : Kind) (m : ℕ) → m < 4 → abs_sum (matrix_of kind 4) 4 m ≤ℤ pos 1862
+unfolding matrix_of
+kind_abs_sum Dct m l = ≤ℤ_trans {y = pos 247} (trans_matrix-abs_sum_4 m l) (record { le = tt })
+kind_abs_sum Dst m l = ≤ℤ_trans {y = pos 242} (dst_matrix-abs_sum m l) (record { le = tt })
 
 -- ---- one coefficient
 pub first_inside : {n s : ℕ} {coeff : List ℤ} {len : ℕ} → 0 < n → BlockNeeds n s 1 coeff len → 0 < length coeff

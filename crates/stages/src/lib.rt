@@ -2,7 +2,7 @@
 // Internal: no refusal; callers meet each `requires`.
 #![tactic(auto)]
 
-ghost use Rattle.std.specs.Prelude.{◌≡◌, ◌*◌, ◌≤◌, ◌-◌, T, length};
+ghost use Rattle.std.specs.Prelude.{◌≡◌, ◌*◌, ◌≤◌, ◌-◌, T, length, map};
 ghost use Rattle.integers.specs.Lists.{overwrite};
 ghost use Rattle.h265.specs.Range.{is_size};
 ghost use Rattle.h265.specs.Matrix.{trans_matrix};
@@ -11,43 +11,54 @@ ghost use Rattle.transform_1d.specs.MatrixOf.{matrix_of};
 ghost use Rattle.stages.specs.Plain.{PlainNeeds};
 ghost use Rattle.stages.specs.Passes.{shifted_residual, BlockNeeds};
 
-use coefficients::rows_used;
+use crate::sample::Sample;
+use crate::scan::first_row_alone;
+use tiles::{Whole8, Whole16};
+use tiles_32::Whole32;
+use tiles_quarter::{Quarter8, Quarter16, Quarter32};
 use transform_1d::Kind;
 
-mod scan; // which rows of 16-bit coefficients are in use, and coefficients narrowed or copied
+pub mod sample; // the two widths of coefficients and residuals
+mod scan; // coefficients as they are read
 mod finish; // rounding and storing of a line's outputs
 mod passes; // one stage of a block of size 4
-mod both; // both stages over 16-bit data
-mod blocks; // both stages of a block, a function for each size
-mod blocks16; // the same, 16 bits wide
-
-use scan::rows_used16;
+mod blocks; // both stages of a block
 
 // The DCT of a block of any size.
-fn dct_sized(coeff: &[i32], n: usize, nx: usize, s: u32, out: &mut [i32])
-    requires { T (is_size n) × BlockNeeds n s nx coeff.now (length out.old) }
-    ensures { out.new ≡ overwrite (n * n) (row_order n (shifted_residual (trans_matrix n) n s nx coeff.now)) out.old }
+fn dct_sized<V: Sample>(coeff: &[V], n: usize, nx: usize, s: u32, out: &mut [V])
+    requires { T (is_size n) × BlockNeeds n s nx (map V.value coeff.now) (length out.old) × (V.least_shift ≤ s) }
+    ensures { map V.value out.new ≡ overwrite (n * n) (row_order n (shifted_residual (trans_matrix n) n s nx (map V.value coeff.now))) (map V.value out.old) }
 {
     match n {
-        4 => blocks::dct_4(coeff, nx, s, out),
-        8 => blocks::dct_8(coeff, nx, s, out),
-        16 => blocks::dct_16(coeff, nx, s, out),
-        _ => blocks::dct_32(coeff, nx, s, out),
+        4 => blocks::block_4(Kind::Dct, coeff, nx, s, out),
+        8 => blocks::block_dct::<V, Whole8, Quarter8, 64, 32>(coeff, nx, s, out),
+        16 => blocks::block_dct::<V, Whole16, Quarter16, 256, 64>(coeff, nx, s, out),
+        _ => blocks::block_dct::<V, Whole32, Quarter32, 1024, 256>(coeff, nx, s, out),
     }
 }
 
 // The DCT of a block of any size; one coefficient alone fills it.
-fn dct_plain(coeff: &[i32], n: usize, nx: usize, s: u32, out: &mut [i32])
-    requires { T (is_size n) × BlockNeeds n s nx coeff.now (length out.old) }
-    ensures { out.new ≡ overwrite (n * n) (row_order n (shifted_residual (trans_matrix n) n s nx coeff.now)) out.old }
+fn dct_plain<V: Sample>(coeff: &[V], n: usize, nx: usize, s: u32, out: &mut [V])
+    requires { T (is_size n) × BlockNeeds n s nx (map V.value coeff.now) (length out.old) × (V.least_shift ≤ s) }
+    ensures { map V.value out.new ≡ overwrite (n * n) (row_order n (shifted_residual (trans_matrix n) n s nx (map V.value coeff.now))) (map V.value out.old) }
 {
-    if nx == 1 {
-        if rows_used(coeff, n, 1, 1) <= 1 {
-            blocks::dc_fill(coeff, n, s, out);
-            return;
-        }
+    if nx == 1 && first_row_alone(coeff, n) {
+        blocks::dc_fill(coeff, n, s, out);
+    } else {
+        dct_sized(coeff, n, nx, s, out);
     }
-    dct_sized(coeff, n, nx, s, out);
+}
+
+// The residual of a block at depths at which it fits.
+fn plain<V: Sample>(kind: Kind, n: usize, bit_depth: u8, nx: usize, coeff: &[V], out: &mut [V])
+    requires { PlainNeeds kind n bit_depth nx (map V.value coeff.now) (length out.old) × (V.least_shift ≤ 20 - bit_depth) }
+    ensures { map V.value out.new ≡ overwrite (n * n) (row_order n (residual (matrix_of kind n) n bit_depth 15 nx (map V.value coeff.now))) (map V.value out.old) }
+{
+    let s = 20 - (bit_depth as u32);
+    match kind {
+        Kind::Dct => dct_plain(coeff, n, nx, s, out),
+        Kind::Dst => blocks::block_4(kind, coeff, nx, s, out),
+    }
 }
 
 // The residual of a block.
@@ -62,38 +73,7 @@ pub fn residual_plain(
     requires { PlainNeeds kind n bit_depth nx coeff.now (length out.old) }
     ensures { out.new ≡ overwrite (n * n) (row_order n (residual (matrix_of kind n) n bit_depth 15 nx coeff.now)) out.old }
 {
-    let s = 20 - (bit_depth as u32);
-    match kind {
-        Kind::Dct => dct_plain(coeff, n, nx, s, out),
-        Kind::Dst => blocks::dst_4(coeff, nx, s, out),
-    }
-}
-
-// The DCT of a block of any size, 16 bits wide.
-fn dct_sized16(coeff: &[i16], n: usize, nx: usize, s: u32, out: &mut [i16])
-    requires { T (is_size n) × BlockNeeds n s nx coeff.now (length out.old) × (11 ≤ s) }
-    ensures { out.new ≡ overwrite (n * n) (row_order n (shifted_residual (trans_matrix n) n s nx coeff.now)) out.old }
-{
-    match n {
-        4 => blocks16::dct16_4(coeff, nx, s, out),
-        8 => blocks16::dct16_8(coeff, nx, s, out),
-        16 => blocks16::dct16_16(coeff, nx, s, out),
-        _ => blocks16::dct16_32(coeff, nx, s, out),
-    }
-}
-
-// The DCT of a block of any size, 16 bits wide; one coefficient alone fills it.
-fn dct_plain16(coeff: &[i16], n: usize, nx: usize, s: u32, out: &mut [i16])
-    requires { T (is_size n) × BlockNeeds n s nx coeff.now (length out.old) × (11 ≤ s) }
-    ensures { out.new ≡ overwrite (n * n) (row_order n (shifted_residual (trans_matrix n) n s nx coeff.now)) out.old }
-{
-    if nx == 1 {
-        if rows_used16(coeff, n, 1, 1) <= 1 {
-            blocks16::dc_fill16(coeff, n, s, out);
-            return;
-        }
-    }
-    dct_sized16(coeff, n, nx, s, out);
+    plain(kind, n, bit_depth, nx, coeff, out);
 }
 
 // The residual of a block at depths 8 and 9, where it fits 16 bits.
@@ -108,9 +88,5 @@ pub fn residual_plain16(
     requires { PlainNeeds kind n bit_depth nx coeff.now (length out.old) × (bit_depth ≤ 9) }
     ensures { out.new ≡ overwrite (n * n) (row_order n (residual (matrix_of kind n) n bit_depth 15 nx coeff.now)) out.old }
 {
-    let s = 20 - (bit_depth as u32);
-    match kind {
-        Kind::Dct => dct_plain16(coeff, n, nx, s, out),
-        Kind::Dst => blocks16::dst16_4(coeff, nx, s, out),
-    }
+    plain(kind, n, bit_depth, nx, coeff, out);
 }

@@ -8,3 +8,4 @@ pub mod MovesLaws
 pub mod ResultLaws
 pub mod ProductsLaws
 pub mod DcLaws
+pub mod PassSizeLaws

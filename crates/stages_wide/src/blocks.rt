@@ -8,8 +8,11 @@ ghost use Rattle.stages_wide.specs.Parts.{StagesNeeds, both_stages};
 
 use crate::parts::{limited, rounded};
 use crate::products::both_4;
-use crate::sizes::{stages_8, stages_16, stages_32};
+use crate::sizes::stages;
 use coefficients::rows_used;
+use tiles::{Whole8, Whole16};
+use tiles_32::Whole32;
+use tiles_quarter::{Quarter8, Quarter16, Quarter32};
 use transform_1d::Kind;
 
 // v in the first w places.
@@ -41,9 +44,9 @@ fn dct_sized(n: usize, shift: u32, range: u32, nx: usize, coeff: &[i32], out: &m
 {
     match n {
         4 => both_4(Kind::Dct, shift, range, nx, coeff, out),
-        8 => stages_8(shift, range, nx, coeff, out),
-        16 => stages_16(shift, range, nx, coeff, out),
-        _ => stages_32(shift, range, nx, coeff, out),
+        8 => stages::<Whole8, Quarter8, 64, 32>(shift, range, nx, coeff, out),
+        16 => stages::<Whole16, Quarter16, 256, 64>(shift, range, nx, coeff, out),
+        _ => stages::<Whole32, Quarter32, 1024, 256>(shift, range, nx, coeff, out),
     }
 }
 

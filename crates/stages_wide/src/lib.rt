@@ -18,6 +18,8 @@ ghost use Rattle.stages_wide.specs.Wide.{column_replaced, limited_block, WideNee
 
 use crate::blocks::stages_dct;
 use crate::products::both_4;
+use tiles::{Whole8, Whole16};
+use tiles_32::Whole32;
 use transform_1d::Kind;
 
 // One column of the intermediate, every coefficient limited as it is read.
@@ -35,8 +37,8 @@ pub fn intermediate_column(
     match n {
         4 => sizes::column_4(kind, coeff, range, column, inter),
         8 => sizes::column_8(coeff, range, column, inter),
-        16 => sizes::column_16(coeff, range, column, inter),
-        _ => sizes::column_32(coeff, range, column, inter),
+        16 => sizes::column::<Whole16, 256, 16>(coeff, range, column, inter),
+        _ => sizes::column::<Whole32, 1024, 32>(coeff, range, column, inter),
     }
 }
 
@@ -47,9 +49,9 @@ pub fn intermediate_of(kind: Kind, n: usize, range: u32, coeff: &[i32], inter: &
 {
     match n {
         4 => sizes::columns_4(kind, coeff, range, inter),
-        8 => sizes::columns_8(coeff, range, inter),
-        16 => sizes::columns_16(coeff, range, inter),
-        _ => sizes::columns_32(coeff, range, inter),
+        8 => sizes::columns::<Whole8, 64, 8>(coeff, range, inter),
+        16 => sizes::columns::<Whole16, 256, 16>(coeff, range, inter),
+        _ => sizes::columns::<Whole32, 1024, 32>(coeff, range, inter),
     }
 }
 
@@ -61,9 +63,9 @@ pub fn residual_of(kind: Kind, n: usize, bit_depth: u8, range: u32, inter: &[i32
     let shift = range + 5 - (bit_depth as u32);
     match n {
         4 => sizes::rows_4(kind, inter, range, shift, out),
-        8 => sizes::rows_8(inter, range, shift, out),
-        16 => sizes::rows_16(inter, range, shift, out),
-        _ => sizes::rows_32(inter, range, shift, out),
+        8 => sizes::rows::<Whole8, 64, 8>(inter, range, shift, out),
+        16 => sizes::rows::<Whole16, 256, 16>(inter, range, shift, out),
+        _ => sizes::rows::<Whole32, 1024, 32>(inter, range, shift, out),
     }
 }
 

@@ -7,14 +7,22 @@
 --   put_more           one part of a line more
 --   lines_next         one line of a tile more
 use mathlib.Core.Path.{◌≡◌, refl, sym, ap, ap₂, ◌∙◌, subst}
-use mathlib.Core.List.{List}
+use mathlib.Core.Bool.{cond}
+use mathlib.Core.List.{List, map}
 use Prim.Native.Nat.{ℕ, ◌+◌, ◌*◌, ◌-◌, ◌/◌, ◌%◌, ◌^◌, ◌≤◌, ◌<◌}
 use native.Mathlib.Nat.{pow-succ', one-mul, mul-le-mul_right, mul-div-mul_left, div-div-eq-div-mul, not-suc-le-zero}
 use native.Mathlib.Decide.{ℕ_discrete, dec_lt}
 use native.Mathlib.Numerals.{add-one}
 use native.Mathlib.Omega.{arith}
 use lib.IntN.{ℤ, pos, negsuc, ◌+ℤ◌, ◌*ℤ◌}
-use lib.ListN.{get_or, length, get_or-eq_default}
+use lib.ListN.{get_or, length, set, get_or-eq_default}
+use Rattle.std.specs.Cmp.{ranks}
+use Rattle.std.proofs.Common.{Ordering, Less, Equal, Greater}
+use Rattle.std.specs.Ordering.{MatchOrdering, ord_min, nat_cmp, is_lt}
+use Rattle.std.specs.Array.{IsFirstChunk}
+use Rattle.std.specs.Option.{MatchOption}
+use Rattle.std.proofs.Common.{Bor, Option, Some}
+use Rattle.std.proofs.lemmas.List.{map-set, map-id, length-map, take_all}
 use lib.Signed.{shr_z}
 use Rattle.integers.specs.Shift.{pow2, shift_right, round_shift}
 use Rattle.integers.proofs.LinearLaws.{parts_ext, parts_mul}
@@ -26,8 +34,8 @@ use Rattle.h265.specs.Range.{clip_coeff}
 use Rattle.h265.proofs.TransformLaws.{transform_line_cong}
 use Rattle.lines.specs.Fold.{Twice}
 use Rattle.transform_1d.specs.Rows.{Placed, Filled}
-use Rattle.transform_1d.proofs.RowsLaws.{placed_cong, placed_append, placed_all, row_unique}
-use Rattle.tiles.specs.Tile.{line_value, Head, Values, Tile, Rows, LinePut}
+use Rattle.transform_1d.proofs.RowsLaws.{placed_suc, placed_cong, placed_append, placed_all, row_unique, filled-all}
+use Rattle.tiles.specs.Tile.{line_value, Head, Values, Rows, LinePut}
 
 -- ---- rounding
 shr_twice : (z : ℤ) (m : ℕ) → shr_z (pos 2 *ℤ z) (2 * m) ≡ shr_z z m
@@ -43,6 +51,13 @@ shift_twice x h s =
     ∙ shr_twice (x +ℤ h) (2 ^ s)
 
 -- ---- columns and rows
+-- the first n elements of n
+pub chunk_all : {A : Type 0} {o : Option (Bor (List A))} {y : Bor (List A)} (xs : List A) (n : ℕ)
+    → MatchOption o (length xs < n) (λ y. IsFirstChunk xs y.now n) → o ≡ Some y → length xs ≡ n → y.now ≡ xs
+chunk_all {A} {o} {y} xs n m e l =
+    let c = subst (λ (o : Option (Bor (List A))). MatchOption o (length xs < n) (λ y. IsFirstChunk xs y.now n)) e m in
+    c.same ∙ take_all n xs (omega (arith, l))
+
 pub head_of : {q : ℕ} (n : ℕ) {xs : List ℤ} {c : ℕ} {r₀ r : List ℤ} {k : ℕ} → Stored (λ i. get_or xs (i * n + c) (pos 0)) r₀ k r → length r₀ ≡ q → k ≡ q → Head q n xs c r
 head_of {q} n {xs} {c} {r₀} {r} s l e =
     record {
@@ -72,18 +87,9 @@ line_row {n} h s {xs} {c} {r} p q e m l =
     (transform_line_cong (trans_matrix n) n (λ k. get_or r (1 * k) (pos 0)) (λ k. get_or xs (k * n + c) (pos 0)) m
     (λ k a. ap (λ (i : ℕ). get_or r i (pos 0)) (one-mul k) ∙ p.at k a))
 
--- a row of lines, stored: what one turn of the tile's loop adds
-pub tile_row : {n : ℕ} (h : ℤ) (s : ℕ) {xs : List ℤ} {c : ℕ} {r z v w : List ℤ} {tw : ℤ} → Values n xs c r → Twice n 1 r z → tw ≡ pos 2 *ℤ h
-    → Placed (c * n) n (λ m. shift_right (get_or z m (pos 0) +ℤ tw) (s + 1)) v w → Placed (c * n) n (line_value n h s xs c) v w
-tile_row h s p q e d = placed_cong (λ m l. line_row h s p q e m l) d
-
-pub tile_all : {n : ℕ} {h : ℤ} {s : ℕ} {xs v w : List ℤ} {k : ℕ} → Filled n n (line_value n h s xs) k v w → k ≡ n → Tile n h s xs w
-tile_all f e = record { at = λ c m a b. f.done c m (omega arith) b }
-
--- f is the identity, or the limit
-pub rows_of : {n : ℕ} {h : ℤ} {s : ℕ} {xs v : List ℤ} {k : ℕ} {y z : List ℤ} (f : ℤ → ℤ) → Tile n h s xs v → k ≤ n
-    → Filled n n (λ c m. f (get_or v (c * n + m) (pos 0))) k y z → Filled n n (λ c m. f (line_value n h s xs c m)) k y z
-rows_of f t l g = record { long = g.long; done = λ c m a b. g.done c m a b ∙ ap f (t.at c m (omega arith) b); kept = g.kept }
+-- numbers that stand for themselves
+pub filled_same : {n : ℕ} {g : ℕ → ℕ → ℤ} {r : ℕ} {xs ys : List ℤ} → Filled n n g r (map (λ x. x) xs) (map (λ x. x) ys) → Filled n n g r xs ys
+filled_same {xs = xs} {ys} p = rw (map-id xs, map-id ys) at p
 
 -- with half the divisor it is a rounded line: stage two of a block that is turned over, and, limited, the intermediate of stage one
 pub line_value-stage_two : (n s : ℕ) (xs : List ℤ) (c m : ℕ) → line_value n (pow2 (s - 1)) s xs c m ≡ stage_two (trans_matrix n) n s (λ i k. block_at n xs k i) c m
@@ -93,6 +99,12 @@ line_value-stage_two n s xs c m = refl
 pub line_value-intermediate : (n : ℕ) (xs : List ℤ) (c m : ℕ) → clip_coeff 15 (line_value n (pos 64) 7 xs c m) ≡ intermediate (trans_matrix n) n 15 (block_at n xs) m c
 unfolding line_value intermediate stage_one_value stage_one_sum round_shift
 line_value-intermediate n xs c m = refl
+
+-- one store more, where the elements stand for numbers
+pub placed_map : {A : Type 0} (f : A → ℤ) {at w : ℕ} {h : ℕ → ℤ} (xs ys : List A) {i : ℕ} {v : A}
+    → Placed at w h (map f xs) (map f ys) → i ≡ at + w → i < length xs → f v ≡ h w → Placed at (w + 1) h (map f xs) (map f (set ys i v))
+placed_map f {at} {w} {h} xs ys {i} {v} p q l e =
+    subst (Placed at (w + 1) h (map f xs)) (sym (map-set f ys i v)) (placed_suc p q (rw (length-map xs f) l) e)
 
 -- ---- lines of more points: four at a time, in parts of eight outputs
 -- output m of line j of a tile
@@ -138,6 +150,22 @@ filled-rows {n} {g} {f} {b} {w} {xs} {ys} {zs} p q h =
       kept = λ i k. q.kept i (λ j m l a e. k (b + j) m (omega arith) a e) ∙ p.kept i (λ r m l a e. k r m (omega arith) a e);
     }
 
+-- the lesser of two
+pub least_is : (a b : ℕ) → ord_min nat_cmp a b ≡ a - (a - b)
+least_is a b = by_order (nat_cmp b a) (ranks b a)
+  where
+    by_order : (r : Ordering) → MatchOrdering r (b < a) (b ≡ a) (a < b) → cond (is_lt r) b a ≡ a - (a - b)
+    by_order Less h = omega arith
+    by_order Equal h = omega arith
+    by_order Greater h = omega arith
+
+-- four rows more, or as many as are left
+pub rows_left : {n k b w x : ℕ} {g f : ℕ → ℕ → ℤ} {xs ys zs : List ℤ} → Filled n n g (b - (b - k)) xs ys → b < k → w ≡ ord_min nat_cmp 4 (k - b)
+    → Rows n f b w ys zs → ((j m : ℕ) → j < 4 → m < n → f j m ≡ g (b + j) m) → x ≡ b + 4 - (b + 4 - k) → Filled n n g x xs zs
+rows_left {k = k} {b} p l e q h y =
+    let a = least_is 4 (k - b) in
+    filled-all _ (omega (arith, a, e, y)) (filled-rows (filled-all b (omega arith) p) q (λ j m o. h j m (omega (arith, a, e))))
+
 -- ---- lines put into a tile
 pub put-none : {j : ℕ} {f : ℕ → ℤ} {v : List ℤ} → LinePut j 0 f v v
 put-none = record { long = refl; done = λ t i h. absurd (not-suc-le-zero h); kept = λ k t i l a d. refl }
@@ -159,18 +187,18 @@ put_more {j} {d} {f} {v} {w} {u} p e l q =
 pub put_all : {j d : ℕ} (e : ℕ) {f : ℕ → ℤ} {v w : List ℤ} → d ≡ e → LinePut j d f v w → LinePut j e f v w
 put_all {j} e {f} {v} {w} q p = subst (λ (i : ℕ). LinePut j i f v w) q p
 
--- the first d lines of a tile of four, T parts a line
-pub record LinesDone (T n : ℕ) (h : ℤ) (s : ℕ) (xs : List ℤ) (b d : ℕ) (v : List ℤ) : Type 0 where
-  pub long : length v ≡ 32 * T
+-- the first d lines of a tile of four
+pub record LinesDone (n : ℕ) (h : ℤ) (s : ℕ) (xs : List ℤ) (b d : ℕ) (v : List ℤ) : Type 0 where
+  pub long : length v ≡ 4 * n
   pub at : (k m : ℕ) → k < d → m < n → part_value v k m ≡ line_value n h s xs (b + k) m
 
-pub lines_none : {T n : ℕ} {h : ℤ} {s : ℕ} {xs : List ℤ} {b : ℕ} {v : List ℤ} → length v ≡ 32 * T → LinesDone T n h s xs b 0 v
+pub lines_none : {n : ℕ} {h : ℤ} {s : ℕ} {xs : List ℤ} {b : ℕ} {v : List ℤ} → length v ≡ 4 * n → LinesDone n h s xs b 0 v
 lines_none l = record { long = l; at = λ k m h. absurd (not-suc-le-zero h) }
 
-pub lines_next : {T n : ℕ} {h : ℤ} {s : ℕ} {xs : List ℤ} {b j : ℕ} {v w r z : List ℤ} {tw : ℤ} → n ≡ 8 * T → j < 4 → LinesDone T n h s xs b j v
-    → Values n xs (b + j) r → Twice n 1 r z → tw ≡ pos 2 *ℤ h → LinePut j T (λ m. shift_right (get_or z m (pos 0) +ℤ tw) (s + 1)) v w
-    → LinesDone T n h s xs b (j + 1) w
-lines_next {T} {n} {h} {s} {xs} {b} {j} {v} {w} {r} {z} {tw} e l p c t g q =
+pub lines_next : {n : ℕ} {h : ℤ} {s : ℕ} {xs : List ℤ} {b j : ℕ} {v w r z : List ℤ} {tw : ℤ} → n % 8 ≡ 0 → j < 4 → LinesDone n h s xs b j v
+    → Values n xs (b + j) r → Twice n 1 r z → tw ≡ pos 2 *ℤ h → LinePut j (n / 8) (λ m. shift_right (get_or z m (pos 0) +ℤ tw) (s + 1)) v w
+    → LinesDone n h s xs b (j + 1) w
+lines_next {n} {h} {s} {xs} {b} {j} {v} {w} {r} {z} {tw} e l p c t g q =
     record {
       long = q.long ∙ p.long;
       at = λ k m a o.

@@ -17,10 +17,8 @@ pub fn rest_zero(x: &[i32], from: usize, to: usize) -> bool
     ensures { result ≡ true → (i : ℕ) → from ≤ i → i < to → get_or x.now i (pos 0) ≡ pos 0 }
 {
     let mut any: u32 = 0;
-    let mut i = from;
-    while i < to {
-        any = any | used(x[i]);
-        i += 1;
+    for i in from..to {
+        any |= used(x[i]);
     }
     any == 0
 }
@@ -41,10 +39,8 @@ pub fn rest_zero16(x: &[i16], from: usize, to: usize) -> bool
     ensures { result ≡ true → (i : ℕ) → from ≤ i → i < to → get_or x.now i (pos 0) ≡ pos 0 }
 {
     let mut any: u16 = 0;
-    let mut i = from;
-    while i < to {
-        any = any | used16(x[i]);
-        i += 1;
+    for i in from..to {
+        any |= used16(x[i]);
     }
     any == 0
 }

@@ -9,14 +9,14 @@
 --   parts-rows         so they are for the lines over both parts
 --   join_ask           which have room to be joined
 --   narrow_rows        lines over values that fit 16 bits
-use mathlib.Core.Path.{◌≡◌, sym, ap, ap₂, ◌∙◌}
-use mathlib.Core.Bool.{true, false}
+use mathlib.Core.Path.{◌≡◌, sym, ap, ap₂, ◌∙◌, subst}
 use mathlib.Core.List.{List}
 use Prim.Native.Nat.{ℕ, ◌+◌, ◌*◌, ◌-◌, ◌/◌, ◌%◌, ◌^◌, ◌≤◌, ◌<◌}
 use native.Mathlib.Nat.{div-div-eq-div-mul, div-add-mod', mod-lt, div-lt_iff_lt-mul}
 use native.Mathlib.Decide.{dec_lt}
 use native.Mathlib.Omega.{arith}
 use lib.Arith.{digits_lt}
+use lib.Dec.{T}
 use lib.IntN.{ℤ, pos, negsuc, ◌+ℤ◌, ◌*ℤ◌}
 use lib.ListN.{length, get_or, replicate, get_or-eq_default}
 use lib.Pow.{pow_pos, pow-add}
@@ -26,21 +26,22 @@ use Rattle.integers.specs.Shift.{pow2, shift_right}
 use Rattle.integers.specs.Sum.{sum}
 use Rattle.integers.specs.Within.{Within}
 use Rattle.integers.proofs.LinearLaws.{split, ring, diff_ext}
-use Rattle.integers.proofs.OrderLaws.{shr_shift}
+use Rattle.integers.proofs.OrderLaws.{shr_shift, ≤ℤ_trans}
 use Rattle.integers.proofs.ShiftLaws.{shift_right_zero, shift_right_within}
 use Rattle.integers.proofs.BoundLaws.{within_add, within_le, within_eq, within_pos}
 use Rattle.integers.proofs.SumLaws.{sum_cong, sum_add, sum_scale}
 use Rattle.integers.proofs.ListsLaws.{tabulate-length, tabulate-get_or}
 use Rattle.h265.specs.Matrix.{trans_matrix, abs_sum}
-use Rattle.h265.specs.Range.{clip_coeff}
+use Rattle.h265.specs.Range.{clip_coeff, is_size}
 use Rattle.h265.specs.Transform.{transform_line, block_at}
 use Rattle.h265.proofs.TransformLaws.{transform_line_cong}
 use Rattle.transform_1d.specs.Rows.{Placed, Filled}
 use Rattle.transform_1d.proofs.RowsLaws.{filled_cong, zeros-get_or}
-use Rattle.transform_1d.proofs.MatrixLaws.{transform_line_within}
+use Rattle.transform_1d.proofs.MatrixLaws.{transform_line_within, trans_matrix-abs_sum_4, trans_matrix-abs_sum_8, trans_matrix-abs_sum_16, trans_matrix-abs_sum_32}
+use Rattle.h265.proofs.RangeLaws.{size_cases}
 use Rattle.tiles.specs.Tile.{line_value}
 use Rattle.wide_parts.specs.Split.{high_of, low_of, Narrow, JoinNeeds}
-use Rattle.tiles_wide.specs.Pass.{limited_list}
+use Rattle.tiles_wide.specs.Pass.{limited_list, PassGives}
 use Rattle.wide_parts.proofs.SplitLaws.{parts_exact, high_within, low_within, clip_coeff_narrow, placed_run}
 
 -- ---- shifts
@@ -169,8 +170,13 @@ joined_rows {n} {f} {g} {e} {r} by {zs} {hs} {xs} {ys} {os} o p q j v =
     }
 
 -- ---- what the stages' proofs cite
-pub thin_not : {A : Type 0} → true ≡ false → A
-thin_not e = absurd (let z : ◌≡◌ {A = ℕ} 0 1 = cc in let b : ⊥ = omega arith in b)
+pub size_abs_sum : (n : ℕ) → T (is_size n) → (j : ℕ) → j < n → abs_sum (trans_matrix n) n j ≤ℤ pos 1862
+size_abs_sum =
+    size_cases (λ n. (j : ℕ) → j < n → abs_sum (trans_matrix n) n j ≤ℤ pos 1862)
+    (λ j l. ≤ℤ_trans {y = pos 247} (trans_matrix-abs_sum_4 j l) (record { le = tt }))
+    (λ j l. ≤ℤ_trans {y = pos 479} (trans_matrix-abs_sum_8 j l) (record { le = tt }))
+    (λ j l. ≤ℤ_trans {y = pos 940} (trans_matrix-abs_sum_16 j l) (record { le = tt }))
+    trans_matrix-abs_sum_32
 
 pub parts-rows : (n r s : ℕ) {w : ℕ} (xs : List ℤ) {h l : List ℤ} {b : ℤ} → 15 ≤ r → r ≤ s + 15 → b ≡ pow2 (s - 1)
     → Placed 0 w (λ j. high_of (r - 15) (get_or xs j (pos 0))) (replicate w (pos 0)) h → Placed 0 w (λ j. low_of (r - 15) (get_or xs j (pos 0))) (replicate w (pos 0)) l
@@ -198,3 +204,9 @@ pub narrow_rows : (n r s : ℕ) {w : ℕ} (xs : List ℤ) {l : List ℤ} {b : �
 narrow_rows n r s {w} xs {l} h e a p q =
     filled_cong
     (λ c m u v. ap (λ (z : ℤ). line_value n z s l c m) e ∙ line_same n (pow2 (s - 1)) s l (limited_list r w xs) (narrow_list xs h a p) c m) q
+
+-- the first w values are the first q rows
+pub pass_gives : {q n r count s w : ℕ} {xs out out₂ : List ℤ} → w ≡ q * n
+    → Filled n n (line_value n (pow2 (s - 1)) s (limited_list r w xs)) count out out₂ → PassGives q n r count s xs out out₂
+pass_gives {q} {n} {r} {count} {s} {w} {xs} {out} {out₂} e p =
+    record { rows = subst (λ (i : ℕ). Filled n n (line_value n (pow2 (s - 1)) s (limited_list r i xs)) count out out₂) e p }

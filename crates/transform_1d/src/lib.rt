@@ -12,7 +12,7 @@ ghost use Rattle.transform_1d.specs.Kernel.{pair_most, row_pair, SumsRoom, Added
 ghost use Rattle.transform_1d.specs.Rows.{Placed};
 
 // The kind of a transform: a DCT of 4 to 32 points, or the 4-point DST.
-#[derive(Clone, Copy)]
+#[derive(Clone, Copy, Debug, PartialEq, Eq)]
 pub enum Kind {
     Dct,
     Dst,
@@ -138,13 +138,11 @@ fn lay_pairs(t: &[i16], from: usize, r: &mut [i16], at: usize)
     requires { (from + 80 ≤ length t.now) × (at + 32 ≤ length r.old) }
     ensures { Placed at 32 (λ i. get_or t.now (from + 64 * (i % 2) + i / 2) (pos 0)) r.old r.new }
 {
-    let mut j: usize = 0;
-    while j < 16 {
+    for j in 0..16 {
         let x = t[from + j];
         let y = t[from + 64 + j];
         r[at + 2 * j] = x;
         r[at + 2 * j + 1] = y;
-        j += 1;
     }
 }
 
@@ -154,10 +152,8 @@ pub fn lanes_32() -> [i16; 512]
 {
     let t = trans_matrix();
     let mut r = [0i16; 512];
-    let mut i: usize = 0;
-    while i < 16 {
+    for i in 0..16 {
         lay_pairs(&t[..], 128 * (i / 2) + 32 * (i % 2), &mut r[..], i * 32);
-        i += 1;
     }
     r
 }
@@ -176,8 +172,7 @@ fn add_rows(z: &mut [i32; 32], t: &[i16], at: usize, a: i16, b: i16, d: i16, f: 
     requires { (at + 64 ≤ length t.now) × SmallEntries t.now × SumsRoom (2 ^ 26) z.old }
     ensures { Added (row_pair t.now at a b d f) z.old 16 z.new }
 {
-    let mut j: usize = 0;
-    while j < 16 {
+    for j in 0..16 {
         let i = at + 2 * j;
         let p = pair(t[i + 1], d, t[i], a);
         let r = pair(t[i + 33], f, t[i + 32], b);
@@ -185,7 +180,6 @@ fn add_rows(z: &mut [i32; 32], t: &[i16], at: usize, a: i16, b: i16, d: i16, f: 
         let o = z[16 + j] + r;
         z[j] = e;
         z[16 + j] = o;
-        j += 1;
     }
 }
 
@@ -212,10 +206,8 @@ fn lane_sums(t: &[i16], s: &[i16], base: usize, stride: usize, groups: usize) ->
     ensures { HalfSums t.now s.now base stride groups result }
 {
     let mut z = [0i32; 32];
-    let mut q: usize = 0;
-    while q < groups {
+    for q in 0..groups {
         add_group(&mut z, t, s, base, stride, q);
-        q += 1;
     }
     z
 }

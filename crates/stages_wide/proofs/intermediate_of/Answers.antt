@@ -13,15 +13,6 @@ is_32 c = let r = c.in_default.in_default-own.rest in size_else c.args.n c.requi
 pub columns_4-requires : goal.columns_4-requires
 columns_4-requires c = size_needs_seven c.in-4.is c.requires
 
-pub columns_8-requires : goal.columns_8-requires
-columns_8-requires c = size_needs_seven c.in-8.is c.requires
-
-pub columns_16-requires : goal.columns_16-requires
-columns_16-requires c = size_needs_seven c.in-16.is c.requires
-
-pub columns_32-requires : goal.columns_32-requires
-columns_32-requires c = size_needs_seven (is_32 (goal.at.columns_32-requires c).In_default) c.requires
-
 pub returns-in-4 : goal.returns-in-4
 returns-in-4 c =
     let k = c.args in
@@ -34,18 +25,18 @@ returns-in-8 c =
     let k = c.args in
     let p = c.requires in
     filled-overwrite k.n (omega (arith, size_bound k.n p.size))
-    (columns_dct k.kind k.n k.range k.coeff.now 8 c.in-8.is p.dst (λ z. omega arith) c.columns_8.ensures) p.room
+    (columns_dct k.kind k.n k.range k.coeff.now 8 c.in-8.is p.dst (λ z. omega arith) c.columns.ensures) p.room
 
 pub returns-in-16 : goal.returns-in-16
 returns-in-16 c =
     let k = c.args in
     let p = c.requires in
     filled-overwrite k.n (omega (arith, size_bound k.n p.size))
-    (columns_dct k.kind k.n k.range k.coeff.now 16 c.in-16.is p.dst (λ z. omega arith) c.columns_16.ensures) p.room
+    (columns_dct k.kind k.n k.range k.coeff.now 16 c.in-16.is p.dst (λ z. omega arith) c.columns-in-16.ensures) p.room
 
 pub returns-in_default : goal.returns-in_default
 returns-in_default c =
     let k = c.args in
     let p = c.requires in
     filled-overwrite k.n (omega (arith, size_bound k.n p.size))
-    (columns_dct k.kind k.n k.range k.coeff.now 32 (is_32 (goal.at.returns-in_default c).In_default) p.dst (λ z. omega arith) c.columns_32.ensures) p.room
+    (columns_dct k.kind k.n k.range k.coeff.now 32 (is_32 (goal.at.returns-in_default c).In_default) p.dst (λ z. omega arith) c.columns-in_default.ensures) p.room

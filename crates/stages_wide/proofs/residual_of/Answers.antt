@@ -15,15 +15,6 @@ is_32 c = let r = c.in_default.in_default-own.rest in size_else c.args.n c.requi
 pub rows_4-requires : goal.rows_4-requires
 rows_4-requires c = size_needs_wide c.in-4.is c.requires.0 c.requires.1
 
-pub rows_8-requires : goal.rows_8-requires
-rows_8-requires c = size_needs_wide c.in-8.is c.requires.0 c.requires.1
-
-pub rows_16-requires : goal.rows_16-requires
-rows_16-requires c = size_needs_wide c.in-16.is c.requires.0 c.requires.1
-
-pub rows_32-requires : goal.rows_32-requires
-rows_32-requires c = size_needs_wide (is_32 (goal.at.rows_32-requires c).In_default) c.requires.0 c.requires.1
-
 pub returns-in-4 : goal.returns-in-4
 unfolding stage_two_shift
 returns-in-4 c =
@@ -38,7 +29,7 @@ returns-in-8 c =
     let k = c.args in
     let p = c.requires.0 in
     filled-overwrite k.n (omega (arith, size_bound k.n p.size))
-    (rows-dct k.kind k.n k.range k.inter.now 8 c.in-8.is p.dst (λ z. omega arith) (k.range + 5 - k.bit_depth) c.rows_8.ensures) p.room
+    (rows-dct k.kind k.n k.range k.inter.now 8 c.in-8.is p.dst (λ z. omega arith) (k.range + 5 - k.bit_depth) c.rows.ensures) p.room
 
 pub returns-in-16 : goal.returns-in-16
 unfolding stage_two_shift
@@ -46,7 +37,7 @@ returns-in-16 c =
     let k = c.args in
     let p = c.requires.0 in
     filled-overwrite k.n (omega (arith, size_bound k.n p.size))
-    (rows-dct k.kind k.n k.range k.inter.now 16 c.in-16.is p.dst (λ z. omega arith) (k.range + 5 - k.bit_depth) c.rows_16.ensures) p.room
+    (rows-dct k.kind k.n k.range k.inter.now 16 c.in-16.is p.dst (λ z. omega arith) (k.range + 5 - k.bit_depth) c.rows-in-16.ensures) p.room
 
 pub returns-in_default : goal.returns-in_default
 unfolding stage_two_shift
@@ -54,4 +45,4 @@ returns-in_default c =
     let k = c.args in
     let p = c.requires.0 in
     filled-overwrite k.n (omega (arith, size_bound k.n p.size))
-    (rows-dct k.kind k.n k.range k.inter.now 32 (is_32 (goal.at.returns-in_default c).In_default) p.dst (λ z. omega arith) (k.range + 5 - k.bit_depth) c.rows_32.ensures) p.room
+    (rows-dct k.kind k.n k.range k.inter.now 32 (is_32 (goal.at.returns-in_default c).In_default) p.dst (λ z. omega arith) (k.range + 5 - k.bit_depth) c.rows-in_default.ensures) p.room

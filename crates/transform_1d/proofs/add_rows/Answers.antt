@@ -1,5 +1,4 @@
 -- `transform_1d::add_rows` meets its contract: the loop has added the four rows' products in the lanes passed, and left the others.
--- The measure is what is left of the sixteen lanes.
 use mathlib.Core.Path.{◌≡◌, ap, ◌∙◌, subst}
 use Prim.Native.Nat.{ℕ, ◌+◌, ◌*◌, ◌^◌}
 use native.Mathlib.Omega.{arith}
@@ -18,28 +17,7 @@ use Rattle.transform_1d.proofs.add_rows.Goals as goal
 use Rattle.transform_1d.proofs.add_rows.Goals.{After-e-1, After-o-1, After-pair-arg-in-loop-j-1, After-pair-arg-in-loop-j-3-1}
 
 pub loop-j-init : goal.loop-j-init
-loop-j-init c = (omega arith, added_zero c.requires.2.long)
-
-pub overflow_mul-i : goal.overflow_mul-i
-overflow_mul-i c = omega arith
-
-pub overflow_add-i : goal.overflow_add-i
-overflow_add-i c = omega arith
-
-pub overflow_add-i-in-loop-j : goal.overflow_add-i-in-loop-j
-overflow_add-i-in-loop-j c = omega arith
-
-pub offset_bounds-t-i : goal.offset_bounds-t-i
-offset_bounds-t-i c = omega arith
-
-pub bounds-t-i : goal.bounds-t-i
-bounds-t-i c = omega arith
-
-pub offset_bounds-t-i-in-loop-j : goal.offset_bounds-t-i-in-loop-j
-offset_bounds-t-i-in-loop-j c = omega arith
-
-pub bounds-t-i-in-loop-j : goal.bounds-t-i-in-loop-j
-bounds-t-i-in-loop-j c = omega arith
+loop-j-init c = added_zero c.requires.2.long
 
 module _ (c : After-pair-arg-in-loop-j-1) where
   odd_fits : SFits w16 (get_or c.args.t.now (c.args.at + 2 * c.loop-j.j + 1) (pos 0))
@@ -51,24 +29,6 @@ module _ (c : After-pair-arg-in-loop-j-1) where
 pub pair-p-requires : goal.pair-p-requires
 pair-p-requires c = simp (to_z-of_z, odd_fits c, even_fits c) (c.requires.1.at _, c.requires.1.at _)
 
-pub overflow_add-i-in-loop-j-2 : goal.overflow_add-i-in-loop-j-2
-overflow_add-i-in-loop-j-2 c = omega arith
-
-pub offset_bounds-t-i-in-loop-j-2 : goal.offset_bounds-t-i-in-loop-j-2
-offset_bounds-t-i-in-loop-j-2 c = omega arith
-
-pub bounds-t-i-in-loop-j-2 : goal.bounds-t-i-in-loop-j-2
-bounds-t-i-in-loop-j-2 c = omega arith
-
-pub overflow_add-i-in-loop-j-3 : goal.overflow_add-i-in-loop-j-3
-overflow_add-i-in-loop-j-3 c = omega arith
-
-pub offset_bounds-t-i-in-loop-j-3 : goal.offset_bounds-t-i-in-loop-j-3
-offset_bounds-t-i-in-loop-j-3 c = omega arith
-
-pub bounds-t-i-in-loop-j-3 : goal.bounds-t-i-in-loop-j-3
-bounds-t-i-in-loop-j-3 c = omega arith
-
 module _ (c : After-pair-arg-in-loop-j-3-1) where
   high_odd_fits : SFits w16 (get_or c.args.t.now (c.args.at + 2 * c.loop-j.j + 33) (pos 0))
   high_odd_fits = record { sfits = c.pair-arg-in-loop-j-2-1.given }
@@ -78,12 +38,6 @@ module _ (c : After-pair-arg-in-loop-j-3-1) where
 
 pub pair-r-requires : goal.pair-r-requires
 pair-r-requires c = simp (to_z-of_z, high_odd_fits c, high_even_fits c) (c.requires.1.at _, c.requires.1.at _)
-
-pub offset_bounds-z-j : goal.offset_bounds-z-j
-offset_bounds-z-j c = omega arith
-
-pub bounds-z-j : goal.bounds-z-j
-bounds-z-j c = omega arith
 
 module _ (c : After-e-1) where
   z_fits : SFits w32 (get_or c.loop-j.z c.loop-j.j (pos 0))
@@ -95,19 +49,10 @@ module _ (c : After-e-1) where
   e_fits : SFits w32 (get_or c.loop-j.z c.loop-j.j (pos 0) +ℤ c.pair-p.result)
   e_fits =
       within_fits {b = 2 ^ 28} tt
-      (record { within = omega (arith, abs_add (get_or c.loop-j.z c.loop-j.j (pos 0)) c.pair-p.result, c.pair-p.ensures.1.within, c.loop-j.invariant.1.grown c.loop-j.j (omega arith), (c.requires.2.at c.loop-j.j (omega arith)).within) })
+      (record { within = omega (arith, abs_add (get_or c.loop-j.z c.loop-j.j (pos 0)) c.pair-p.result, c.pair-p.ensures.1.within, c.loop-j.invariant.grown c.loop-j.j (omega arith), (c.requires.2.at c.loop-j.j (omega arith)).within) })
 
 pub overflow_add-e : goal.overflow_add-e
 overflow_add-e c = simp (to_z-of_z, z_fits c, p_fits c) (e_fits c)
-
-pub overflow_add-o : goal.overflow_add-o
-overflow_add-o c = omega arith
-
-pub offset_bounds-z-j-in-loop-j : goal.offset_bounds-z-j-in-loop-j
-offset_bounds-z-j-in-loop-j c = omega arith
-
-pub bounds-z-j-in-loop-j : goal.bounds-z-j-in-loop-j
-bounds-z-j-in-loop-j c = omega arith
 
 module _ (c : After-o-1) where
   z16_fits : SFits w32 (get_or c.loop-j.z (16 + c.loop-j.j) (pos 0))
@@ -128,42 +73,19 @@ module _ (c : After-o-1) where
   o_fits : SFits w32 (get_or c.loop-j.z (16 + c.loop-j.j) (pos 0) +ℤ c.pair-r.result)
   o_fits =
       within_fits {b = 2 ^ 28} tt
-      (record { within = omega (arith, abs_add (get_or c.loop-j.z (16 + c.loop-j.j) (pos 0)) c.pair-r.result, c.pair-r.ensures.1.within, c.loop-j.invariant.1.grown (16 + c.loop-j.j) (omega arith), (c.requires.2.at (16 + c.loop-j.j) (omega arith)).within) })
+      (record { within = omega (arith, abs_add (get_or c.loop-j.z (16 + c.loop-j.j) (pos 0)) c.pair-r.result, c.pair-r.ensures.1.within, c.loop-j.invariant.grown (16 + c.loop-j.j) (omega arith), (c.requires.2.at (16 + c.loop-j.j) (omega arith)).within) })
 
 pub overflow_add-o-in-loop-j : goal.overflow_add-o-in-loop-j
 overflow_add-o-in-loop-j c = simp (to_z-of_z, z16_fits c, r_fits c) (o_fits c)
 
-pub offset_bounds-z-j-in-loop-j-2 : goal.offset_bounds-z-j-in-loop-j-2
-offset_bounds-z-j-in-loop-j-2 c = omega arith
-
-pub bounds-z-j-in-loop-j-2 : goal.bounds-z-j-in-loop-j-2
-bounds-z-j-in-loop-j-2 c = omega arith
-
-pub overflow_add-o-in-loop-j-2 : goal.overflow_add-o-in-loop-j-2
-overflow_add-o-in-loop-j-2 c = omega arith
-
-pub offset_bounds-z-j-in-loop-j-3 : goal.offset_bounds-z-j-in-loop-j-3
-offset_bounds-z-j-in-loop-j-3 c = omega arith
-
-pub bounds-z-j-in-loop-j-3 : goal.bounds-z-j-in-loop-j-3
-bounds-z-j-in-loop-j-3 c = omega arith
-
-pub overflow_add-j : goal.overflow_add-j
-overflow_add-j c = omega arith
-
-pub loop-j-smaller : goal.loop-j-smaller
-loop-j-smaller c = omega arith
-
 pub loop-j-preserved : goal.loop-j-preserved
 loop-j-preserved c =
-    let l = c.loop-j in (
-      omega arith,
-      added_suc l.invariant.1 (omega arith)
-          (simp (to_z-of_z, z_fits (goal.at.loop-j-preserved c).After-e-1, p_fits (goal.at.loop-j-preserved c).After-e-1, e_fits (goal.at.loop-j-preserved c).After-e-1) (ap (λ (x : ℤ). get_or l.z l.j (pos 0) +ℤ x) (p_is c)))
-          (simp (to_z-of_z, z16_fits c, r_fits c, o_fits c) (ap (λ (x : ℤ). get_or l.z (16 + l.j) (pos 0) +ℤ x) (r_is c)))
-          (subst (λ (x : ℤ). Within pair_most x) (p_is c) c.pair-p.ensures.1)
-          (subst (λ (x : ℤ). Within pair_most x) (r_is c) c.pair-r.ensures.1),
-    )
+    let l = c.loop-j in
+    added_suc l.invariant (omega arith)
+    (simp (to_z-of_z, z_fits (goal.at.loop-j-preserved c).After-e-1, p_fits (goal.at.loop-j-preserved c).After-e-1, e_fits (goal.at.loop-j-preserved c).After-e-1) (ap (λ (x : ℤ). get_or l.z l.j (pos 0) +ℤ x) (p_is c)))
+    (simp (to_z-of_z, z16_fits c, r_fits c, o_fits c) (ap (λ (x : ℤ). get_or l.z (16 + l.j) (pos 0) +ℤ x) (r_is c)))
+    (subst (λ (x : ℤ). Within pair_most x) (p_is c) c.pair-p.ensures.1)
+    (subst (λ (x : ℤ). Within pair_most x) (r_is c) c.pair-r.ensures.1)
 
 pub returns : goal.returns
-returns c = added-all (omega arith) (simp (to_z-of_z, c.ranges.a, c.ranges.b, c.ranges.d, c.ranges.f) at c.loop-j.invariant.1)
+returns c = added-all (omega arith) (simp (to_z-of_z, c.ranges.a, c.ranges.b, c.ranges.d, c.ranges.f) at c.loop-j.invariant)

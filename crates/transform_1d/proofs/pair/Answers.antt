@@ -21,28 +21,6 @@ module _ (c : Start) where
   both : Within pair_most (c.args.u *ℤ c.args.x +ℤ c.args.v *ℤ c.args.y)
   both = within_add first second
 
-pub overflow_cast-result : goal.overflow_cast-result
-overflow_cast-result c = simp (to_z-of_z, c.ranges.u) (sfits_widen tt c.ranges.u)
-
-pub overflow_cast-result-2 : goal.overflow_cast-result-2
-overflow_cast-result-2 c = simp (to_z-of_z, c.ranges.x) (sfits_widen tt c.ranges.x)
-
-pub overflow_mul-result : goal.overflow_mul-result
-overflow_mul-result c =
-    simp (to_z-of_z, c.ranges.u, c.ranges.x, sfits_widen {w' = w32} tt c.ranges.u, sfits_widen {w' = w32} tt c.ranges.x)
-    (within_fits tt (first c))
-
-pub overflow_cast-result-3 : goal.overflow_cast-result-3
-overflow_cast-result-3 c = simp (to_z-of_z, c.ranges.v) (sfits_widen tt c.ranges.v)
-
-pub overflow_cast-result-4 : goal.overflow_cast-result-4
-overflow_cast-result-4 c = simp (to_z-of_z, c.ranges.y) (sfits_widen tt c.ranges.y)
-
-pub overflow_mul-result-2 : goal.overflow_mul-result-2
-overflow_mul-result-2 c =
-    simp (to_z-of_z, c.ranges.v, c.ranges.y, sfits_widen {w' = w32} tt c.ranges.v, sfits_widen {w' = w32} tt c.ranges.y)
-    (within_fits tt (second c))
-
 module _ (c : Start) where
   first_fits : SFits w32 (c.args.u *ℤ c.args.x)
   first_fits = within_fits tt (first c)

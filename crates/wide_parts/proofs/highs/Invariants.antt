@@ -1,5 +1,5 @@
--- `wide_parts::highs` meets its contract: the places passed hold their high parts. The measure is what is left of the run.
-use Prim.Native.Nat.{◌≤◌, ◌-◌}
+-- `wide_parts::highs` meets its contract: the places passed hold their high parts.
+use Prim.Native.Nat.{◌≤◌}
 use lib.IntN.{pos}
 use lib.ListN.{get_or}
 use Rattle.transform_1d.specs.Rows.{Placed}
@@ -8,6 +8,3 @@ use Rattle.wide_parts.proofs.highs.Given as goal
 
 abbrev pub invariant-loop-j : goal.invariant-loop-j
 invariant-loop-j l = (l.j ≤ l.w) × Placed 0 l.j (λ i. high_of l.k (get_or l.s i (pos 0))) l.initial.h l.h
-
-abbrev pub decreases-loop-j : goal.decreases-loop-j
-decreases-loop-j l = l.w - l.j

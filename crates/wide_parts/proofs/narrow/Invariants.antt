@@ -1,5 +1,5 @@
--- `wide_parts::narrow` meets its contract: the loop has placed the values passed. The measure is what is left.
-use Prim.Native.Nat.{◌≤◌, ◌-◌}
+-- `wide_parts::narrow` meets its contract: the loop has placed the values passed.
+use Prim.Native.Nat.{◌≤◌}
 use lib.IntN.{pos}
 use lib.ListN.{get_or}
 use Rattle.transform_1d.specs.Rows.{Placed}
@@ -7,6 +7,3 @@ use Rattle.wide_parts.proofs.narrow.Given as goal
 
 abbrev pub invariant-loop-j : goal.invariant-loop-j
 invariant-loop-j l = (l.j ≤ l.w) × Placed 0 l.j (λ i. get_or l.s i (pos 0)) l.initial.l l.l
-
-abbrev pub decreases-loop-j : goal.decreases-loop-j
-decreases-loop-j l = l.w - l.j

@@ -1,12 +1,9 @@
--- `wide_parts::narrow_run` meets its contract: as long as `fits` is true the values passed fit. The measure is what is left.
+-- `wide_parts::narrow_run` meets its contract: as long as `fits` is true the values passed fit.
 use mathlib.Core.Path.{◌≡◌}
 use mathlib.Core.Bool.{true}
-use Prim.Native.Nat.{◌≤◌, ◌-◌}
+use Prim.Native.Nat.{◌≤◌}
 use Rattle.wide_parts.specs.Split.{Narrow}
 use Rattle.wide_parts.proofs.narrow_run.Given as goal
 
 abbrev pub invariant-loop-j : goal.invariant-loop-j
 invariant-loop-j l = (l.j ≤ l.w) × (l.fits ≡ true → Narrow l.j l.s)
-
-abbrev pub decreases-loop-j : goal.decreases-loop-j
-decreases-loop-j l = l.w - l.j

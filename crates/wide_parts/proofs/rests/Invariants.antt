@@ -1,5 +1,5 @@
--- `wide_parts::rests` meets its contract: the places passed hold what is left. The measure is what is left of the run.
-use Prim.Native.Nat.{◌≤◌, ◌-◌}
+-- `wide_parts::rests` meets its contract: the places passed hold what is left.
+use Prim.Native.Nat.{◌≤◌}
 use lib.IntN.{pos, ◌-ℤ◌, ◌*ℤ◌}
 use lib.ListN.{get_or}
 use Rattle.integers.specs.Shift.{pow2}
@@ -10,6 +10,3 @@ use Rattle.wide_parts.proofs.rests.Given as goal
 
 abbrev pub invariant-loop-j : goal.invariant-loop-j
 invariant-loop-j l = (l.j ≤ l.w) × Placed 0 l.j (λ i. clip_coeff 15 (get_or l.s i (pos 0) -ℤ pow2 l.k *ℤ high_of l.k (get_or l.s i (pos 0)))) l.initial.l l.l
-
-abbrev pub decreases-loop-j : goal.decreases-loop-j
-decreases-loop-j l = l.w - l.j

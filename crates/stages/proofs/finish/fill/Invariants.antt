@@ -1,10 +1,7 @@
--- `stages::finish::fill` meets its contract: the places passed hold the value. The measure is what is left of them.
-use Prim.Native.Nat.{◌≤◌, ◌-◌}
+-- `stages::finish::fill` meets its contract: the places passed hold v.
+use Rattle.std.specs.Prelude.{map}
 use Rattle.integers.proofs.ListsLaws.{Stored}
 use Rattle.stages.proofs.finish.fill.Given as goal
 
 abbrev pub invariant-loop-i : goal.invariant-loop-i
-invariant-loop-i l = (l.i ≤ l.w) × Stored (λ k. l.v) l.initial.out l.i l.out
-
-abbrev pub decreases-loop-i : goal.decreases-loop-i
-decreases-loop-i l = l.w - l.i
+invariant-loop-i g l = Stored (λ k. g.V.Output.value l.v) (map g.V.Output.value l.initial.out) l.i (map g.V.Output.value l.out)

@@ -1,11 +1,7 @@
--- `stages::passes::columns_4` meets its contract: the rows passed hold their lines. The measure is what is left of the rows.
-use Prim.Native.Nat.{◌≤◌, ◌-◌}
+-- `stages::passes::columns_4` meets its contract: the columns passed are stored as rows.
 use Rattle.transform_1d.specs.Rows.{Filled}
 use Rattle.stages.specs.Passes.{column_value}
 use Rattle.stages.proofs.passes.columns_4.Given as goal
 
 abbrev pub invariant-loop-c : goal.invariant-loop-c
-invariant-loop-c l = (l.c ≤ l.nx) × Filled 4 4 (column_value l.t l.x 4 l.groups) l.c l.initial.d l.d
-
-abbrev pub decreases-loop-c : goal.decreases-loop-c
-decreases-loop-c l = l.nx - l.c
+invariant-loop-c l = Filled 4 4 (column_value l.t l.x 4 l.groups) l.c l.initial.d l.d

@@ -1,11 +1,9 @@
--- `stages::passes::rows_4` meets its contract: the rows passed hold their lines. The measure is what is left of the rows.
-use Prim.Native.Nat.{◌≤◌, ◌-◌}
+-- `stages::passes::rows_4` meets its contract: the rows passed are stored.
+use Rattle.std.specs.Prelude.{map}
 use Rattle.transform_1d.specs.Rows.{Filled}
 use Rattle.stages.specs.Passes.{row_value}
 use Rattle.stages.proofs.passes.rows_4.Given as goal
 
 abbrev pub invariant-loop-m : goal.invariant-loop-m
-invariant-loop-m l = (l.m ≤ 4) × Filled 4 4 (row_value l.t l.x 4 l.groups l.s) l.m l.initial.out l.out
-
-abbrev pub decreases-loop-m : goal.decreases-loop-m
-decreases-loop-m l = 4 - l.m
+invariant-loop-m g l =
+    Filled 4 4 (row_value l.t l.x 4 l.groups l.s) l.m (map g.V.Output.value l.initial.out) (map g.V.Output.value l.out)

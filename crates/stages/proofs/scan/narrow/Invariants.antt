@@ -1,13 +1,10 @@
--- `stages::scan::narrow` meets its contract: the places passed hold their coefficients, limited. The measure is what is left of the run.
-use Prim.Native.Nat.{◌≤◌, ◌-◌}
+-- `stages::scan::narrow` meets its contract: the places passed hold their coefficients, limited.
 use lib.IntN.{pos}
 use lib.ListN.{get_or}
+use Rattle.std.specs.Prelude.{map}
 use Rattle.h265.specs.Range.{clip_coeff}
 use Rattle.transform_1d.specs.Rows.{Placed}
 use Rattle.stages.proofs.scan.narrow.Given as goal
 
 abbrev pub invariant-loop-i : goal.invariant-loop-i
-invariant-loop-i l = (l.i ≤ l.w) × Placed 0 l.i (λ j. clip_coeff 15 (get_or l.coeff j (pos 0))) l.initial.a l.a
-
-abbrev pub decreases-loop-i : goal.decreases-loop-i
-decreases-loop-i l = l.w - l.i
+invariant-loop-i g l = Placed 0 l.i (λ j. clip_coeff 15 (get_or (map g.V.Output.value l.coeff) j (pos 0))) l.initial.a l.a

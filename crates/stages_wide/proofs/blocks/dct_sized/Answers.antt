@@ -13,24 +13,15 @@ is_32 c = let r = c.in_default.in_default-own.rest in size_else c.args.n c.requi
 pub both_4-requires : goal.both_4-requires
 both_4-requires c = stages_needs_size c.in-4.is c.requires.1 (omega (arith, c.requires.1.columns))
 
-pub stages_8-requires : goal.stages_8-requires
-stages_8-requires c = stages_needs_size c.in-8.is c.requires.1 (omega (arith, c.requires.1.columns))
-
-pub stages_16-requires : goal.stages_16-requires
-stages_16-requires c = stages_needs_size c.in-16.is c.requires.1 (omega (arith, c.requires.1.columns))
-
-pub stages_32-requires : goal.stages_32-requires
-stages_32-requires c = stages_needs_size (is_32 (goal.at.stages_32-requires c).In_default) c.requires.1 (omega (arith, c.requires.1.columns))
-
 pub returns-in-4 : goal.returns-in-4
 unfolding matrix_of
 returns-in-4 c = let k = c.args in filled_sized k.shift k.range k.nx k.coeff.now c.in-4.is c.both_4.ensures
 
 pub returns-in-8 : goal.returns-in-8
-returns-in-8 c = let k = c.args in filled_sized k.shift k.range k.nx k.coeff.now c.in-8.is c.stages_8.ensures
+returns-in-8 c = let k = c.args in filled_sized k.shift k.range k.nx k.coeff.now c.in-8.is c.stages.ensures
 
 pub returns-in-16 : goal.returns-in-16
-returns-in-16 c = let k = c.args in filled_sized k.shift k.range k.nx k.coeff.now c.in-16.is c.stages_16.ensures
+returns-in-16 c = let k = c.args in filled_sized k.shift k.range k.nx k.coeff.now c.in-16.is c.stages-in-16.ensures
 
 pub returns-in_default : goal.returns-in_default
-returns-in_default c = let k = c.args in filled_sized k.shift k.range k.nx k.coeff.now (is_32 (goal.at.returns-in_default c).In_default) c.stages_32.ensures
+returns-in_default c = let k = c.args in filled_sized k.shift k.range k.nx k.coeff.now (is_32 (goal.at.returns-in_default c).In_default) c.stages-in_default.ensures

@@ -1,0 +1,15 @@
+-- `lines::odd_4` meets its contract: the literal columns are the matrix's odd rows, doubled, by computation.
+use mathlib.Core.Path.{refl}
+use Rattle.integers.specs.Lists.{tabulate, tabulate_from}
+use Rattle.h265.specs.Matrix.{folding_values, folding, folded_entry, folded_angle, trans_matrix32, trans_matrix}
+use Rattle.lines.specs.Fold.{odd_column}
+use Rattle.lines.proofs.FoldLaws.{dot_out, odds, ◌then◌, end}
+use Rattle.lines.proofs.odd_4.Goals as goal
+
+pub returns : goal.returns
+unfolding odd_column trans_matrix trans_matrix32 folded_entry folded_angle folding folding_values tabulate tabulate_from
+returns g c =
+    odds 2 _ refl
+    (dot_out 2 _ 0 refl tt c.dot.ensures
+    then dot_out 2 _ 1 refl tt c.dot-2.ensures
+    then end)
