@@ -6,7 +6,8 @@ use mathlib.Core.List.{List, [], ◌∷◌, map}
 use Prim.Native.Nat.{ℕ}
 use lib.IntN.{pos, negsuc}
 use Rattle.integers.specs.Search.{first_where}
-use Rattle.bits.specs.declared.Code.TheVariants.{Number, TooLong, Ended}
+use Rattle.std.specs.Prelude.{Ok, Err}
+use Rattle.bits.specs.declared.CodeError.TheVariants.{TooLong, Ended}
 use Rattle.bits.specs.Bits.{is_there, bit_at, bits_number}
 use Rattle.bits.specs.ExpGolomb.{leading_zeros, code_of, unsigned_code, signed_number}
 
@@ -19,7 +20,7 @@ streams =
     ∷ (0 ∷ 0 ∷ 0 ∷ 0 ∷ []) ∷ []
 
 pub codes_hold : map (λ (bytes : List ℕ). unsigned_code bytes 0) streams
-    ≡ Number 0 1 ∷ Number 1 3 ∷ Number 2 3 ∷ Number 3 5 ∷ Number 6 5 ∷ Number 8589934590 65 ∷ TooLong ∷ Ended ∷ []
+    ≡ Ok (0, 1) ∷ Ok (1, 3) ∷ Ok (2, 3) ∷ Ok (3, 5) ∷ Ok (6, 5) ∷ Ok (8589934590, 65) ∷ Err TooLong ∷ Err Ended ∷ []
 unfolding is_there bit_at bits_number first_where leading_zeros code_of unsigned_code
 codes_hold = refl
 

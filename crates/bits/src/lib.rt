@@ -1,14 +1,13 @@
 // Bits of bytes, the high bit of each byte first, and Exp-Golomb codes in them. Internal: the crates above call these and meet what they require.
 #![tactic(auto)]
 
-ghost use Rattle.std.specs.Prelude.{◌≡◌, ◌+◌, ◌^◌, ◌≤◌};
+ghost use Rattle.std.specs.Prelude.{◌≡◌, ◌+◌, ◌≤◌, IfOk};
 ghost use Rattle.bits.specs.Bits.{is_there, bit_at, bits_number};
-ghost use Rattle.bits.specs.ExpGolomb.{leading_zeros, unsigned_code, behind};
+ghost use Rattle.bits.specs.ExpGolomb.{leading_zeros, unsigned_code};
 
-// What stands at an offset: a number and the offset behind its code; or a code with more than 32 leading zeros; or the bits end in it.
+// Why no number stands at an offset: its code has more than 32 leading zeros, or the bits end in it.
 #[derive(Clone, Copy)]
-pub enum Code {
-    Number(u64, usize),
+pub enum CodeError {
     TooLong,
     Ended,
 }
@@ -24,11 +23,9 @@ pub fn is_there(bytes: &[u8], at: usize) -> bool
 pub fn bit(bytes: &[u8], at: usize) -> u8
     ensures { result ≡ bit_at bytes.now at }
 {
-    let byte = at / 8;
-    if byte < bytes.len() {
-        (bytes[byte] >> (7 - at % 8)) % 2
-    } else {
-        0
+    match bytes.get(at / 8) {
+        Some(byte) => (byte >> (7 - at % 8)) % 2,
+        None => 0,
     }
 }
 
@@ -38,10 +35,8 @@ fn bits_number(bytes: &[u8], at: usize, n: usize) -> u64
     ensures { result ≡ bits_number bytes.now at n }
 {
     let mut number: u64 = 0;
-    let mut i: usize = 0;
-    while i < n {
-        number = 2 * number + bit(bytes, at + i) as u64;
-        i += 1;
+    for i in 0..n {
+        number = 2 * number + u64::from(bit(bytes, at + i));
     }
     number
 }
@@ -51,38 +46,29 @@ fn leading_zeros(bytes: &[u8], at: usize) -> usize
     requires { at ≤ 9223372036854775808 }
     ensures { result ≡ leading_zeros bytes.now at }
 {
-    let mut zeros: usize = 0;
-    while zeros < 33 {
+    for zeros in 0..33 {
         if bit(bytes, at + zeros) == 1 {
             return zeros;
         }
-        zeros += 1;
     }
-    zeros
+    33
 }
 
-fn power(n: usize) -> u64
-    requires { n ≤ 32 }
-    ensures { result ≡ 2 ^ n }
-{
-    1u64 << n
-}
-
-// The code ue(v) at an offset.
-pub fn unsigned_code(bytes: &[u8], at: usize) -> Code
+// The code ue(v) at an offset: its number, and the offset behind it.
+pub fn unsigned_code(bytes: &[u8], at: usize) -> Result<(u64, usize), CodeError>
     requires { at ≤ 4611686018427387904 }
-    ensures { (result ≡ unsigned_code bytes.now at) × (behind result ≤ at + 65) }
+    ensures { (result ≡ unsigned_code bytes.now at) × IfOk result (λ code. code.1 ≤ at + 65) }
 {
     let zeros = leading_zeros(bytes, at);
     if zeros < 33 {
         if is_there(bytes, at + 2 * zeros) {
             let suffix = bits_number(bytes, at + zeros + 1, zeros);
-            return Code::Number(power(zeros) - 1 + suffix, at + 2 * zeros + 1);
+            return Ok(((1u64 << zeros) - 1 + suffix, at + 2 * zeros + 1));
         }
-        return Code::Ended;
+        return Err(CodeError::Ended);
     }
     if is_there(bytes, at + 32) {
-        return Code::TooLong;
+        return Err(CodeError::TooLong);
     }
-    Code::Ended
+    Err(CodeError::Ended)
 }

@@ -2,6 +2,7 @@
 --   binary-…                  lists of bits: none, one more, two lists, zeros
 --   begins_first, -second     bits of two lists: those of the first, and behind them those of the second
 --   begins_there, begins_bit  the first bit stands at the offset
+--   eight_long, eight_bit     eight bits as a part of the bits
 --   bits_value-…, byte_of_cong  n bits stand for a number below 2^n; one bit more; bits that are equal
 --   begins_bytes, begins_own  bits stand in every list of bytes that has their bytes at its start
 use mathlib.Core.Path.{◌≡◌, refl, sym, ap, ap₂, ◌∙◌}
@@ -14,8 +15,8 @@ use native.Mathlib.Numerals.{add-one}
 use native.Mathlib.Omega.{arith}
 use borrow.Author.Tests.{lt-ltb}
 use lib.Dec.{lit<}
-use lib.ListN.{length, get_or, replicate, length-append, get_or-append}
-use lib.Seq.{get_or-append-add}
+use lib.ListN.{length, get_or, replicate, take, drop, length-append, length-drop, get_or-append}
+use lib.Seq.{get_or-append-add, get_or-take, get_or-drop, length-take-le}
 use Rattle.integers.proofs.ListsLaws.{tabulate-length, tabulate-get_or}
 use Rattle.bits.specs.Bits.{is_there, bit_at}
 use Rattle.bits_written.specs.Bytes.{bits_value, byte_count, byte_of, bytes_of, Binary, Begins}
@@ -77,6 +78,14 @@ bits_value_small bits at (suc n) g = rw (pow-succ' 2 n) (omega (arith, bits_valu
 pub bits_value_add_one : (bits : List ℕ) (at n : ℕ) → bits_value bits at (n + 1) ≡ 2 * bits_value bits at n + get_or bits (at + n) 0
 unfolding bits_value
 bits_value_add_one bits at n = ap (bits_value bits at) (add-one n)
+
+-- the eight bits from an index on, as a part of the bits
+module _ (bits : List ℕ) (at : ℕ) where
+  pub eight_long : at + 8 ≤ length bits → length (take (at + 8 - at) (drop at bits)) ≡ 8
+  eight_long h = length-take-le (at + 8 - at) (drop at bits) (rw length-drop (omega arith)) ∙ omega arith
+
+  pub eight_bit : (i : ℕ) → i < 8 → get_or (take (at + 8 - at) (drop at bits)) i 0 ≡ get_or bits (at + i) 0
+  eight_bit i h = get_or-take (at + 8 - at) (drop at bits) i 0 (omega arith) ∙ get_or-drop at bits i 0
 
 value_cong : (a b : List ℕ) (at n : ℕ) → ((i : ℕ) → get_or a i 0 ≡ get_or b i 0) → bits_value a at n ≡ bits_value b at n
 unfolding bits_value

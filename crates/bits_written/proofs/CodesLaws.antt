@@ -12,11 +12,11 @@ use native.Mathlib.Nat.{pow-succ', two-pow-succ, div-div-eq-div-mul, mod-lt, one
 use native.Mathlib.Numerals.{add-one}
 use native.Mathlib.Omega.{arith}
 use borrow.Author.Tests.{ltb-true, ltb-false, lt-ltb, eq-eqb, ne_eqb}
+use Rattle.std.specs.Prelude.{Ok}
 use lib.Dec.{eqb, ltb, lit<}
 use lib.IntN.{ℤ, pos, negsuc}
 use lib.ListN.{length, replicate, length-append, length-replicate, get_or-replicate}
 use Rattle.integers.proofs.SearchLaws.{None, First, first_where_first, first_where_found}
-use Rattle.bits.specs.declared.Code.TheVariants.{Number}
 use Rattle.bits.specs.Bits.{is_there, bit_at, bits_number}
 use Rattle.bits.specs.ExpGolomb.{leading_zeros, unsigned_code, signed_number}
 use Rattle.bits.proofs.ExpGolombLaws.{code_number_lem}
@@ -105,22 +105,22 @@ module _ (v z : ℕ) (is : Zeros v z) (bytes : List ℕ) (at : ℕ) (g : Begins 
   unfolding leading_zeros
   leading = sym (first_where_found 33 z (omega (arith, is.few)) zero_bits (eq-eqb (bit_at bytes (at + z)) 1 (begins_bit one_bit)))
 
-  code_read : Number v (at + 2 * z + 1) ≡ unsigned_code bytes at
+  code_read : Ok (v, at + 2 * z + 1) ≡ unsigned_code bytes at
   unfolding is_there
   code_read =
       let b = begins_rest one_bit in
       let n : bits_number bytes (at + z + 1) z ≡ v + 1 - 2 ^ z = bits_read bytes (at + z + 1) z (v + 1 - 2 ^ z) (omega (arith, is.most)) b in
       let e : v ≡ 2 ^ z - 1 + (v + 1 - 2 ^ z) = omega (arith, is.least, one-le-pow z 2 (lit< tt)) in
-      ap (λ (k : ℕ). Number k (at + 2 * z + 1)) e
+      ap (λ (k : ℕ). Ok (k, at + 2 * z + 1)) e
       ∙ code_number_lem bytes at z leading (2 ^ z) (v + 1 - 2 ^ z) (omega (arith, is.few))
       (lt-ltb (at + 2 * z) (8 * length bytes) (omega (arith, b.inside, bits_of_length z (v + 1 - 2 ^ z)))) refl (sym n)
 
 pub unsigned_read : (v : ℕ) → v + 1 < 2 ^ 32 → (bytes : List ℕ) (at : ℕ) → Begins bytes at (unsigned_bits v)
-    → unsigned_code bytes at ≡ Number v (at + length (unsigned_bits v))
+    → unsigned_code bytes at ≡ Ok (v, at + length (unsigned_bits v))
 unfolding unsigned_bits
 unsigned_read v h bytes at g =
     sym (code_read v (zeros_of v) (zeros_of_lem v h) bytes at g)
-    ∙ ap (Number v) (omega (arith, unsigned_length v h))
+    ∙ ap (λ (k : ℕ). Ok (v, k)) (omega (arith, unsigned_length v h))
 
 -- ---- se(v)
 pub code_number_signed : (k : ℤ) → signed_number (code_number k) ≡ k

@@ -3,7 +3,7 @@
 #![tactic(auto)]
 
 ghost use Rattle.std.specs.Prelude.{◌≡◌, ◌+◌, ◌*◌, ◌≤◌, length};
-ghost use Rattle.integers.specs.Lists.{overwrite};
+ghost use Rattle.integers.specs.Lists.{tabulate};
 ghost use Rattle.text.specs.Text.{Wrote, WroteUpTo};
 ghost use Rattle.bits_written.specs.Codes.{bits_of, zeros_of, unsigned_bits};
 ghost use Rattle.bits_written.specs.Bytes.{byte_of, Binary};
@@ -13,31 +13,18 @@ fn zeros_of(v: u64) -> usize
     requires { v ≤ 510 }
     ensures { (result ≡ zeros_of v) × (result ≤ 8) }
 {
-    let mut bound: u64 = 2;
-    let mut zeros: usize = 0;
-    while zeros < 32 {
-        if v + 1 < bound {
-            return zeros;
-        }
-        bound = 2 * bound;
-        zeros += 1;
-    }
-    zeros
+    (v + 1).ilog2() as usize
 }
 
-// n bits of v, the highest first.
+// n bits of v, the highest first. A buffer and the place in it stay two parameters: `Wrote`, as all that writes text has it, speaks of both.
 fn put_bits(v: u64, n: usize, bits: &mut [u8], at: usize) -> usize
     requires { (n ≤ 9) × (at + n ≤ length bits.old) }
     ensures { Wrote bits.old at (bits_of n v) bits.new result }
 {
-    let mut end = at;
-    let mut left = n;
-    while 0 < left {
-        left -= 1;
-        bits[end] = ((v >> left) % 2) as u8;
-        end += 1;
+    for i in 0..n {
+        bits[at + i] = ((v >> (n - 1 - i)) % 2) as u8;
     }
-    end
+    at + n
 }
 
 // The code ue(v), of at most 17 bits: v + 1 in z + 1 bits behind z zeros.
@@ -56,22 +43,18 @@ fn byte_of(bits: &[u8], k: usize) -> u8
     ensures { result ≡ byte_of bits.now k }
 {
     let mut byte: u8 = 0;
-    let mut i: usize = 0;
-    while i < 8 {
-        byte = 2 * byte + bits[8 * k + i];
-        i += 1;
+    for bit in &bits[8 * k..8 * k + 8] {
+        byte = 2 * byte + bit;
     }
     byte
 }
 
-// The first bytes of bits, at the start of `out`.
-pub fn put_bytes(bits: &[u8], count: usize, out: &mut [u8])
-    requires { Binary bits.now × (8 * count ≤ length bits.now) × (count ≤ length out.old) }
-    ensures { out.new ≡ overwrite count (byte_of bits.now) out.old }
+// The first bytes of bits, as many as `out` has.
+pub fn put_bytes(bits: &[u8], out: &mut [u8])
+    requires { Binary bits.now × (8 * length out.old ≤ length bits.now) }
+    ensures { out.new ≡ tabulate (length out.old) (byte_of bits.now) }
 {
-    let mut k: usize = 0;
-    while k < count {
-        out[k] = byte_of(bits, k);
-        k += 1;
+    for (k, byte) in out.iter_mut().enumerate() {
+        *byte = byte_of(bits, k);
     }
 }

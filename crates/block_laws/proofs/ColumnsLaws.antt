@@ -3,6 +3,7 @@
 --   column_replaced-overwrite   one column of a written block replaced is the block written with that column
 --   column_count-append         the count reads the block alone
 --   ZeroRows, zero_row, other_row   what a scan down a column has seen
+--   used_there, used_nowhere   what such a scan says of the column
 --   count_used, count_unused   what a column says of the count
 --   zero_rows-all              what a scan of the rows says of a column
 use mathlib.Core.Path.{◌≡◌, refl, sym, ap, ◌∙◌}
@@ -105,14 +106,23 @@ other_row n xs c k h = ap not (ne_eqb (nat_abs (get_or xs (k * n + c) (pos 0))) 
     abs_zero (pos a) e = ap pos e
     abs_zero (negsuc a) e = absurd (let b : ⊥ = omega arith in b)
 
--- a column in use ends the scan, and a column of zeros takes it on
-pub count_used : (n : ℕ) (xs : List ℤ) (c k : ℕ) → k < n → ZeroRows n xs c k → zero_at n xs c k ≡ true → last_where (suc c) (column_used n xs) ≡ suc c
-unfolding last_where column_used zero_at
-count_used n xs c k h z u = rw (first_where_found n k h z u, lt-ltb k n h)
+-- what a scan down a column says of it
+pub used_there : (n : ℕ) (xs : List ℤ) (c k : ℕ) → k < n → ZeroRows n xs c k → zero_at n xs c k ≡ true → column_used n xs c ≡ true
+unfolding column_used zero_at
+used_there n xs c k h z u = rw (first_where_found n k h z u, lt-ltb k n h)
 
-pub count_unused : (n : ℕ) (xs : List ℤ) (c : ℕ) → ZeroRows n xs c n → last_where (suc c) (column_used n xs) ≡ last_where c (column_used n xs)
-unfolding last_where column_used zero_at
-count_unused n xs c z = rw (first_where-none n (omega arith) z, le-ltb n n (omega arith))
+pub used_nowhere : (n : ℕ) (xs : List ℤ) (c : ℕ) → ZeroRows n xs c n → column_used n xs c ≡ false
+unfolding column_used zero_at
+used_nowhere n xs c z = rw (first_where-none n (omega arith) z, le-ltb n n (omega arith))
+
+-- a column in use ends the scan of columns, and a column of zeros takes it on
+pub count_used : (n : ℕ) (xs : List ℤ) (c : ℕ) → column_used n xs c ≡ true → last_where (suc c) (column_used n xs) ≡ suc c
+unfolding last_where
+count_used n xs c u = rw u
+
+pub count_unused : (n : ℕ) (xs : List ℤ) (c : ℕ) → column_used n xs c ≡ false → last_where (suc c) (column_used n xs) ≡ last_where c (column_used n xs)
+unfolding last_where
+count_unused n xs c z = rw z
 
 -- a column whose rows in use are zero is zero
 pub zero_rows-all : {xs : List ℤ} {n r : ℕ} (c : ℕ) → c < n → RowsUsed xs n n r → ZeroRows n xs c r → ZeroRows n xs c n

@@ -4,14 +4,17 @@
 --   ladder_refused       where it is refused, the same refusal stops an opening and an edit
 --   fits_ask             what the functions below the refusals rely on
 --   open_refused, open_outside, open_done   what an opening hands back, case by case
+--   place_outside        a place outside the block, by row or by column
 --   edit-refused, edit_way, edit-place, edit_outside, edit_done   what an edit hands back, case by case
 --   refresh_refused, refresh_done   the same of stage two alone
+use Rattle.std.specs.Prelude.{Ok, Err}
 use mathlib.Core.Path.{◌≡◌, refl, sym, ap, ◌∙◌}
 use mathlib.Core.Bool.{Bool, true, false, ◌||◌, cond}
 use mathlib.Core.List.{List}
+use mathlib.Core.Logic.{◌⊎◌, inl, inr}
 use Prim.Native.Nat.{ℕ, ◌*◌, ◌≤◌, ◌<◌}
 use native.Mathlib.Omega.{arith}
-use borrow.Author.Tests.{lt-ltb, le-ltb, lt-leb, eqb-true, not-false}
+use borrow.Author.Tests.{lt-ltb, le-ltb, lt-leb, le-leb, eqb-true, not-false}
 use lib.Dec.{eqb, leb}
 use lib.IntN.{ℤ, pos}
 use lib.ListN.{length, replicate}
@@ -19,7 +22,6 @@ use Rattle.integers.specs.Lists.{overwrite}
 use Rattle.h265.specs.Range.{outside_range}
 use Rattle.h265.specs.Transform.{row_order}
 use Rattle.h265.proofs.RangeLaws.{transform_range_least, transform_range_most, transform_range_depth}
-use Rattle.refusal.specs.declared.Answer.TheVariants.{Done, Refused}
 use Rattle.refusal.specs.declared.Refusal.{Refusal}
 use Rattle.refusal.specs.declared.Refusal.TheVariants.{SizeInvalid, DepthInvalid, DstSizeInvalid, InputTooShort, OutputTooShort, PlaceOutside, WayMismatched}
 use Rattle.refusal.specs.Refusal.{number}
@@ -60,7 +62,7 @@ abbrev pub ladder : {A : Type 0} → Opening → Buffers → (Refusal → A) →
 ladder o lent stop go = block_ladder stop go o.kind o.size o.depth (length lent.coeff) (length lent.inter) (length lent.res)
 
 module _ (o : Opening) (lent : Buffers) where
-  pub ladder_passed : answer Done ≡ ladder o lent (refused tt) (accepted tt) → Fits o lent
+  pub ladder_passed : answer (Ok tt) ≡ ladder o lent (refused tt) (accepted tt) → Fits o lent
   unfolding block_ladder
   ladder_passed p =
       let p₁ = past (size_refused o.size) SizeInvalid _ p in
@@ -74,7 +76,7 @@ module _ (o : Opening) (lent : Buffers) where
   unfolding block_ladder
   ladder_go stop go f = rw (f.size, f.depth, f.dst, f.coeff, f.work)
 
-  pub ladder_refused : {A : Type 0} (make : Outcome (Unit {0}) → A) (r : Refusal) (go : A) → answer (Refused r) ≡ ladder o lent (refused tt) (accepted tt)
+  pub ladder_refused : {A : Type 0} (make : Outcome (Unit {0}) → A) (r : Refusal) (go : A) → answer (Err r) ≡ ladder o lent (refused tt) (accepted tt)
       → ladder o lent (λ (e : Refusal). make (refused tt e)) go ≡ make (refused tt r)
   unfolding block_ladder
   ladder_refused {A} make r go p =
@@ -84,7 +86,7 @@ module _ (o : Opening) (lent : Buffers) where
       (λ p₃. rung make r (block_refused o.size (length lent.coeff)) InputTooShort _ _ p₃
       (λ p₄. rung make r (block_refused o.size (length lent.inter) || block_refused o.size (length lent.res)) OutputTooShort _ _ p₄ never))))
     where
-      never : answer (Refused r) ≡ answer Done → go ≡ make (refused tt r)
+      never : answer (Err r) ≡ answer (Ok tt) → go ≡ make (refused tt r)
       never q = absurd (let z : number r ≡ 0 = ap (λ (a : Outcome (Unit {0})). a.number) q in let b : ⊥ = omega (arith, number_least r) in b)
 
   pub fits_ask : Fits o lent → EditNeeds o.kind o.size o.depth (range_of o) (length lent.coeff) (length lent.inter) (length lent.res)
@@ -106,7 +108,7 @@ module _ (o : Opening) (lent : Buffers) where
       }
 
   -- ---- an opening
-  pub open_refused : (r : Refusal) → answer (Refused r) ≡ ladder o lent (refused tt) (accepted tt) → opened_as o lent ≡ stopped zero_block lent r
+  pub open_refused : (r : Refusal) → answer (Err r) ≡ ladder o lent (refused tt) (accepted tt) → opened_as o lent ≡ stopped zero_block lent r
   unfolding opened_as opened
   open_refused r p = ladder_refused (λ a. record { answer = a; block = zero_block; buffers = lent }) r _ p
 
@@ -119,15 +121,20 @@ module _ (o : Opening) (lent : Buffers) where
       → opened_as o lent ≡ record { answer = accepted tt; block = block_of o (column_count o.size lent.coeff); buffers = opened_buffers o.kind o.size o.depth (range_of o) lent }
   open_done f first e h = opened_is o lent (record { fits = f; first = rw (sym e) (le-ltb first (o.size * o.size) h) })
 
-  pub opens_stopped : (r : Refusal) (left : EditedBlock) → opened_as o lent ≡ stopped zero_block lent r → left ≡ zero_block → Opens (opened_as o lent) (Refused r) left lent.inter lent.res
-  opens_stopped r left p z = rw p (record { answered = refl; block = z; inter = refl; res = refl })
+  pub opens_stopped : (r : Refusal) → opened_as o lent ≡ stopped zero_block lent r → Opens (opened_as o lent) (Err r) lent.inter lent.res
+  opens_stopped r p = rw p (record { answered = refl; inter = refl; res = refl })
 
 -- ---- an edit
+-- the test of row 8, side by side
+pub place_outside : (n row column : ℕ) → (n ≤ row) ⊎ ((row < n) × (n ≤ column)) → leb n row || leb n column ≡ true
+place_outside n row column (inl h) = rw (le-leb n row h)
+place_outside n row column (inr h) = rw (lt-leb n row h.0, le-leb n column h.1)
+
 abbrev pub opening_of : EditedBlock → Opening
 opening_of block = record { kind = block.kind; size = block.size; depth = block.depth; extended = block.extended; source = block.source }
 
 module _ (block : EditedBlock) (lent : Buffers) (row column : ℕ) (value : ℤ) where
-  pub edit-refused : (r : Refusal) → answer (Refused r) ≡ ladder (opening_of block) lent (refused tt) (accepted tt) → edited block lent row column value ≡ stopped block lent r
+  pub edit-refused : (r : Refusal) → answer (Err r) ≡ ladder (opening_of block) lent (refused tt) (accepted tt) → edited block lent row column value ≡ stopped block lent r
   unfolding edited
   edit-refused r p = ladder_refused (opening_of block) lent (λ a. record { answer = a; block = block; buffers = lent }) r _ p
 
@@ -150,7 +157,7 @@ module _ (block : EditedBlock) (lent : Buffers) (row column : ℕ) (value : ℤ)
   unfolding edited
   edit_done f w hr hc o = ladder_go (opening_of block) lent _ _ f ∙ rw (w, lt-leb block.size row hr, lt-leb block.size column hc, o)
 
-  pub edits_stopped : (r : Refusal) → edited block lent row column value ≡ stopped block lent r → Edits (edited block lent row column value) (Refused r) block lent.coeff lent.inter lent.res
+  pub edits_stopped : (r : Refusal) → edited block lent row column value ≡ stopped block lent r → Edits (edited block lent row column value) (Err r) block lent.coeff lent.inter lent.res
   edits_stopped r p = rw p (record { answered = refl; block = refl; coeff = refl; inter = refl; res = refl })
 
 -- ---- stage two alone, whose ladder is that of an opening on coefficients that are enough at every size
@@ -158,7 +165,7 @@ abbrev pub staged : List ℤ → List ℤ → Buffers
 staged g e = buffers (replicate 1024 (pos 0)) g e
 
 module _ (o : Opening) (g e : List ℤ) where
-  pub refresh_refused : (r : Refusal) → answer (Refused r) ≡ ladder o (staged g e) (refused tt) (accepted tt) → refreshed o.kind o.size o.depth o.extended g e ≡ left e r
+  pub refresh_refused : (r : Refusal) → answer (Err r) ≡ ladder o (staged g e) (refused tt) (accepted tt) → refreshed o.kind o.size o.depth o.extended g e ≡ left e r
   unfolding refreshed
   refresh_refused r p = ladder_refused o (staged g e) (λ a. record { answer = a; out = e }) r _ p
 

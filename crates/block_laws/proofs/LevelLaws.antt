@@ -6,6 +6,7 @@
 --   level-edit-refused, level-edit_way, level-edit-place, level-edit_done   what a level edit hands back, case by case
 --   scaled-inside        a scaled level lies in the range: rows 9 and 19 cannot be met
 --   level_edits_meet_no_range   no level edit meets row 9 or 19
+use Rattle.std.specs.Prelude.{Ok, Err}
 use mathlib.Core.Path.{◌≡◌, refl, sym, ap, ◌∙◌}
 use mathlib.Core.Bool.{Bool, true, false, not, ◌||◌, cond}
 use mathlib.Core.List.{List, [], ◌∷◌}
@@ -19,8 +20,6 @@ use Rattle.integers.proofs.MachineLaws.{lt_z_of_le}
 use Rattle.h265.specs.Range.{transform_range, coeff_min, coeff_max, clip_coeff, outside_range}
 use Rattle.h265.specs.Scaling.{scale_level}
 use Rattle.h265.proofs.RangeLaws.{clip_coeff_between}
-use Rattle.refusal.specs.declared.Answer.{Answer}
-use Rattle.refusal.specs.declared.Answer.TheVariants.{Done as AnswerDone, Refused}
 use Rattle.refusal.specs.declared.Refusal.{Refusal}
 use Rattle.refusal.specs.declared.Refusal.TheVariants.{SizeInvalid, DepthInvalid, DstSizeInvalid, ListLengthInvalid, InputTooShort, OutputTooShort, PlaceOutside, WayMismatched}
 use Rattle.refusal.specs.Refusal.{number}
@@ -33,12 +32,10 @@ use Rattle.transform_1d.specs.Kinds.{dst_refused}
 use Rattle.block_rules.specs.declared.EditedBlock.{EditedBlock}
 use Rattle.block_rules.specs.declared.Source.{Source}
 use Rattle.block_rules.specs.Columns.{column_count}
-use Rattle.block_rules.specs.Edit.{Buffers, Left, zero_source, edited, edited_buffers, with_columns, Edits}
+use Rattle.block_rules.specs.Edit.{Buffers, zero_source, edited_buffers, with_columns, valued}
 use Rattle.integers.proofs.TestLaws.{neither}
 use Rattle.block_laws.proofs.OpeningLaws.{Fits}
-use Rattle.block_laws.proofs.LadderLaws.{opening_of, edit_done}
-use Rattle.block_rules.specs.declared.Limits.{Limits}
-use Rattle.block_rules.specs.declared.LimitsAnswer.TheVariants.{Done, Refused as LevelRefused}
+use Rattle.block_laws.proofs.LadderLaws.{opening_of}
 use Rattle.block_rules.specs.Level.{scaled_by, limits_by, no_limits, level_ladder, LevelLeft, level_stopped, looked_at, level_edited, LevelEdits, LevelMeetsNoRange, LevelEditsMeetNoRange}
 
 pub scaled-inside : (s : Source) (n b : ℕ) (x : Bool) (i : ℕ) (level : ℤ) → outside_range (transform_range b x) (scaled_by s n b x i level) ≡ false
@@ -53,10 +50,6 @@ scaled-inside s n b x i level = inside _
         let h = clip_coeff_between r z in
         unfold outside_range in rw (lt_z_of_le {x = clip_coeff r z} {y = coeff_min r} h.0, lt_z_of_le {x = coeff_max r} {y = clip_coeff r z} h.1)
 
--- an outcome with another value
-abbrev pub with_value : {A B : Type 0} → B → Outcome A → Outcome B
-with_value v o = record { number = o.number; place = o.place; row = o.row; column = o.column; value = v }
-
 pub record LevelFits (kind : Kind) (n b len levels coeff inter res : ℕ) : Type 0 where
   pub size : size_refused n ≡ false
   pub depth : depth_refused b ≡ false
@@ -70,7 +63,7 @@ module _ (kind : Kind) (n b list levels coeff inter res : ℕ) where
   rungs = rung (size_refused n) SizeInvalid ∷ rung (depth_refused b) DepthInvalid ∷ rung (dst_refused kind n) DstSizeInvalid ∷ rung (list_refused list) ListLengthInvalid
       ∷ rung (block_refused n levels || block_refused n coeff) InputTooShort ∷ rung (block_refused n inter || block_refused n res) OutputTooShort ∷ []
 
-  pub levels_passed : answer AnswerDone ≡ level_ladder (refused tt) (accepted tt) kind n b list levels coeff inter res → LevelFits kind n b list levels coeff inter res
+  pub levels_passed : answer (Ok tt) ≡ level_ladder (refused tt) (accepted tt) kind n b list levels coeff inter res → LevelFits kind n b list levels coeff inter res
   unfolding level_ladder
   levels_passed p =
       let a = (first_accepted tt tt tt rungs p).0 in
@@ -80,7 +73,7 @@ module _ (kind : Kind) (n b list levels coeff inter res : ℕ) where
   unfolding level_ladder
   levels_go stop go f = rw (f.size, f.depth, f.dst, f.list, f.input, f.work)
 
-  pub levels-refused : {A : Type 0} (make : Outcome (Unit {0}) → A) (r : Refusal) (go : A) → answer (Refused r) ≡ level_ladder (refused tt) (accepted tt) kind n b list levels coeff inter res
+  pub levels-refused : {A : Type 0} (make : Outcome (Unit {0}) → A) (r : Refusal) (go : A) → answer (Err r) ≡ level_ladder (refused tt) (accepted tt) kind n b list levels coeff inter res
       → level_ladder (λ (e : Refusal). make (refused tt e)) go kind n b list levels coeff inter res ≡ make (refused tt r)
   unfolding level_ladder
   levels-refused {A} make r go p = first_refused tt tt (λ (e : Refusal). make (refused tt e)) go (λ (o : A). o ≡ make (refused tt r)) r (λ f h. ap make (sym h)) rungs p
@@ -99,10 +92,10 @@ plain_fits block levels lent f =
 
 module _ (block : EditedBlock) (levels : List ℤ) (lent : Buffers) (row column : ℕ) (level : ℤ) where
   pub level-edit-refused : (r : Refusal)
-      → answer (Refused r) ≡ level_ladder (refused tt) (accepted tt) block.kind block.size block.depth 64 (looked_at block.source.levels (length levels) (length lent.coeff)) (length lent.coeff) (length lent.inter) (length lent.res)
+      → answer (Err r) ≡ level_ladder (refused tt) (accepted tt) block.kind block.size block.depth 64 (looked_at block.source.levels (length levels) (length lent.coeff)) (length lent.coeff) (length lent.inter) (length lent.res)
       → level_edited block levels lent row column level ≡ level_stopped block levels lent r
   unfolding level_edited
-  level-edit-refused r p = levels-refused block.kind block.size block.depth 64 _ (length lent.coeff) (length lent.inter) (length lent.res) (λ a. record { answer = with_value no_limits a; block = block; levels = levels; buffers = lent }) r _ p
+  level-edit-refused r p = levels-refused block.kind block.size block.depth 64 _ (length lent.coeff) (length lent.inter) (length lent.res) (λ a. record { answer = valued no_limits a; block = block; levels = levels; buffers = lent }) r _ p
 
   module _ (f : EditFits block levels lent) where
     goes : {A : Type 0} (stop : Refusal → A) (go : A) → level_ladder stop go block.kind block.size block.depth 64 (looked_at block.source.levels (length levels) (length lent.coeff)) (length lent.coeff) (length lent.inter) (length lent.res) ≡ go
@@ -124,26 +117,8 @@ module _ (block : EditedBlock) (levels : List ℤ) (lent : Buffers) (row column 
     level-edit_done w hr hc = goes _ _ ∙ rw (w, lt-leb block.size row hr, lt-leb block.size column hc)
 
   pub level_edits_stopped : (r : Refusal) → level_edited block levels lent row column level ≡ level_stopped block levels lent r
-      → LevelEdits (level_edited block levels lent row column level) (LevelRefused r) block levels lent.coeff lent.inter lent.res
+      → LevelEdits (level_edited block levels lent row column level) (Err r) block levels lent.coeff lent.inter lent.res
   level_edits_stopped r p = rw p (record { answered = refl; block = refl; levels = refl; coeff = refl; inter = refl; res = refl })
-
--- an accepted level edit is an edit of the coefficients by a value in the range, of the same block with another source
-pub level-edit_ends : (block : EditedBlock) (levels : List ℤ) (lent : Buffers) (row column : ℕ) (level : ℤ) → EditFits block levels lent → block.source.levels ≡ true → row < block.size → column < block.size
-    → (a : Answer) (count : ℕ) (d g e : List ℤ) (limits : Limits) → limits ≡ limits_by block.source block.size block.depth block.extended (row * block.size + column) level
-    → Edits (edited (plain block) lent row column (scaled_by block.source block.size block.depth block.extended (row * block.size + column) level)) a (with_columns (plain block) count) d g e
-    → LevelEdits (level_edited block levels lent row column level) (Done limits) (with_columns block count) (set levels (row * block.size + column) level) d g e
-level-edit_ends block levels lent row column level f w hr hc a count d g e limits same h =
-    let q = edit_done (plain block) lent row column (scaled_by block.source block.size block.depth block.extended (row * block.size + column) level)
-    (plain_fits block levels lent f) refl hr hc (scaled-inside block.source block.size block.depth block.extended (row * block.size + column) level) in
-    rw (level-edit_done block levels lent row column level f w hr hc)
-    (record {
-      answered = ap accepted same;
-      block = ap (with_columns block) (ap (λ (b : EditedBlock). b.columns) (h.block ∙ ap (λ (l : Left). l.block) q));
-      levels = refl;
-      coeff = h.coeff ∙ ap (λ (l : Left). l.buffers.coeff) q;
-      inter = h.inter ∙ ap (λ (l : Left). l.buffers.inter) q;
-      res = h.res ∙ ap (λ (l : Left). l.buffers.res) q;
-    })
 
 -- ---- no level edit meets row 9 or 19
 abbrev Other : ℕ → LevelLeft → Type 0

@@ -2,23 +2,23 @@
 -- rows 1, 2, 4, 6, 7, 8, 9, 10, 19 of the table.
 -- Letters: n size, b depth, x extended precision, r range, d coefficients, g intermediate, e residual.
 --   Buffers                   the three lent buffers
---   Left                      what a call hands back: outcome, record and buffers
+--   Left                      what a call leaves: outcome, record and buffers
 --   zero_source, zero_block     what a block that was opened on coefficients has as its source; the record of a refused opening
 --   intermediate_of, residual_of   stage one over coefficients, and stage two over an intermediate; every value is read limited to the
 --                             range, since a caller may have spoiled the buffers
 --   opened                    the opening
 --   edited                    one edit
 --   refreshed                 the residual of an intermediate: stage two alone
+--   valued                    an outcome with another value
 --   Opens, Edits              a call's answer, record and buffers are what `opened` or `edited` says
-use Rattle.std.specs.Prelude.{◌≡◌, Bool, ◌||◌, cond, List, ℕ, ◌+◌, ◌*◌, leb, ltb, ℤ, pos, length, set, replicate}
+use Rattle.std.specs.Prelude.{◌≡◌, Bool, ◌||◌, cond, List, ℕ, ◌+◌, ◌*◌, leb, ltb, ℤ, pos, length, set, replicate, Result}
 use Rattle.integers.specs.Lists.{overwrite}
 use Rattle.h265.specs.Range.{transform_range, outside_range}
 use Rattle.h265.specs.Transform.{row_order, intermediate, stage_two, stage_two_shift}
-use Rattle.refusal.specs.declared.Answer.{Answer}
 use Rattle.refusal.specs.declared.Refusal.{Refusal}
 use Rattle.refusal.specs.declared.Refusal.TheVariants.{SizeInvalid, DepthInvalid, DstSizeInvalid, InputTooShort, OutputTooShort, PlaceOutside, WayMismatched}
 use Rattle.refusal.specs.Condition.{size_refused, depth_refused, block_refused}
-use Rattle.refusal.specs.Outcome.{Outcome, accepted, refused, answer}
+use Rattle.refusal.specs.Outcome.{Outcome, accepted, refused, outcome, answer}
 use Rattle.refusal.specs.Written.{Written, left, wrote}
 use Rattle.transform_1d.specs.declared.Kind.{Kind}
 use Rattle.transform_1d.specs.declared.Kind.TheVariants.{Dct}
@@ -116,14 +116,17 @@ refreshed kind n b x g e =
 abbrev pub buffers : List ℤ → List ℤ → List ℤ → Buffers
 buffers d g e = record { coeff = d; inter = g; res = e }
 
--- the coefficients are lent to an opening for reading alone
-pub record Opens (h : Left) (a : Answer) (left : EditedBlock) (g e : List ℤ) : Type 0 where
-  pub answered : answer a ≡ h.answer
-  pub block : left ≡ h.block
+-- an outcome with another value
+abbrev pub valued : {A B : Type 0} → B → Outcome A → Outcome B
+valued v o = record { number = o.number; place = o.place; row = o.row; column = o.column; value = v }
+
+-- the coefficients are lent to an opening for reading alone; a refused one hands back no record, which counts as one of zeros
+pub record Opens (h : Left) (r : Result EditedBlock Refusal) (g e : List ℤ) : Type 0 where
+  pub answered : outcome zero_block r ≡ valued h.block h.answer
   pub inter : g ≡ h.buffers.inter
   pub res : e ≡ h.buffers.res
 
-pub record Edits (h : Left) (a : Answer) (left : EditedBlock) (d g e : List ℤ) : Type 0 where
+pub record Edits (h : Left) (a : Result (Unit {0}) Refusal) (left : EditedBlock) (d g e : List ℤ) : Type 0 where
   pub answered : answer a ≡ h.answer
   pub block : left ≡ h.block
   pub coeff : d ≡ h.buffers.coeff

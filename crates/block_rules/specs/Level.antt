@@ -4,17 +4,17 @@
 --   scaled_by s n b x i level     the coefficient that a level at index i gives
 --   limits_by s n b x i level     whether that level was limited, and after that its result
 --   level_ladder                  the conditions that an opening on levels and a level edit share
---   LevelLeft                    what a level edit hands back: outcome with these two flags, record, levels and buffers
---   OpenLeft                     what an opening on levels hands back: outcome with how many coefficients were limited, record and buffers
---   limits_outcome, count_outcome  their answers as outcomes
+--   LevelLeft                    what a level edit leaves: outcome with these two flags, record, levels and buffers
+--   OpenLeft                     what an opening on levels leaves: outcome with how many coefficients were limited, record and buffers
 --   looked_at                     the length that row 6 looks at: of the level buffer where the block was opened on levels
 --   level_edited                  one level edit
 --   on_levels, on_scaled_levels     an opening on levels, without a list and with one; what it is not given is 0
 --   scaled_buffers                the lent buffers with the coefficients of a block of levels
 --   level_opened                  the opening
+--   levels_opened                 what an opening on levels hands back: how many coefficients were limited, and the record
 --   LevelEdits, LevelOpens       a call's answer, record and buffers are what `level_edited` or `level_opened` says
 --   LevelEditsMeetNoRange        no level edit meets row 9 or 19
-use Rattle.std.specs.Prelude.{◌≡◌, Bool, false, not, ◌||◌, cond, List, ℕ, ◌+◌, ◌*◌, leb, ℤ, nat_abs, length, set, replicate}
+use Rattle.std.specs.Prelude.{◌≡◌, Bool, false, not, ◌||◌, cond, List, ℕ, ◌+◌, ◌*◌, leb, ℤ, nat_abs, length, set, replicate, Result}
 use Rattle.integers.specs.Lists.{overwrite}
 use Rattle.h265.specs.Range.{log2_size, transform_range, outside_range}
 use Rattle.h265.specs.Quantization.{clip_qp_prime}
@@ -25,19 +25,17 @@ use Rattle.h265.specs.ScalingFactor.ScalingList.{flat, listed}
 use Rattle.refusal.specs.declared.Refusal.{Refusal}
 use Rattle.refusal.specs.declared.Refusal.TheVariants.{SizeInvalid, DepthInvalid, DstSizeInvalid, ListLengthInvalid, InputTooShort, OutputTooShort, PlaceOutside, WayMismatched}
 use Rattle.refusal.specs.Condition.{size_refused, depth_refused, list_refused, block_refused}
-use Rattle.refusal.specs.Outcome.{Outcome, accepted, refused}
-use Rattle.scaling_blocks.specs.declared.CountAnswer.{CountAnswer}
-use Rattle.scaling_blocks.specs.Blocks.{entries_of, count_outcome}
+use Rattle.refusal.specs.Outcome.{Outcome, accepted, refused, outcome}
+use Rattle.scaling_blocks.specs.Blocks.{entries_of}
 use Rattle.transform_1d.specs.declared.Kind.{Kind}
 use Rattle.transform_1d.specs.Kinds.{dst_refused}
 use Rattle.block_rules.specs.declared.EditedBlock.{EditedBlock}
 use Rattle.block_rules.specs.declared.Source.{Source}
 use Rattle.block_rules.specs.Columns.{column_count}
-use Rattle.block_rules.specs.Edit.{Buffers, zero_block, opened_buffers, edited_buffers, with_columns}
+use Rattle.block_rules.specs.Edit.{Buffers, zero_block, opened_buffers, edited_buffers, with_columns, valued}
 use Rattle.block_rules.specs.Opening.{Opening, range_of, block_of}
 use Rattle.block_rules.specs.declared.Limits.{Limits}
-use Rattle.block_rules.specs.declared.LimitsAnswer.{LimitsAnswer}
-use Rattle.block_rules.specs.declared.LimitsAnswer.TheVariants.{Done, Refused}
+use Rattle.block_rules.specs.declared.LevelsOpened.{LevelsOpened}
 
 abbrev pub list_of : Source → ScalingList
 list_of s = cond s.listed (listed s.entries s.dc) flat
@@ -54,10 +52,6 @@ limits_by s n b x i level =
 
 abbrev pub no_limits : Limits
 no_limits = record { level = Bool.false; result = Bool.false }
-
-abbrev pub limits_outcome : LimitsAnswer → Outcome Limits
-limits_outcome (Done l) = accepted l
-limits_outcome (Refused e) = refused no_limits e
 
 -- `list` is the length of the list, and 64 where row 5 has none to look at; row 6 looks at the levels and at the coefficients
 unfoldable pub level_ladder : {A : Type 0} → (Refusal → A) → A → Kind → ℕ → ℕ → ℕ → ℕ → ℕ → ℕ → ℕ → A
@@ -95,8 +89,8 @@ level_edited block levels lent row column level =
     (record { answer = accepted (limits_by block.source n b x at level); block = with_columns block (column_count n after.coeff); levels = set levels at level; buffers = after })))
     block.kind n b 64 (looked_at block.source.levels (length levels) (length lent.coeff)) (length lent.coeff) (length lent.inter) (length lent.res)
 
-pub record LevelEdits (h : LevelLeft) (a : LimitsAnswer) (left : EditedBlock) (ls d g e : List ℤ) : Type 0 where
-  pub answered : limits_outcome a ≡ h.answer
+pub record LevelEdits (h : LevelLeft) (a : Result Limits Refusal) (left : EditedBlock) (ls d g e : List ℤ) : Type 0 where
+  pub answered : outcome no_limits a ≡ h.answer
   pub block : left ≡ h.block
   pub levels : ls ≡ h.levels
   pub coeff : d ≡ h.buffers.coeff
@@ -135,9 +129,12 @@ level_opened o levels lent =
     (record { answer = accepted (limited_count (list_of o.source) o.size o.depth o.extended o.source.qp_prime.0 levels); block = block_of o (column_count o.size scaled.coeff); buffers = opened_buffers o.kind o.size o.depth (range_of o) scaled })
     o.kind o.size o.depth (entries_of (list_of o.source)) (length levels) (length lent.coeff) (length lent.inter) (length lent.res)
 
-pub record LevelOpens (h : OpenLeft) (a : CountAnswer) (left : EditedBlock) (d g e : List ℤ) : Type 0 where
-  pub answered : count_outcome a ≡ h.answer
-  pub block : left ≡ h.block
+abbrev pub levels_opened : ℕ → EditedBlock → LevelsOpened
+levels_opened k block = record { limited = k; block = block }
+
+-- a refused opening hands back nothing, which counts as zeros
+pub record LevelOpens (h : OpenLeft) (r : Result LevelsOpened Refusal) (d g e : List ℤ) : Type 0 where
+  pub answered : outcome (levels_opened 0 zero_block) r ≡ valued (levels_opened h.answer.value h.block) h.answer
   pub coeff : d ≡ h.buffers.coeff
   pub inter : g ≡ h.buffers.inter
   pub res : e ≡ h.buffers.res

@@ -1,4 +1,4 @@
-// The record of an edited block (docs/RULES.md, "The edited block"), and what the calls hand back with it. What an opening and an edit leave stands in
+// The record of an edited block (docs/RULES.md, "The edited block"), and what the calls on it answer. What an opening and an edit leave stands in
 // specs/, with small examples of it.
 #![tactic(auto)]
 
@@ -6,11 +6,10 @@ ghost use Rattle.std.specs.Prelude.{◌≡◌};
 ghost use Rattle.block_rules.specs.Edit.{zero_source, zero_block};
 
 use parameters::QpPrime;
-use refusal::{Answer, Refusal};
-use scaling_blocks::CountAnswer;
 use transform_1d::Kind;
 
 // What the coefficients come from: levels, with what they are scaled by. What an opening is not given is 0.
+// The flags stay flags, and no Option: C gets the record field for field, what was not given too, and hands it back.
 #[derive(Clone, Copy)]
 pub struct Source {
     pub levels: bool,
@@ -31,20 +30,6 @@ pub struct EditedBlock {
     pub source: Source,
 }
 
-// What an opening answers, or an edit that takes the record by value, with the record afterwards.
-#[derive(Clone, Copy)]
-pub struct Opened {
-    pub answer: Answer,
-    pub block: EditedBlock,
-}
-
-// What an edit answers, with the column count afterwards.
-#[derive(Clone, Copy)]
-pub struct Edited {
-    pub answer: Answer,
-    pub columns: usize,
-}
-
 // Whether a level was limited, and after that its result.
 #[derive(Clone, Copy)]
 pub struct Limits {
@@ -52,31 +37,10 @@ pub struct Limits {
     pub result: bool,
 }
 
-// The answer to a level edit.
-#[derive(Clone, Copy)]
-pub enum LimitsAnswer {
-    Done(Limits),
-    Refused(Refusal),
-}
-
-// What a level edit answers, with the column count afterwards.
-#[derive(Clone, Copy)]
-pub struct LevelEdited {
-    pub answer: LimitsAnswer,
-    pub columns: usize,
-}
-
-// The same of an edit that takes the record by value, with the record afterwards.
-#[derive(Clone, Copy)]
-pub struct LevelEditedBlock {
-    pub answer: LimitsAnswer,
-    pub block: EditedBlock,
-}
-
-// What an opening on levels answers, how many coefficients were limited, and the record.
+// A block that was opened on levels, and how many coefficients were limited.
 #[derive(Clone, Copy)]
 pub struct LevelsOpened {
-    pub answer: CountAnswer,
+    pub limited: u16,
     pub block: EditedBlock,
 }
 
@@ -93,7 +57,7 @@ pub fn zero_source() -> Source
     }
 }
 
-// The record that a refused opening hands back.
+// The record of zeros, which every edit refuses: what C gets where an opening was refused.
 pub fn zero_block() -> EditedBlock
     ensures { result ≡ zero_block }
 {

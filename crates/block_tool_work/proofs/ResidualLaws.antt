@@ -5,6 +5,7 @@
 --   skip_block, skip_modified           its block can be modified, and is then what the definition says
 --   Passes, bypass_passed               what is known of a bypass that is not refused
 --   bypass_block, bypass_modified, bypass_refused   the same of a bypass
+use Rattle.std.specs.Prelude.{Ok, Err}
 use mathlib.Core.Path.{◌≡◌, refl, sym, ap, subst, ◌∙◌}
 use mathlib.Core.Bool.{Bool, true, false, not, ◌&&◌, cond}
 use mathlib.Core.List.{List, [], ◌∷◌}
@@ -25,7 +26,6 @@ use Rattle.h265.specs.ScalingFactor.{ScalingList}
 use Rattle.h265.specs.TransformSkip.{skipped_at}
 use Rattle.h265.specs.Limited.{limited_count}
 use Rattle.h265.proofs.RangeLaws.{transform_range_most, clip_coeff_id, clip_coeff_within, outside_range_false}
-use Rattle.refusal.specs.declared.Answer.TheVariants.{Done, Refused}
 use Rattle.refusal.specs.declared.Refusal.{Refusal}
 use Rattle.refusal.specs.declared.Refusal.TheVariants.{SizeInvalid, DepthInvalid, RotationSizeInvalid, InputTooShort, OutputTooShort}
 use Rattle.refusal.specs.Condition.{size_refused, depth_refused, rotation_refused, block_refused}
@@ -37,7 +37,6 @@ use Rattle.refusal.proofs.RefusalLaws.{number_least}
 use Rattle.coefficients.specs.Outside.{first_outside, refusal_at}
 use Rattle.coefficients.proofs.OutsideLaws.{first_outside-inside}
 use Rattle.scaling_blocks.specs.Blocks.{bits32, scaling_ladder, block_written, transform_skipped, entries_of, CountWritten, CountWrites, left_as_lent, counted}
-use Rattle.scaling_blocks.specs.declared.CountAnswer.TheVariants.{Limited, Refused as CountRefused}
 use Rattle.scaling_blocks.proofs.BlockLaws.{rungs}
 use Rattle.block_tool_rules.specs.declared.Accumulate.{Accumulate}
 use Rattle.block_tool_rules.specs.declared.Accumulate.TheVariants.{Off}
@@ -67,9 +66,9 @@ unfolding rotation_named
 rotation_passed t n b e s d = sym (ap (λ u. not u && (not (depth_refused b) && rotation_refused t n)) s ∙ ap (λ u. not u && rotation_refused t n) d) ∙ e
 
 module _ (a : Accumulate) (t : Bool) (list : ScalingList) (n : ℕ) (q : ℤ) (b : ℕ) (x : Bool) (levels out : List ℤ) where
-  pub skip_named : rotation_named t n b ≡ true → CountWrites (CountRefused RotationSizeInvalid) out (skip_residual a t list n q b x levels out)
+  pub skip_named : rotation_named t n b ≡ true → CountWrites (Err RotationSizeInvalid) out (skip_residual a t list n q b x levels out)
   unfolding skip_residual rotation_named
-  skip_named e = subst (λ (w : CountWritten). CountWrites (CountRefused RotationSizeInvalid) out w) (sym (third _ _ _ _ (size_refused n) (depth_refused b) (rotation_refused t n) e)) (record { answered = refl; out = refl })
+  skip_named e = subst (λ (w : CountWritten). CountWrites (Err RotationSizeInvalid) out w) (sym (third _ _ _ _ (size_refused n) (depth_refused b) (rotation_refused t n) e)) (record { answered = refl; out = refl })
 
   pub skip_passed : rotation_named t n b ≡ false
       → skip_residual a t list n q b x levels out ≡ scaling_ladder (left_as_lent out) (counted (limited_count list n b x q levels) (overwrite (n * n) (skip_residual_at a t list n b x q levels) out)) bits32 n b x (entries_of list) (length levels) (length out)
@@ -78,22 +77,22 @@ module _ (a : Accumulate) (t : Bool) (list : ScalingList) (n : ℕ) (q : ℤ) (b
 
 -- ---- ladders with another end
 module _ (out after x : List ℤ) (m : ℕ) where
-  pub refused_still : (y : List ℤ) (e : Refusal) (rs : List Rung) → CountWrites (CountRefused e) after (first (left_as_lent out) (counted m x) rs) → CountWrites (CountRefused e) after (first (left_as_lent out) (counted m y) rs)
+  pub refused_still : (y : List ℤ) (e : Refusal) (rs : List Rung) → CountWrites (Err e) after (first (left_as_lent out) (counted m x) rs) → CountWrites (Err e) after (first (left_as_lent out) (counted m y) rs)
   refused_still y e [] w = absurd (let z : ⊥ = omega (arith, number_least e, ap (λ (o : Outcome ℕ). o.number) w.answered) in z)
   refused_still y e (rung true f ∷ rs) w = w
   refused_still y e (rung false f ∷ rs) w = refused_still y e rs w
 
-  pub done_passed : (k : ℕ) (rs : List Rung) → CountWrites (Limited k) after (first (left_as_lent out) (counted m x) rs) → Passed rs × ((after ≡ x) × (k ≡ m))
+  pub done_passed : (k : ℕ) (rs : List Rung) → CountWrites (Ok k) after (first (left_as_lent out) (counted m x) rs) → Passed rs × ((after ≡ x) × (k ≡ m))
   done_passed k [] w = (tt, (w.out, ap (λ (o : Outcome ℕ). o.value) w.answered))
   done_passed k (rung true f ∷ rs) w = absurd (let z : ⊥ = omega (arith, number_least f, ap (λ (o : Outcome ℕ). o.number) w.answered) in z)
   done_passed k (rung false f ∷ rs) w = let r = done_passed k rs w in ((refl, r.0), r.1)
 
-pub done_writes : (out y : List ℤ) {after : List ℤ} (rs : List Rung) → Passed rs → after ≡ y → Writes Done after (first (left out) (wrote y) rs)
-done_writes out y {after} rs p e = subst (λ (w : Written). Writes Done after w) (sym (first_passed (left out) (wrote y) rs p)) (record { answered = refl; out = e })
+pub done_writes : (out y : List ℤ) {after : List ℤ} (rs : List Rung) → Passed rs → after ≡ y → Writes (Ok tt) after (first (left out) (wrote y) rs)
+done_writes out y {after} rs p e = subst (λ (w : Written). Writes (Ok tt) after w) (sym (first_passed (left out) (wrote y) rs p)) (record { answered = refl; out = e })
 
-count_writes : (out y : List ℤ) (k m : ℕ) {after : List ℤ} (rs : List Rung) → Passed rs → after ≡ y → k ≡ m → CountWrites (Limited k) after (first (left_as_lent out) (counted m y) rs)
+count_writes : (out y : List ℤ) (k m : ℕ) {after : List ℤ} (rs : List Rung) → Passed rs → after ≡ y → k ≡ m → CountWrites (Ok k) after (first (left_as_lent out) (counted m y) rs)
 count_writes out y k m {after} rs p e f =
-    subst (λ (w : CountWritten). CountWrites (Limited k) after w) (sym (first_passed (left_as_lent out) (counted m y) rs p)) (record { answered = ap accepted f; out = e })
+    subst (λ (w : CountWritten). CountWrites (Ok k) after w) (sym (first_passed (left_as_lent out) (counted m y) rs p)) (record { answered = ap accepted f; out = e })
 
 -- ---- transform skip
 module _ (a : Accumulate) (t : Bool) (list : ScalingList) (n : ℕ) (q : ℤ) (b : ℕ) (x : Bool) (levels out : List ℤ) where
@@ -108,7 +107,7 @@ module _ (a : Accumulate) (t : Bool) (list : ScalingList) (n : ℕ) (q : ℤ) (b
     pub is : mid ≡ overwrite (n * n) (skipped_at list n b x q levels) out
     pub limited : k ≡ limited_count list n b x q levels
 
-  pub skip_done : {k : ℕ} {mid : List ℤ} → rotation_named t n b ≡ false → CountWrites (Limited k) mid (transform_skipped bits32 list n q b x levels out) → Skipped k mid
+  pub skip_done : {k : ℕ} {mid : List ℤ} → rotation_named t n b ≡ false → CountWrites (Ok k) mid (transform_skipped bits32 list n q b x levels out) → Skipped k mid
   unfolding transform_skipped block_written scaling_ladder
   skip_done {k} {mid} e w =
       let p = done_passed out mid (overwrite (n * n) (skipped_at list n b x q levels) out) (limited_count list n b x q levels) k (rungs bits32 n b x (entries_of list) (length levels) (length out)) w in
@@ -135,17 +134,17 @@ module _ (a : Accumulate) (t : Bool) (list : ScalingList) (n : ℕ) (q : ℤ) (b
             (λ i h. within_le (omega arith) (skipped_at_within list n b x q levels i s.size s.deep));
       }
 
-  pub skip_modified : {k : ℕ} {mid after : List ℤ} → Skipped k mid → after ≡ overwrite (n * n) (accumulated a n (rotated t n (at mid))) mid → CountWrites (Limited k) after (skip_residual a t list n q b x levels out)
+  pub skip_modified : {k : ℕ} {mid after : List ℤ} → Skipped k mid → after ≡ overwrite (n * n) (accumulated a n (rotated t n (at mid))) mid → CountWrites (Ok k) after (skip_residual a t list n q b x levels out)
   unfolding skip_residual_at modified rotated skipped_at scaling_ladder
   skip_modified {k} {after = after} s e =
-      subst (λ (w : CountWritten). CountWrites (Limited k) after w) (sym (skip_passed a t list n q b x levels out s.named))
+      subst (λ (w : CountWritten). CountWrites (Ok k) after w) (sym (skip_passed a t list n q b x levels out s.named))
       (count_writes out (overwrite (n * n) (skip_residual_at a t list n b x q levels) out) k (limited_count list n b x q levels) (rungs bits32 n b x (entries_of list) (length levels) (length out)) s.passed
       (modified_twice a t n (skipped_at list n b x q levels) out s.is e) s.limited)
 
-  pub skip_refused : {after : List ℤ} (e : Refusal) → rotation_named t n b ≡ false → CountWrites (CountRefused e) after (transform_skipped bits32 list n q b x levels out) → CountWrites (CountRefused e) after (skip_residual a t list n q b x levels out)
+  pub skip_refused : {after : List ℤ} (e : Refusal) → rotation_named t n b ≡ false → CountWrites (Err e) after (transform_skipped bits32 list n q b x levels out) → CountWrites (Err e) after (skip_residual a t list n q b x levels out)
   unfolding transform_skipped block_written scaling_ladder
   skip_refused {after} e m w =
-      subst (λ (v : CountWritten). CountWrites (CountRefused e) after v) (sym (skip_passed a t list n q b x levels out m))
+      subst (λ (v : CountWritten). CountWrites (Err e) after v) (sym (skip_passed a t list n q b x levels out m))
       (refused_still out after (overwrite (n * n) (skipped_at list n b x q levels) out) (limited_count list n b x q levels) _ e (rungs bits32 n b x (entries_of list) (length levels) (length out)) w)
 
 not_named : (s d : Bool) → not s && (not d && false) ≡ false
@@ -189,7 +188,7 @@ module _ (a : Accumulate) (t : Bool) (n b : ℕ) (x : Bool) (levels out : List �
     pub room : n * n ≤ length out
     pub small : (i : ℕ) → i < n * n → Within 4194304 (at levels i)
 
-  pub bypass_passed : answer Done ≡ bypass_ladder (refused tt) (accepted tt) t n b x levels (length out) → Passes
+  pub bypass_passed : answer (Ok tt) ≡ bypass_ladder (refused tt) (accepted tt) t n b x levels (length out) → Passes
   unfolding bypass_ladder
   bypass_passed h =
       let s = (first_accepted tt tt tt (bypass_rungs t n b x levels (length out)) h).0 in
@@ -212,13 +211,13 @@ module _ (a : Accumulate) (t : Bool) (n b : ℕ) (x : Bool) (levels out : List �
       }
 
   pub bypass_modified : {mid after : List ℤ} → Passes → mid ≡ overwrite (n * n) (at levels) out → after ≡ overwrite (n * n) (accumulated a n (rotated t n (at mid))) mid
-      → Writes Done after (bypass_residual a t n b x levels out)
+      → Writes (Ok tt) after (bypass_residual a t n b x levels out)
   unfolding bypass_residual bypass_ladder bypass_residual_at modified
   bypass_modified p e f =
       done_writes out (overwrite (n * n) (bypass_residual_at a t n levels) out) (bypass_rungs t n b x levels (length out)) p.passed (modified_twice a t n (at levels) out e f)
 
-  pub bypass_refused : (e : Refusal) → answer (Refused e) ≡ bypass_ladder (refused tt) (accepted tt) t n b x levels (length out) → Writes (Refused e) out (bypass_residual a t n b x levels out)
+  pub bypass_refused : (e : Refusal) → answer (Err e) ≡ bypass_ladder (refused tt) (accepted tt) t n b x levels (length out) → Writes (Err e) out (bypass_residual a t n b x levels out)
   unfolding bypass_residual bypass_ladder
   bypass_refused e h =
-      first_refused tt tt (left out) (wrote (overwrite (n * n) (bypass_residual_at a t n levels) out)) (λ w. Writes (Refused e) out w) e
+      first_refused tt tt (left out) (wrote (overwrite (n * n) (bypass_residual_at a t n levels) out)) (λ w. Writes (Err e) out w) e
       (λ f k. record { answered = k; out = refl }) (bypass_rungs t n b x levels (length out)) h

@@ -13,9 +13,5 @@ pub fn copy_levels(levels: &[i32], count: usize, out: &mut [i32])
     requires { (count ≤ length levels.now) × (count ≤ length out.old) }
     ensures { out.new ≡ overwrite count (at levels.now) out.old }
 {
-    let mut i: usize = 0;
-    while i < count {
-        out[i] = levels[i];
-        i += 1;
-    }
+    out[..count].copy_from_slice(&levels[..count]);
 }

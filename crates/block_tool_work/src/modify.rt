@@ -34,13 +34,11 @@ fn accumulate_block(n: usize, accumulate: Accumulate, out: &mut [i32])
     requires { T (is_size n) × (n * n ≤ length out.old) × Summable (n * n) out.old }
     ensures { out.new ≡ overwrite (n * n) (accumulated accumulate n (at out.old)) out.old }
 {
-    let mut i: usize = 0;
-    while i < n * n {
+    for i in 0..n * n {
         let back = step_back(accumulate, n, i);
         if 0 < back {
             out[i] = out[i] + out[i - back];
         }
-        i += 1;
     }
 }
 
@@ -49,14 +47,7 @@ fn rotate_block(out: &mut [i32])
     requires { 16 ≤ length out.old }
     ensures { out.new ≡ overwrite 16 (rotated true 4 (at out.old)) out.old }
 {
-    let mut i: usize = 0;
-    while i < 8 {
-        let first = out[i];
-        let last = out[15 - i];
-        out[i] = last;
-        out[15 - i] = first;
-        i += 1;
-    }
+    out[..16].reverse();
 }
 
 // Rotation, and then accumulation.

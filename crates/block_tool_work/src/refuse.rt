@@ -4,7 +4,7 @@ ghost use Rattle.refusal.specs.Outcome.{answer, accepted, refused};
 ghost use Rattle.block_tool_rules.specs.Residual.{bypass_ladder};
 ghost use Rattle.block_tool_work.specs.Work.{rotation_named};
 
-use refusal::{Answer, Refusal};
+use refusal::Refusal;
 
 // Row 25, unless row 1 or 2 comes before it.
 pub fn rotation_named(rotate: bool, n: usize, bit_depth: u8) -> bool
@@ -27,28 +27,28 @@ pub fn bypass_checked(
     extended_precision: bool,
     rotate: bool,
     places: usize,
-) -> Answer
+) -> Result<(), Refusal>
     ensures { answer result ≡ bypass_ladder (refused tt) (accepted tt) rotate n bit_depth extended_precision levels.now places }
 {
     if refusal::size_refused(n) {
-        return Answer::Refused(Refusal::SizeInvalid);
+        return Err(Refusal::SizeInvalid);
     }
     if refusal::depth_refused(bit_depth) {
-        return Answer::Refused(Refusal::DepthInvalid);
+        return Err(Refusal::DepthInvalid);
     }
     if refusal::rotation_refused(rotate, n) {
-        return Answer::Refused(Refusal::RotationSizeInvalid);
+        return Err(Refusal::RotationSizeInvalid);
     }
     if levels.len() < n * n {
-        return Answer::Refused(Refusal::InputTooShort);
+        return Err(Refusal::InputTooShort);
     }
     if places < n * n {
-        return Answer::Refused(Refusal::OutputTooShort);
+        return Err(Refusal::OutputTooShort);
     }
     let range = coefficients::transform_range(bit_depth, extended_precision);
     let first = coefficients::first_outside(levels, n, n, range);
     if first < n * n {
-        return Answer::Refused(coefficients::refusal_at(levels, n, first, range));
+        return Err(coefficients::refusal_at(levels, n, first, range));
     }
-    Answer::Done
+    Ok(())
 }

@@ -3,7 +3,7 @@ ghost use Rattle.block_tool_rules.specs.Residual.{bypass_residual, Writes};
 
 use block_tool_rules::Accumulate;
 use block_tool_work::{modify, refuse};
-use refusal::Answer;
+use refusal::Refusal;
 
 // The residuals of a block whose levels are its residuals.
 pub fn bypass_residual(
@@ -14,23 +14,11 @@ pub fn bypass_residual(
     rotate: bool,
     accumulate: Accumulate,
     out: &mut [i32],
-) -> Answer
+) -> Result<(), Refusal>
     ensures { Writes result out.new (bypass_residual accumulate rotate n bit_depth extended_precision levels.now out.old) }
 {
-    let checked = refuse::bypass_checked(
-        levels,
-        n,
-        bit_depth,
-        extended_precision,
-        rotate,
-        out.len(),
-    );
-    match checked {
-        Answer::Done => {
-            block_tool_work::copy_levels(levels, n * n, out);
-            modify::modify_block(n, rotate, accumulate, out);
-            Answer::Done
-        }
-        Answer::Refused(why) => Answer::Refused(why),
-    }
+    refuse::bypass_checked(levels, n, bit_depth, extended_precision, rotate, out.len())?;
+    block_tool_work::copy_levels(levels, n * n, out);
+    modify::modify_block(n, rotate, accumulate, out);
+    Ok(())
 }

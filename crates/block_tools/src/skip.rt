@@ -7,7 +7,6 @@ use block_tool_rules::Accumulate;
 use block_tool_work::{modify, refuse};
 use parameters::QpPrime;
 use refusal::Refusal;
-use scaling_blocks::CountAnswer;
 
 // The residuals of a block without a list, and how many of its coefficients were limited.
 pub fn transform_skip_residual(
@@ -19,27 +18,22 @@ pub fn transform_skip_residual(
     rotate: bool,
     accumulate: Accumulate,
     out: &mut [i32],
-) -> CountAnswer
+) -> Result<u16, Refusal>
     ensures { CountWrites result out.new (skip_residual accumulate rotate flat n qp_prime.0 bit_depth extended_precision levels.now out.old) }
 {
     if refuse::rotation_named(rotate, n, bit_depth) {
-        return CountAnswer::Refused(Refusal::RotationSizeInvalid);
+        return Err(Refusal::RotationSizeInvalid);
     }
-    let skipped = scaling_wide::dequantize_transform_skip_into_scalar_i32(
+    let limited = scaling_wide::dequantize_transform_skip_into_scalar_i32(
         levels,
         n,
         qp_prime,
         bit_depth,
         extended_precision,
         out,
-    );
-    match skipped {
-        CountAnswer::Limited(limited) => {
-            modify::modify_block(n, rotate, accumulate, out);
-            CountAnswer::Limited(limited)
-        }
-        CountAnswer::Refused(why) => CountAnswer::Refused(why),
-    }
+    )?;
+    modify::modify_block(n, rotate, accumulate, out);
+    Ok(limited)
 }
 
 // The residuals of a block with a list, and how many of its coefficients were limited.
@@ -54,13 +48,13 @@ pub fn transform_skip_scaled_residual(
     rotate: bool,
     accumulate: Accumulate,
     out: &mut [i32],
-) -> CountAnswer
+) -> Result<u16, Refusal>
     ensures { CountWrites result out.new (skip_residual accumulate rotate (listed list.now dc) n qp_prime.0 bit_depth extended_precision levels.now out.old) }
 {
     if refuse::rotation_named(rotate, n, bit_depth) {
-        return CountAnswer::Refused(Refusal::RotationSizeInvalid);
+        return Err(Refusal::RotationSizeInvalid);
     }
-    let skipped = scaling_wide::dequantize_transform_skip_scaled_into_scalar_i32(
+    let limited = scaling_wide::dequantize_transform_skip_scaled_into_scalar_i32(
         levels,
         n,
         qp_prime,
@@ -69,12 +63,7 @@ pub fn transform_skip_scaled_residual(
         list,
         dc,
         out,
-    );
-    match skipped {
-        CountAnswer::Limited(limited) => {
-            modify::modify_block(n, rotate, accumulate, out);
-            CountAnswer::Limited(limited)
-        }
-        CountAnswer::Refused(why) => CountAnswer::Refused(why),
-    }
+    )?;
+    modify::modify_block(n, rotate, accumulate, out);
+    Ok(limited)
 }

@@ -6,8 +6,7 @@
 
 use block_tools::Accumulate;
 use parameters::QpPrime;
-use refusal::Answer;
-use scaling_blocks::CountAnswer;
+use refusal::Refusal;
 use std::io::Read;
 
 #[derive(Clone, Copy)]
@@ -23,14 +22,14 @@ struct Case {
 }
 
 fn next_case(stdin: &mut impl Read) -> Case {
-    let which = cases::next_byte(stdin);
-    let n = cases::next_word(stdin);
-    let qp = cases::next_wide(stdin);
-    let bit_depth = cases::next_byte(stdin);
-    let extended = cases::next_byte(stdin) != 0;
-    let dc = cases::next_byte(stdin);
-    let rotate = cases::next_byte(stdin) != 0;
-    let way = cases::next_byte(stdin);
+    let which = cases::next::<u8>(stdin);
+    let n = cases::next::<usize>(stdin);
+    let qp = cases::next::<i32>(stdin);
+    let bit_depth = cases::next::<u8>(stdin);
+    let extended = cases::next::<u8>(stdin) != 0;
+    let dc = cases::next::<u8>(stdin);
+    let rotate = cases::next::<u8>(stdin) != 0;
+    let way = cases::next::<u8>(stdin);
     Case {
         which,
         n,
@@ -98,13 +97,13 @@ fn fill(levels: &mut [i32], wide: bool) {
 }
 
 // The answer, and how many coefficients were limited.
-fn put_count(rt: &impl Print, answer: CountAnswer) {
+fn put_count(rt: &impl Print, answer: Result<u16, Refusal>) {
     match answer {
-        CountAnswer::Limited(limited) => {
-            cases::put_answer(rt, Answer::Done);
+        Ok(limited) => {
+            cases::put_answer(rt, Ok(()));
             cases::put(rt, limited as u64);
         }
-        CountAnswer::Refused(why) => {
+        Err(why) => {
             cases::put_refusal(rt, why);
             cases::put(rt, 0);
         }
@@ -141,13 +140,13 @@ fn show(rt: &impl Print, case: Case, list: &[u8], levels: &[i32], out: &mut [i32
     call(rt, case, list, levels, out);
     put_sums(rt, out);
     if out.len() < 100 {
-        cases::put_wide(rt, out);
+        cases::put_all(rt, out);
     }
 }
 
 fn make(stdin: &mut impl Read, how: u8, count: usize, levels: &mut [i32]) {
     if how == 0 {
-        cases::read_first_wide(stdin, count, levels);
+        cases::read_first(stdin, count, levels);
     } else {
         fill(levels, how == 2);
     }
@@ -163,9 +162,9 @@ fn replay(rt: &impl Print, stdin: &mut impl Read) -> bool {
     let mut levels = [0i32; 1024];
     let mut out = [999i32; 1028];
     let entries = cases::next_length(stdin, 64);
-    cases::read_first_bytes(stdin, entries, &mut list);
+    cases::read_first(stdin, entries, &mut list);
     let count = cases::next_length(stdin, 1024);
-    let how = cases::next_byte(stdin);
+    let how = cases::next::<u8>(stdin);
     make(stdin, how, count, &mut levels);
     let len = cases::next_length(stdin, 1028);
     show(

@@ -2,14 +2,7 @@
 ghost use Rattle.std.specs.Prelude.{◌≡◌, ℕ, ◌+◌, ◌*◌, ◌<◌, ◌≤◌, T, pos, length, get_or};
 ghost use Rattle.h265.specs.Range.{is_size};
 ghost use Rattle.coefficients.specs.Rows.{RowsUsed};
-ghost use Rattle.block_rules.specs.Columns.{column_count};
-
-// 1 for a number other than zero.
-fn one_where(x: i32) -> u32
-    ensures { (result ≤ 1) × (result ≡ 0 → x ≡ pos 0) }
-{
-    if x != 0 { 1 } else { 0 }
-}
+ghost use Rattle.block_rules.specs.Columns.{column_used, column_count};
 
 // How many of w coefficients from a place on are not zero. No way out of the loop, so that the compiler takes several at a time.
 fn nonzeros(coeff: &[i32], at: usize, w: usize) -> u32
@@ -17,10 +10,8 @@ fn nonzeros(coeff: &[i32], at: usize, w: usize) -> u32
     ensures { result ≡ 0 → (j : ℕ) → j < w → get_or coeff.now (at + j) (pos 0) ≡ pos 0 }
 {
     let mut found: u32 = 0;
-    let mut j: usize = 0;
-    while j < w {
-        found += one_where(coeff[at + j]);
-        j += 1;
+    for j in 0..w {
+        found += (coeff[at + j] != 0) as u32;
     }
     found
 }
@@ -30,14 +21,25 @@ fn rows_used(coeff: &[i32], n: usize) -> usize
     requires { T (is_size n) × (n * n ≤ length coeff.now) }
     ensures { RowsUsed coeff.now n n result }
 {
-    let mut k = n;
-    while 0 < k {
-        if nonzeros(coeff, (k - 1) * n, n) != 0 {
-            return k;
+    for k in (0..n).rev() {
+        if nonzeros(coeff, k * n, n) != 0 {
+            return k + 1;
         }
-        k -= 1;
     }
-    k
+    0
+}
+
+// Whether a column has a coefficient other than zero, by the rows that are in use.
+fn is_used(coeff: &[i32], n: usize, rows: usize, c: usize) -> bool
+    requires { T (is_size n) × (n * n ≤ length coeff.now) × (c < n) × RowsUsed coeff.now n n rows }
+    ensures { result ≡ column_used n coeff.now c }
+{
+    for k in 0..rows {
+        if coeff[k * n + c] != 0 {
+            return true;
+        }
+    }
+    false
 }
 
 // One past the last column that has a coefficient other than zero, or 0: from the last column leftwards, to the first such one. Rows that are
@@ -47,19 +49,10 @@ pub fn column_count(coeff: &[i32], n: usize) -> usize
     ensures { result ≡ column_count n coeff.now }
 {
     let rows = rows_used(coeff, n);
-    let mut c = n;
-    'scan: loop {
-        if c == 0 {
-            break 'scan 0;
+    for c in (0..n).rev() {
+        if is_used(coeff, n, rows, c) {
+            return c + 1;
         }
-        let mut k = 0;
-        while k < rows {
-            let at = k * n + (c - 1);
-            if coeff[at] != 0 {
-                break 'scan c;
-            }
-            k += 1;
-        }
-        c -= 1;
     }
+    0
 }

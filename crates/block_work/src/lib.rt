@@ -6,8 +6,8 @@ ghost use Rattle.std.specs.Prelude.{◌≡◌, ◌+◌, ◌*◌, ◌<◌, length
 ghost use Rattle.block_rules.specs.Edit.{opened_buffers, opened, edited_buffers, buffers, Opens};
 ghost use Rattle.block_rules.specs.Work.{EditNeeds, Staged};
 
-use block_rules::{EditedBlock, Opened, Source};
-use refusal::Answer;
+use block_rules::{EditedBlock, Source};
+use refusal::Refusal;
 use transform_1d::Kind;
 
 pub mod columns;
@@ -43,37 +43,24 @@ pub fn open_from(
     coeff: &[i32],
     inter: &mut [i32],
     residual: &mut [i32],
-) -> Opened
-    ensures { Opens (opened kind n bit_depth extended_precision source (buffers coeff.now inter.old residual.old)) result.answer result.block inter.new residual.new }
+) -> Result<EditedBlock, Refusal>
+    ensures { Opens (opened kind n bit_depth extended_precision source (buffers coeff.now inter.old residual.old)) result inter.new residual.new }
 {
-    let checked = block_refusal(kind, n, bit_depth, coeff.len(), inter.len(), residual.len());
-    if let Answer::Refused(why) = checked {
-        return Opened {
-            answer: Answer::Refused(why),
-            block: block_rules::zero_block(),
-        };
-    }
+    block_refusal(kind, n, bit_depth, coeff.len(), inter.len(), residual.len())?;
     let range = coefficients::transform_range(bit_depth, extended_precision);
     let first = coefficients::first_outside(coeff, n, n, range);
     if first < n * n {
-        let why = coefficients::refusal_at(coeff, n, first, range);
-        return Opened {
-            answer: Answer::Refused(why),
-            block: block_rules::zero_block(),
-        };
+        return Err(coefficients::refusal_at(coeff, n, first, range));
     }
     open_stages(kind, n, bit_depth, range, coeff, inter, residual);
-    Opened {
-        answer: Answer::Done,
-        block: EditedBlock {
-            kind,
-            size: n,
-            depth: bit_depth,
-            extended: extended_precision,
-            columns: column_count(coeff, n),
-            source,
-        },
-    }
+    Ok(EditedBlock {
+        kind,
+        size: n,
+        depth: bit_depth,
+        extended: extended_precision,
+        columns: column_count(coeff, n),
+        source,
+    })
 }
 
 // An accepted edit: the value set, the intermediate's column computed anew, and the residual.

@@ -3,7 +3,7 @@ ghost use Rattle.std.specs.Prelude.{◌≡◌};
 ghost use Rattle.refusal.specs.Outcome.{accepted, refused, answer};
 ghost use Rattle.block_rules.specs.Edit.{block_ladder};
 
-use refusal::{Answer, Refusal};
+use refusal::Refusal;
 use transform_1d::Kind;
 
 // The lowest row that applies, by the lengths of the buffers.
@@ -14,27 +14,27 @@ pub fn block_refusal(
     coeff: usize,
     inter: usize,
     residual: usize,
-) -> Answer
+) -> Result<(), Refusal>
     ensures { answer result ≡ block_ladder (refused tt) (accepted tt) kind n bit_depth coeff inter residual }
 {
     if refusal::size_refused(n) {
-        return Answer::Refused(Refusal::SizeInvalid);
+        return Err(Refusal::SizeInvalid);
     }
     if refusal::depth_refused(bit_depth) {
-        return Answer::Refused(Refusal::DepthInvalid);
+        return Err(Refusal::DepthInvalid);
     }
     if transform_1d::dst_refused(kind, n) {
-        return Answer::Refused(Refusal::DstSizeInvalid);
+        return Err(Refusal::DstSizeInvalid);
     }
     let cells = n * n;
     if coeff < cells {
-        return Answer::Refused(Refusal::InputTooShort);
+        return Err(Refusal::InputTooShort);
     }
     if inter < cells {
-        return Answer::Refused(Refusal::OutputTooShort);
+        return Err(Refusal::OutputTooShort);
     }
     if residual < cells {
-        return Answer::Refused(Refusal::OutputTooShort);
+        return Err(Refusal::OutputTooShort);
     }
-    Answer::Done
+    Ok(())
 }

@@ -1,4 +1,0 @@
--- Laws of the records that C gets.
-pub mod AnswersLaws
-pub mod EditsLaws
-pub mod SearchesLaws

@@ -8,12 +8,12 @@ use Rattle.refusal.specs.Outcome.{Outcome}
 use Rattle.transform_1d.specs.declared.Kind.{Kind}
 use Rattle.transform_1d.specs.declared.Kind.TheVariants.{Dct, Dst}
 use Rattle.block_rules.specs.declared.EditedBlock.{EditedBlock}
-use Rattle.block_rules.specs.Edit.{Buffers, Left}
+use Rattle.block_rules.specs.Edit.{Buffers, Left, valued}
 use Rattle.block_rules.specs.Opening.{Opening}
 use Rattle.block_rules.specs.declared.Limits.{Limits}
 use Rattle.block_rules.specs.Level.{LevelLeft, OpenLeft}
 use Rattle.edited_history.specs.History.{Edit}
-use Rattle.edited_history.specs.Run.{valued, held_opened}
+use Rattle.edited_history.specs.Run.{held_opened}
 use Rattle.edited_steps.specs.Steps.{Slices, put}
 use Rattle.edited_list.specs.Listed.{listed}
 use Rattle.c_api.specs.declared.Block.{Block}

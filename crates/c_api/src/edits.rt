@@ -1,23 +1,21 @@
 // Edited blocks: the record goes in as one struct and comes back in the answer, zeros where an opening was refused.
 ghost use Rattle.std.specs.Prelude.{◌≡◌, length};
-ghost use Rattle.refusal.specs.Outcome.{answer as answer_outcome};
+ghost use Rattle.refusal.specs.Outcome.{answer as answer_outcome, outcome};
 ghost use Rattle.transform_1d.specs.Kinds.{is_dst};
-ghost use Rattle.block_rules.specs.Edit.{buffers, edited, refreshed};
+ghost use Rattle.block_rules.specs.Edit.{zero_block, valued, buffers, edited, refreshed};
 ghost use Rattle.block_rules.specs.Opening.{on_coefficients, opened_as};
-ghost use Rattle.scaling_blocks.specs.Blocks.{count_outcome};
-ghost use Rattle.block_rules.specs.Level.{limits_outcome, on_levels, on_scaled_levels, level_opened, level_edited};
-ghost use Rattle.edited_history.specs.Run.{valued};
+ghost use Rattle.block_rules.specs.Level.{on_levels, on_scaled_levels, levels_opened, level_opened, level_edited, no_limits};
 ghost use Rattle.edited_steps.specs.Steps.{slices, edit_count, edits_of};
+ghost use Rattle.edited_list.specs.Listed.{listed_as};
 ghost use Rattle.c_api.specs.Blocks.{Writes};
 ghost use Rattle.c_api.specs.Edits.{kind_of, of_block, BlockIs, LevelEditIs, block_of_list, Opens, Edits, LevelOpens, LevelEdits, Lists};
 
-use crate::{Answered, Block, BlockAnswered, LevelEditAnswered, ListAnswered, answers};
+use crate::{Answered, Block, BlockAnswered, LevelEditAnswered, ListAnswered};
+use block_rules::{LevelsOpened, Limits};
 use edited_block::{EditedBlock, Source};
 use edited_list::Listed;
-use level_block::LimitsAnswer;
 use parameters::QpPrime;
-use refusal::Answer;
-use scaling_blocks::CountAnswer;
+use refusal::Refusal;
 use transform_1d::Kind;
 
 pub(crate) fn kind_of(dst: bool) -> Kind
@@ -36,92 +34,107 @@ fn is_dst(kind: Kind) -> bool
 }
 
 // The record that C gave.
-fn block_of(given: Block) -> EditedBlock
-    ensures { result ≡ of_block given }
-{
-    let entries = given.entries;
-    EditedBlock {
-        kind: kind_of(given.dst),
-        size: given.size,
-        depth: given.depth,
-        extended: given.extended,
-        columns: given.columns,
-        source: Source {
-            levels: given.levels,
-            qp_prime: QpPrime(given.qp_prime),
-            listed: given.listed,
-            dc: given.dc,
-            entries,
-        },
+impl From<Block> for EditedBlock {
+    ghost from_gives = { λ given block. block ≡ of_block given };
+
+    fn from(given: Block) -> EditedBlock {
+        let entries = given.entries;
+        EditedBlock {
+            kind: kind_of(given.dst),
+            size: given.size,
+            depth: given.depth,
+            extended: given.extended,
+            columns: given.columns,
+            source: Source {
+                levels: given.levels,
+                qp_prime: QpPrime(given.qp_prime),
+                listed: given.listed,
+                dc: given.dc,
+                entries,
+            },
+        }
     }
 }
 
 // The record that C gets.
-fn block_told(block: EditedBlock) -> Block
-    ensures { of_block result ≡ block }
-{
-    let kind = block.kind;
-    let source = block.source;
-    let qp_prime = source.qp_prime;
-    let entries = source.entries;
-    Block {
-        dst: is_dst(kind),
-        size: block.size,
-        depth: block.depth,
-        extended: block.extended,
-        columns: block.columns,
-        levels: source.levels,
-        qp_prime: qp_prime.0,
-        listed: source.listed,
-        dc: source.dc,
-        entries,
+impl From<EditedBlock> for Block {
+    ghost from_gives = { λ block told. of_block told ≡ block };
+
+    fn from(block: EditedBlock) -> Block {
+        let source = block.source;
+        let entries = source.entries;
+        Block {
+            dst: is_dst(block.kind),
+            size: block.size,
+            depth: block.depth,
+            extended: block.extended,
+            columns: block.columns,
+            levels: source.levels,
+            qp_prime: source.qp_prime.0,
+            listed: source.listed,
+            dc: source.dc,
+            entries,
+        }
     }
 }
 
-fn block_answered(given: CountAnswer, block: EditedBlock) -> BlockAnswered
-    ensures { BlockIs result (count_outcome given) block }
-{
-    let told = answers::count_answered(given);
-    BlockAnswered {
-        number: told.number,
-        row: told.row,
-        column: told.column,
-        limited: told.limited,
-        place: told.place,
-        block: block_told(block),
+// What C gets of an opening on coefficients: zeros where it was refused.
+impl From<Result<EditedBlock, Refusal>> for BlockAnswered {
+    ghost from_gives = { λ opened told. let o = outcome zero_block opened in BlockIs told (valued 0 o) o.value };
+
+    fn from(opened: Result<EditedBlock, Refusal>) -> BlockAnswered {
+        match opened {
+            Ok(block) => block_unlimited(Ok(()), block),
+            Err(why) => block_unlimited(Err(why), edited_block::zero_block()),
+        }
     }
 }
 
-// The same of a call that limits nothing.
-fn block_unlimited(given: Answer, block: EditedBlock) -> BlockAnswered
+// The same of an opening on levels.
+impl From<Result<LevelsOpened, Refusal>> for BlockAnswered {
+    ghost from_gives = { λ opened told. let o = outcome (levels_opened 0 zero_block) opened in BlockIs told (valued o.value.limited o) o.value.block };
+
+    fn from(opened: Result<LevelsOpened, Refusal>) -> BlockAnswered {
+        match opened {
+            Ok(o) => BlockAnswered {
+                limited: o.limited,
+                ..block_unlimited(Ok(()), o.block)
+            },
+            Err(why) => block_unlimited(Err(why), edited_block::zero_block()),
+        }
+    }
+}
+
+// The answer and the record of a call that limits nothing.
+fn block_unlimited(given: Result<(), Refusal>, block: EditedBlock) -> BlockAnswered
     ensures { BlockIs result (valued 0 (answer_outcome given)) block }
 {
-    let told = answers::answered(given);
+    let told = Answered::from(given);
     BlockAnswered {
         number: told.number,
         row: told.row,
         column: told.column,
         limited: 0,
         place: told.place,
-        block: block_told(block),
+        block: block.into(),
     }
 }
 
-fn level_edit_answered(given: LimitsAnswer, block: EditedBlock) -> LevelEditAnswered
-    ensures { LevelEditIs result (limits_outcome given) block }
+fn level_edit_answered(given: Result<Limits, Refusal>, block: EditedBlock) -> LevelEditAnswered
+    ensures { LevelEditIs result (outcome no_limits given) block }
 {
     match given {
-        LimitsAnswer::Done(limits) => LevelEditAnswered {
+        Ok(limits) => LevelEditAnswered {
             number: 0,
             row: 0,
             column: 0,
             level_limited: limits.level,
             result_limited: limits.result,
             place: 0,
-            block: block_told(block),
+            block: block.into(),
         },
-        LimitsAnswer::Refused(why) => {
-            let no = answers::refused(why);
+        Err(why) => {
+            let no = Answered::from(why);
             LevelEditAnswered {
                 number: no.number,
                 row: no.row,
@@ -129,7 +142,7 @@ fn level_edit_answered(given: LimitsAnswer, block: EditedBlock) -> LevelEditAnsw
                 level_limited: false,
                 result_limited: false,
                 place: no.place,
-                block: block_told(block),
+                block: block.into(),
             }
         }
     }
@@ -147,7 +160,7 @@ pub fn residual_open_block(
 ) -> BlockAnswered
     ensures { Opens (opened_as (on_coefficients (kind_of dst) n bit_depth extended_precision) (buffers coeff.now inter.old residual.old)) result inter.new residual.new }
 {
-    let o = edited_block::open_block(
+    BlockAnswered::from(edited_block::open_block(
         kind_of(dst),
         n,
         bit_depth,
@@ -155,10 +168,7 @@ pub fn residual_open_block(
         coeff,
         inter,
         residual,
-    );
-    let given = o.answer;
-    let block = o.block;
-    block_unlimited(given, block)
+    ))
 }
 
 // Opens a block on levels without a list: writes its coefficients, its intermediate and its residual.
@@ -175,7 +185,7 @@ pub fn residual_open_levels(
 ) -> BlockAnswered
     ensures { LevelOpens (level_opened (on_levels (kind_of dst) n bit_depth extended_precision qp_prime) levels.now (buffers coeff.old inter.old residual.old)) result coeff.new inter.new residual.new }
 {
-    let o = level_block::open_levels(
+    BlockAnswered::from(level_block::open_levels(
         kind_of(dst),
         n,
         bit_depth,
@@ -185,10 +195,7 @@ pub fn residual_open_levels(
         coeff,
         inter,
         residual,
-    );
-    let given = o.answer;
-    let block = o.block;
-    block_answered(given, block)
+    ))
 }
 
 // The same with a list, which the record keeps.
@@ -207,7 +214,7 @@ pub fn residual_open_levels_scaled(
 ) -> BlockAnswered
     ensures { LevelOpens (level_opened (on_scaled_levels (kind_of dst) n bit_depth extended_precision qp_prime list.now dc) levels.now (buffers coeff.old inter.old residual.old)) result coeff.new inter.new residual.new }
 {
-    let o = level_block::open_levels_scaled(
+    BlockAnswered::from(level_block::open_levels_scaled(
         kind_of(dst),
         n,
         bit_depth,
@@ -219,10 +226,7 @@ pub fn residual_open_levels_scaled(
         coeff,
         inter,
         residual,
-    );
-    let given = o.answer;
-    let block = o.block;
-    block_answered(given, block)
+    ))
 }
 
 // One edit of a coefficient; a refused one hands back the record that it was given.
@@ -237,11 +241,9 @@ pub fn residual_edit(
 ) -> BlockAnswered
     ensures { Edits (edited (of_block block) (buffers coeff.old inter.old residual.old) row column value) result coeff.new inter.new residual.new }
 {
-    let held = block_of(block);
-    let e = edited_record::edit_by_value(held, coeff, inter, residual, row, column, value);
-    let given = e.answer;
-    let after = e.block;
-    block_unlimited(given, after)
+    let mut held = EditedBlock::from(block);
+    let given = edited_block::edit(&mut held, coeff, inter, residual, row, column, value);
+    block_unlimited(given, held)
 }
 
 // One edit of a level of a block that was opened on levels.
@@ -257,30 +259,38 @@ pub fn residual_edit_level(
 ) -> LevelEditAnswered
     ensures { LevelEdits (level_edited (of_block block) levels.old (buffers coeff.old inter.old residual.old) row column level) result levels.new coeff.new inter.new residual.new }
 {
-    let held = block_of(block);
-    let e = level_record::edit_level_by_value(
-        held, levels, coeff, inter, residual, row, column, level,
+    let mut held = EditedBlock::from(block);
+    let given = level_block::edit_level(
+        &mut held, levels, coeff, inter, residual, row, column, level,
     );
-    let given = e.answer;
-    let after = e.block;
-    level_edit_answered(given, after)
+    level_edit_answered(given, held)
 }
 
-fn list_answered(l: Listed) -> ListAnswered
-    ensures { (BlockIs (block_of_list result) (count_outcome l.answer) l.block) × (result.edits ≡ l.edits) }
-{
-    let given = l.answer;
-    let block = l.block;
-    let b = block_answered(given, block);
-    let told = b.block;
-    ListAnswered {
-        number: b.number,
-        row: b.row,
-        column: b.column,
-        limited: b.limited,
-        place: b.place,
-        block: told,
-        edits: l.edits,
+// What C gets of a list: zeros where the opening was refused.
+impl From<Result<Listed, Refusal>> for ListAnswered {
+    ghost from_gives = { λ listed told. let l = outcome (listed_as 0 zero_block 0) listed in (BlockIs (block_of_list told) (valued l.value.limited l) l.value.block) × (told.edits ≡ l.value.edits) };
+
+    fn from(listed: Result<Listed, Refusal>) -> ListAnswered {
+        let (opened, edits) = match listed {
+            Ok(l) => (
+                Ok(LevelsOpened {
+                    limited: l.limited,
+                    block: l.block,
+                }),
+                l.edits,
+            ),
+            Err(why) => (Err(why), 0),
+        };
+        let told = BlockAnswered::from(opened);
+        ListAnswered {
+            number: told.number,
+            row: told.row,
+            column: told.column,
+            limited: told.limited,
+            place: told.place,
+            block: told.block,
+            edits,
+        }
     }
 }
 
@@ -307,7 +317,7 @@ pub fn residual_open_and_edit(
 ) -> ListAnswered
     ensures { Lists (on_coefficients (kind_of dst) n bit_depth extended_precision) levels.old (buffers coeff.old inter.old residual.old) (edits_of (edit_count (length rows.now) (length columns.now) (length values.now) (length ways.now) (slices numbers.old named.old across.old limits.old)) rows.now columns.now values.now ways.now) (slices numbers.old named.old across.old limits.old) result levels.new (buffers coeff.new inter.new residual.new) (slices numbers.new named.new across.new limits.new) }
 {
-    let l = edited_list::open_and_edit(
+    ListAnswered::from(edited_list::open_and_edit(
         kind_of(dst),
         n,
         bit_depth,
@@ -324,8 +334,7 @@ pub fn residual_open_and_edit(
         named,
         across,
         limits,
-    );
-    list_answered(l)
+    ))
 }
 
 // The same of a block that is opened on levels without a list.
@@ -350,7 +359,7 @@ pub fn residual_open_levels_and_edit(
 ) -> ListAnswered
     ensures { Lists (on_levels (kind_of dst) n bit_depth extended_precision qp_prime) levels.old (buffers coeff.old inter.old residual.old) (edits_of (edit_count (length rows.now) (length columns.now) (length values.now) (length ways.now) (slices numbers.old named.old across.old limits.old)) rows.now columns.now values.now ways.now) (slices numbers.old named.old across.old limits.old) result levels.new (buffers coeff.new inter.new residual.new) (slices numbers.new named.new across.new limits.new) }
 {
-    let l = edited_list::open_levels_and_edit(
+    ListAnswered::from(edited_list::open_levels_and_edit(
         kind_of(dst),
         n,
         bit_depth,
@@ -368,8 +377,7 @@ pub fn residual_open_levels_and_edit(
         named,
         across,
         limits,
-    );
-    list_answered(l)
+    ))
 }
 
 // The same of a block that is opened on levels with a list.
@@ -396,7 +404,7 @@ pub fn residual_open_levels_scaled_and_edit(
 ) -> ListAnswered
     ensures { Lists (on_scaled_levels (kind_of dst) n bit_depth extended_precision qp_prime list.now dc) levels.old (buffers coeff.old inter.old residual.old) (edits_of (edit_count (length rows.now) (length columns.now) (length values.now) (length ways.now) (slices numbers.old named.old across.old limits.old)) rows.now columns.now values.now ways.now) (slices numbers.old named.old across.old limits.old) result levels.new (buffers coeff.new inter.new residual.new) (slices numbers.new named.new across.new limits.new) }
 {
-    let l = edited_list::open_levels_scaled_and_edit(
+    ListAnswered::from(edited_list::open_levels_scaled_and_edit(
         kind_of(dst),
         n,
         bit_depth,
@@ -416,8 +424,7 @@ pub fn residual_open_levels_scaled_and_edit(
         named,
         across,
         limits,
-    );
-    list_answered(l)
+    ))
 }
 
 // The residual of an intermediate: stage two alone.
@@ -431,13 +438,13 @@ pub fn residual_refresh_residual(
 ) -> Answered
     ensures { Writes result residual.new (refreshed (kind_of dst) n bit_depth extended_precision inter.now residual.old) }
 {
-    let answer = edited_block::refresh_residual(
+    edited_block::refresh_residual(
         kind_of(dst),
         n,
         bit_depth,
         extended_precision,
         inter,
         residual,
-    );
-    answers::answered(answer)
+    )
+    .into()
 }

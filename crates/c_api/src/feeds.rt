@@ -5,14 +5,13 @@ ghost use Rattle.scale_trace_rules.specs.Trace.{listing_room};
 ghost use Rattle.c_api.specs.Feeds.{Tells, RunsTo, ListsTo};
 
 use crate::FeedRan;
-use feed::Ran;
 
-fn ran_answered(ran: Ran) -> FeedRan
+fn ran_answered(ran: Option<usize>) -> FeedRan
     ensures { Tells result ran }
 {
     match ran {
-        Ran::Text(end) => FeedRan { room: true, end },
-        Ran::NoRoom => FeedRan {
+        Some(end) => FeedRan { room: true, end },
+        None => FeedRan {
             room: false,
             end: 0,
         },

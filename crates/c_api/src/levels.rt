@@ -7,14 +7,16 @@ ghost use Rattle.scaling.specs.Level.{scaled_level};
 ghost use Rattle.c_api.specs.Answers.{of_number, of_level};
 ghost use Rattle.c_api.specs.Blocks.{CountWrites};
 
-use crate::{CountAnswered, LevelAnswered, NumberAnswered, answers};
+use crate::{CountAnswered, LevelAnswered, NumberAnswered};
 use parameters::QpPrime;
 
 // m at an index of a block.
 pub fn residual_scaling_coeff(list: &[u8], dc: u8, n: usize, index: usize) -> NumberAnswered
     ensures { of_number result ≡ scaling_coeff list.now dc n index }
 {
-    answers::factor_answered(scaling::scaling_coeff(list, dc, n, index))
+    scaling::scaling_coeff(list, dc, n, index)
+        .map(u32::from)
+        .into()
 }
 
 // One level of a block, scaled: its coefficient, whether the level was limited, and whether the result was.
@@ -29,8 +31,7 @@ pub fn residual_scale_level(
     ensures { of_level result ≡ scaled_level level m n qp_prime bit_depth extended_precision }
 {
     let qp = QpPrime(qp_prime);
-    let answer = scaling::scale_level(level, m, n, qp, bit_depth, extended_precision);
-    answers::level_answered(answer)
+    scaling::scale_level(level, m, n, qp, bit_depth, extended_precision).into()
 }
 
 // The coefficients of a block without a list, 32-bit, and how many were limited.
@@ -44,15 +45,15 @@ pub fn residual_dequantize_into_scalar_i32(
 ) -> CountAnswered
     ensures { CountWrites result out.new (dequantized bits32 flat n qp_prime bit_depth extended_precision levels.now out.old) }
 {
-    let answer = scaling_wide::dequantize_into_scalar_i32(
+    scaling_wide::dequantize_into_scalar_i32(
         levels,
         n,
         QpPrime(qp_prime),
         bit_depth,
         extended_precision,
         out,
-    );
-    answers::count_answered(answer)
+    )
+    .into()
 }
 
 // The coefficients of a block with a list, 32-bit, and how many were limited.
@@ -68,7 +69,7 @@ pub fn residual_dequantize_scaled_into_scalar_i32(
 ) -> CountAnswered
     ensures { CountWrites result out.new (dequantized bits32 (listed list.now dc) n qp_prime bit_depth extended_precision levels.now out.old) }
 {
-    let answer = scaling_wide::dequantize_scaled_into_scalar_i32(
+    scaling_wide::dequantize_scaled_into_scalar_i32(
         levels,
         n,
         QpPrime(qp_prime),
@@ -77,8 +78,8 @@ pub fn residual_dequantize_scaled_into_scalar_i32(
         list,
         dc,
         out,
-    );
-    answers::count_answered(answer)
+    )
+    .into()
 }
 
 // The residuals of a block without a list, 32-bit, and how many coefficients were limited.
@@ -92,15 +93,15 @@ pub fn residual_dequantize_transform_skip_into_scalar_i32(
 ) -> CountAnswered
     ensures { CountWrites result out.new (transform_skipped bits32 flat n qp_prime bit_depth extended_precision levels.now out.old) }
 {
-    let answer = scaling_wide::dequantize_transform_skip_into_scalar_i32(
+    scaling_wide::dequantize_transform_skip_into_scalar_i32(
         levels,
         n,
         QpPrime(qp_prime),
         bit_depth,
         extended_precision,
         out,
-    );
-    answers::count_answered(answer)
+    )
+    .into()
 }
 
 // The residuals of a block with a list, 32-bit, and how many coefficients were limited.
@@ -116,7 +117,7 @@ pub fn residual_dequantize_transform_skip_scaled_into_scalar_i32(
 ) -> CountAnswered
     ensures { CountWrites result out.new (transform_skipped bits32 (listed list.now dc) n qp_prime bit_depth extended_precision levels.now out.old) }
 {
-    let answer = scaling_wide::dequantize_transform_skip_scaled_into_scalar_i32(
+    scaling_wide::dequantize_transform_skip_scaled_into_scalar_i32(
         levels,
         n,
         QpPrime(qp_prime),
@@ -125,8 +126,8 @@ pub fn residual_dequantize_transform_skip_scaled_into_scalar_i32(
         list,
         dc,
         out,
-    );
-    answers::count_answered(answer)
+    )
+    .into()
 }
 
 // The coefficients of a block without a list, 16-bit, and how many were limited.
@@ -140,15 +141,15 @@ pub fn residual_dequantize_into_scalar_i16(
 ) -> CountAnswered
     ensures { CountWrites result out.new (dequantized bits16 flat n qp_prime bit_depth extended_precision levels.now out.old) }
 {
-    let answer = scaling_narrow::dequantize_into_scalar_i16(
+    scaling_narrow::dequantize_into_scalar_i16(
         levels,
         n,
         QpPrime(qp_prime),
         bit_depth,
         extended_precision,
         out,
-    );
-    answers::count_answered(answer)
+    )
+    .into()
 }
 
 // The coefficients of a block with a list, 16-bit, and how many were limited.
@@ -164,7 +165,7 @@ pub fn residual_dequantize_scaled_into_scalar_i16(
 ) -> CountAnswered
     ensures { CountWrites result out.new (dequantized bits16 (listed list.now dc) n qp_prime bit_depth extended_precision levels.now out.old) }
 {
-    let answer = scaling_narrow::dequantize_scaled_into_scalar_i16(
+    scaling_narrow::dequantize_scaled_into_scalar_i16(
         levels,
         n,
         QpPrime(qp_prime),
@@ -173,8 +174,8 @@ pub fn residual_dequantize_scaled_into_scalar_i16(
         list,
         dc,
         out,
-    );
-    answers::count_answered(answer)
+    )
+    .into()
 }
 
 // The residuals of a block without a list, 16-bit, and how many coefficients were limited.
@@ -188,15 +189,15 @@ pub fn residual_dequantize_transform_skip_into_scalar_i16(
 ) -> CountAnswered
     ensures { CountWrites result out.new (transform_skipped bits16 flat n qp_prime bit_depth extended_precision levels.now out.old) }
 {
-    let answer = scaling_narrow::dequantize_transform_skip_into_scalar_i16(
+    scaling_narrow::dequantize_transform_skip_into_scalar_i16(
         levels,
         n,
         QpPrime(qp_prime),
         bit_depth,
         extended_precision,
         out,
-    );
-    answers::count_answered(answer)
+    )
+    .into()
 }
 
 // The residuals of a block with a list, 16-bit, and how many coefficients were limited.
@@ -212,7 +213,7 @@ pub fn residual_dequantize_transform_skip_scaled_into_scalar_i16(
 ) -> CountAnswered
     ensures { CountWrites result out.new (transform_skipped bits16 (listed list.now dc) n qp_prime bit_depth extended_precision levels.now out.old) }
 {
-    let answer = scaling_narrow::dequantize_transform_skip_scaled_into_scalar_i16(
+    scaling_narrow::dequantize_transform_skip_scaled_into_scalar_i16(
         levels,
         n,
         QpPrime(qp_prime),
@@ -221,6 +222,6 @@ pub fn residual_dequantize_transform_skip_scaled_into_scalar_i16(
         list,
         dc,
         out,
-    );
-    answers::count_answered(answer)
+    )
+    .into()
 }

@@ -61,7 +61,7 @@ pub use version::residual_version;
 // What a call answers: 0, or a refusal's number with its place: a row and a column for a coefficient, else one number. The other records
 // add the values, zeros on refusal.
 #[repr(C)]
-#[derive(Clone, Copy)]
+#[derive(Clone, Copy, Default)]
 pub struct Answered {
     pub number: u32,
     pub row: u8,
@@ -71,7 +71,7 @@ pub struct Answered {
 
 // How many coefficients of a block were limited.
 #[repr(C)]
-#[derive(Clone, Copy)]
+#[derive(Clone, Copy, Default)]
 pub struct CountAnswered {
     pub number: u32,
     pub row: u8,
@@ -82,7 +82,7 @@ pub struct CountAnswered {
 
 // The coefficient of a level, whether the level was limited, and whether after that the result was.
 #[repr(C)]
-#[derive(Clone, Copy)]
+#[derive(Clone, Copy, Default)]
 pub struct LevelAnswered {
     pub number: u32,
     pub row: u8,
@@ -94,7 +94,7 @@ pub struct LevelAnswered {
 }
 
 #[repr(C)]
-#[derive(Clone, Copy)]
+#[derive(Clone, Copy, Default)]
 pub struct NumberAnswered {
     pub number: u32,
     pub row: u8,
@@ -104,7 +104,7 @@ pub struct NumberAnswered {
 }
 
 #[repr(C)]
-#[derive(Clone, Copy)]
+#[derive(Clone, Copy, Default)]
 pub struct SignedAnswered {
     pub number: u32,
     pub row: u8,
@@ -115,7 +115,7 @@ pub struct SignedAnswered {
 
 // The number under which a list was stored.
 #[repr(C)]
-#[derive(Clone, Copy)]
+#[derive(Clone, Copy, Default)]
 pub struct StoreAnswered {
     pub number: u32,
     pub row: u8,
@@ -126,7 +126,7 @@ pub struct StoreAnswered {
 
 // How many bits were read.
 #[repr(C)]
-#[derive(Clone, Copy)]
+#[derive(Clone, Copy, Default)]
 pub struct BitsAnswered {
     pub number: u32,
     pub row: u8,
@@ -136,7 +136,7 @@ pub struct BitsAnswered {
 }
 
 #[repr(C)]
-#[derive(Clone, Copy)]
+#[derive(Clone, Copy, Default)]
 pub struct DequantAnswered {
     pub number: u32,
     pub row: u8,
@@ -150,7 +150,7 @@ pub struct DequantAnswered {
 }
 
 #[repr(C)]
-#[derive(Clone, Copy)]
+#[derive(Clone, Copy, Default)]
 pub struct TransformSkipAnswered {
     pub number: u32,
     pub row: u8,

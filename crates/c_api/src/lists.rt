@@ -4,7 +4,7 @@ ghost use Rattle.scaling_lists_codes.specs.Syntax.{defaults};
 ghost use Rattle.scaling_lists_writer.specs.Answers.{lists_written};
 ghost use Rattle.c_api.specs.Lists.{Reads, Writes};
 
-use crate::{BitsAnswered, answers};
+use crate::BitsAnswered;
 
 // The 20 lists of scaling list data, and their DC numbers.
 pub fn residual_read_scaling_lists(
@@ -17,15 +17,14 @@ pub fn residual_read_scaling_lists(
 ) -> BitsAnswered
     ensures { Reads result lists.new dcs.new (lists_read (defaults default_4x4.now default_intra.now default_inter.now) bytes.now lists.old dcs.old) }
 {
-    let answer = scaling_lists::read_scaling_lists(
+    scaling_lists::read_scaling_lists(
         bytes,
         default_4x4,
         default_intra,
         default_inter,
         lists,
         dcs,
-    );
-    answers::read_answered(answer)
+    ).into()
 }
 
 // 20 lists and their DC numbers as scaling list data.
@@ -39,13 +38,12 @@ pub fn residual_write_scaling_lists(
 ) -> BitsAnswered
     ensures { Writes result out.new (lists_written (defaults default_4x4.now default_intra.now default_inter.now) lists.now dcs.now out.old) }
 {
-    let answer = scaling_lists_writer::write_scaling_lists(
+    scaling_lists_writer::write_scaling_lists(
         lists,
         dcs,
         default_4x4,
         default_intra,
         default_inter,
         out,
-    );
-    answers::write_answered(answer)
+    ).into()
 }

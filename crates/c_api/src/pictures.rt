@@ -5,7 +5,7 @@ ghost use Rattle.picture.specs.Rebuild.{rebuilt};
 ghost use Rattle.c_api.specs.Answers.{of_number};
 ghost use Rattle.c_api.specs.Pictures.{Rebuilds};
 
-use crate::{Answered, NumberAnswered, answers};
+use crate::{Answered, NumberAnswered};
 
 // The samples of a block, put into a plane.
 pub fn picture_rebuild_block(
@@ -22,10 +22,10 @@ pub fn picture_rebuild_block(
 ) -> Answered
     ensures { Rebuilds result plane.new (rebuilt n bit_depth residual.now prediction.now width height stride x y plane.old) }
 {
-    let answer = picture::rebuild_block(
+    picture::rebuild_block(
         n, bit_depth, residual, prediction, width, height, stride, x, y, plane,
-    );
-    answers::answered(answer)
+    )
+    .into()
 }
 
 // The checksum of the picture in a plane.
@@ -38,5 +38,5 @@ pub fn picture_checksum(
 ) -> NumberAnswered
     ensures { of_number result ≡ checksummed bit_depth width height stride plane.now }
 {
-    answers::checksum_answered(checksum::picture_checksum(width, height, stride, bit_depth, plane))
+    checksum::picture_checksum(width, height, stride, bit_depth, plane).into()
 }

@@ -5,9 +5,7 @@ ghost use Rattle.rounding.specs.Bound.{rounding_bound_of};
 ghost use Rattle.c_api.specs.Answers.{of_number, of_qp_prime, of_dequant, of_transform_skip};
 ghost use Rattle.c_api.specs.Edits.{kind_of};
 
-use crate::{
-    DequantAnswered, NumberAnswered, SignedAnswered, TransformSkipAnswered, answers, edits,
-};
+use crate::{DequantAnswered, NumberAnswered, SignedAnswered, TransformSkipAnswered, edits};
 use parameters::{Qp, QpPrime};
 
 // R: coefficients lie in -2^R .. 2^R - 1.
@@ -17,22 +15,21 @@ pub fn residual_max_log2_transform_dynamic_range(
 ) -> NumberAnswered
     ensures { of_number result ≡ max_log2_transform_dynamic_range bit_depth extended_precision }
 {
-    let answer = parameters::max_log2_transform_dynamic_range(bit_depth, extended_precision);
-    answers::number_answered(answer)
+    parameters::max_log2_transform_dynamic_range(bit_depth, extended_precision).into()
 }
 
 // What QP' is above QP.
 pub fn residual_qp_bd_offset(bit_depth: u8) -> NumberAnswered
     ensures { of_number result ≡ qp_bd_offset_of bit_depth }
 {
-    answers::number_answered(parameters::qp_bd_offset(bit_depth))
+    parameters::qp_bd_offset(bit_depth).into()
 }
 
 // QP' of any 32-bit QP.
 pub fn residual_qp_prime(qp: i32, bit_depth: u8) -> SignedAnswered
     ensures { of_qp_prime result ≡ qp_prime_of qp bit_depth }
 {
-    answers::qp_prime_answered(parameters::qp_prime(Qp(qp), bit_depth))
+    parameters::qp_prime(Qp(qp), bit_depth).into()
 }
 
 // The numbers by which a block of a size is scaled.
@@ -45,8 +42,7 @@ pub fn residual_dequant_params(
     ensures { of_dequant result ≡ dequant_params n qp_prime bit_depth extended_precision }
 {
     let qp = QpPrime(qp_prime);
-    let answer = parameters::dequant_params(n, qp, bit_depth, extended_precision);
-    answers::dequant_answered(answer)
+    parameters::dequant_params(n, qp, bit_depth, extended_precision).into()
 }
 
 // The same, with the shift of transform skip and its rounding.
@@ -59,8 +55,7 @@ pub fn residual_transform_skip_params(
     ensures { of_transform_skip result ≡ transform_skip_params n qp_prime bit_depth extended_precision }
 {
     let qp = QpPrime(qp_prime);
-    let answer = parameters::transform_skip_params(n, qp, bit_depth, extended_precision);
-    answers::transform_skip_answered(answer)
+    parameters::transform_skip_params(n, qp, bit_depth, extended_precision).into()
 }
 
 // By how much 2^(7 + s2) times a residual may differ from the exact product, where no stage-one value was limited.
@@ -73,6 +68,5 @@ pub fn residual_rounding_bound(
     ensures { of_number result ≡ rounding_bound_of (kind_of dst) n bit_depth extended_precision }
 {
     let kind = edits::kind_of(dst);
-    let answer = rounding::rounding_bound(kind, n, bit_depth, extended_precision);
-    answers::bound_answered(answer)
+    rounding::rounding_bound(kind, n, bit_depth, extended_precision).into()
 }

@@ -7,7 +7,7 @@ ghost use Rattle.c_api.specs.Blocks.{Writes};
 ghost use Rattle.c_api.specs.Edits.{kind_of};
 ghost use Rattle.c_api.specs.Searches.{Finds};
 
-use crate::{Answered, answers, edits};
+use crate::{Answered, edits};
 use parameters::QpPrime;
 
 // The least and the most value of each coefficient.
@@ -24,7 +24,7 @@ pub fn residual_find_edits(
 ) -> Answered
     ensures { Finds result least.new most.new (edits_found (kind_of dst) n bit_depth extended_precision coeff.now target.now wanted.now least.old most.old) }
 {
-    let answer = edit_search::find_edits(
+    edit_search::find_edits(
         edits::kind_of(dst),
         n,
         bit_depth,
@@ -34,8 +34,8 @@ pub fn residual_find_edits(
         wanted,
         least,
         most,
-    );
-    answers::answered(answer)
+    )
+    .into()
 }
 
 // The least and the most of each level.
@@ -53,7 +53,7 @@ pub fn residual_find_level_edits(
 ) -> Answered
     ensures { Finds result least.new most.new (level_edits_found flat (kind_of dst) n qp_prime bit_depth extended_precision levels.now target.now wanted.now least.old most.old) }
 {
-    let answer = level_edits::find_level_edits(
+    level_edits::find_level_edits(
         edits::kind_of(dst),
         n,
         QpPrime(qp_prime),
@@ -64,8 +64,8 @@ pub fn residual_find_level_edits(
         wanted,
         least,
         most,
-    );
-    answers::answered(answer)
+    )
+    .into()
 }
 
 // The same with a list.
@@ -85,7 +85,7 @@ pub fn residual_find_level_edits_scaled(
 ) -> Answered
     ensures { Finds result least.new most.new (level_edits_found (listed list.now dc) (kind_of dst) n qp_prime bit_depth extended_precision levels.now target.now wanted.now least.old most.old) }
 {
-    let answer = level_edits::find_level_edits_scaled(
+    level_edits::find_level_edits_scaled(
         edits::kind_of(dst),
         n,
         QpPrime(qp_prime),
@@ -98,8 +98,8 @@ pub fn residual_find_level_edits_scaled(
         wanted,
         least,
         most,
-    );
-    answers::answered(answer)
+    )
+    .into()
 }
 
 // What each coefficient adds to one sample.
@@ -113,6 +113,5 @@ pub fn residual_contributions(
 ) -> Answered
     ensures { Writes result out.new (contributed (kind_of dst) n row column coeff.now out.old) }
 {
-    let answer = contributions::contributions(edits::kind_of(dst), n, row, column, coeff, out);
-    answers::answered(answer)
+    contributions::contributions(edits::kind_of(dst), n, row, column, coeff, out).into()
 }

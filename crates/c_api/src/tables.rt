@@ -7,21 +7,21 @@ ghost use Rattle.list_table.specs.Calls.{find_answer};
 ghost use Rattle.c_api.specs.Blocks.{CountWrites};
 ghost use Rattle.c_api.specs.Tables.{Stores, Drops, Finds};
 
-use crate::{Answered, CountAnswered, NumberAnswered, StoreAnswered, answers};
+use crate::{Answered, CountAnswered, NumberAnswered, StoreAnswered};
 use parameters::QpPrime;
 
 // Stores a list and its DC under the lowest free number of a stream.
 pub fn residual_store_list(table: &mut [u8], stream: usize, list: &[u8], dc: u8) -> StoreAnswered
     ensures { Stores result table.new table.old stream list.now dc }
 {
-    answers::store_answered(list_table::store_list(table, stream, list, dc))
+    list_table::store_list(table, stream, list, dc).into()
 }
 
 // Frees a number of a stream.
 pub fn residual_drop_list(table: &mut [u8], stream: usize, number: usize) -> Answered
     ensures { Drops result table.new table.old stream number }
 {
-    answers::answered(list_table::drop_list(table, stream, number))
+    list_table::drop_list(table, stream, number).into()
 }
 
 // The list and the DC of a number.
@@ -33,7 +33,9 @@ pub fn residual_list_at(
 ) -> NumberAnswered
     ensures { Finds result list_out.new (find_answer (short table.now) stream (stream_of table.now stream) number list_out.old) }
 {
-    answers::list_answered(list_table::list_at(table, stream, number, list_out))
+    list_table::list_at(table, stream, number, list_out)
+        .map(u32::from)
+        .into()
 }
 
 // The coefficients of a block with the list of a number, 32-bit.
@@ -50,7 +52,7 @@ pub fn residual_dequantize_by_number_i32(
 ) -> CountAnswered
     ensures { CountWrites result out.new (scale_answer (short table.now) stream (stream_of table.now stream) number (block coefficients bits32 n qp_prime bit_depth extended_precision levels.now) out.old) }
 {
-    let answer = list_blocks::dequantize_by_number_i32(
+    list_blocks::dequantize_by_number_i32(
         table,
         stream,
         number,
@@ -60,8 +62,8 @@ pub fn residual_dequantize_by_number_i32(
         bit_depth,
         extended_precision,
         out,
-    );
-    answers::count_answered(answer)
+    )
+    .into()
 }
 
 // The coefficients of a block with the list of a number, 16-bit.
@@ -78,7 +80,7 @@ pub fn residual_dequantize_by_number_i16(
 ) -> CountAnswered
     ensures { CountWrites result out.new (scale_answer (short table.now) stream (stream_of table.now stream) number (block coefficients bits16 n qp_prime bit_depth extended_precision levels.now) out.old) }
 {
-    let answer = list_blocks::dequantize_by_number_i16(
+    list_blocks::dequantize_by_number_i16(
         table,
         stream,
         number,
@@ -88,8 +90,8 @@ pub fn residual_dequantize_by_number_i16(
         bit_depth,
         extended_precision,
         out,
-    );
-    answers::count_answered(answer)
+    )
+    .into()
 }
 
 // The residuals of a block with the list of a number, 32-bit.
@@ -106,7 +108,7 @@ pub fn residual_dequantize_transform_skip_by_number_i32(
 ) -> CountAnswered
     ensures { CountWrites result out.new (scale_answer (short table.now) stream (stream_of table.now stream) number (block residuals bits32 n qp_prime bit_depth extended_precision levels.now) out.old) }
 {
-    let answer = list_blocks::dequantize_transform_skip_by_number_i32(
+    list_blocks::dequantize_transform_skip_by_number_i32(
         table,
         stream,
         number,
@@ -116,8 +118,8 @@ pub fn residual_dequantize_transform_skip_by_number_i32(
         bit_depth,
         extended_precision,
         out,
-    );
-    answers::count_answered(answer)
+    )
+    .into()
 }
 
 // The residuals of a block with the list of a number, 16-bit.
@@ -134,7 +136,7 @@ pub fn residual_dequantize_transform_skip_by_number_i16(
 ) -> CountAnswered
     ensures { CountWrites result out.new (scale_answer (short table.now) stream (stream_of table.now stream) number (block residuals bits16 n qp_prime bit_depth extended_precision levels.now) out.old) }
 {
-    let answer = list_blocks::dequantize_transform_skip_by_number_i16(
+    list_blocks::dequantize_transform_skip_by_number_i16(
         table,
         stream,
         number,
@@ -144,6 +146,6 @@ pub fn residual_dequantize_transform_skip_by_number_i16(
         bit_depth,
         extended_precision,
         out,
-    );
-    answers::count_answered(answer)
+    )
+    .into()
 }

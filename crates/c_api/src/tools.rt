@@ -6,7 +6,7 @@ ghost use Rattle.level_search.specs.Found.{levels_found};
 ghost use Rattle.c_api.specs.Blocks.{Writes, CountWrites};
 ghost use Rattle.c_api.specs.Tools.{accumulate_of};
 
-use crate::{Answered, CountAnswered, answers};
+use crate::{Answered, CountAnswered};
 use block_tools::Accumulate;
 use parameters::QpPrime;
 
@@ -33,7 +33,7 @@ pub fn residual_transform_skip_residual(
 ) -> CountAnswered
     ensures { CountWrites result out.new (skip_residual (accumulate_of accumulate) rotate flat n qp_prime bit_depth extended_precision levels.now out.old) }
 {
-    let answer = block_tools::transform_skip_residual(
+    block_tools::transform_skip_residual(
         levels,
         n,
         QpPrime(qp_prime),
@@ -42,8 +42,8 @@ pub fn residual_transform_skip_residual(
         rotate,
         accumulate_of(accumulate),
         out,
-    );
-    answers::count_answered(answer)
+    )
+    .into()
 }
 
 // The same with a list.
@@ -61,7 +61,7 @@ pub fn residual_transform_skip_scaled_residual(
 ) -> CountAnswered
     ensures { CountWrites result out.new (skip_residual (accumulate_of accumulate) rotate (listed list.now dc) n qp_prime bit_depth extended_precision levels.now out.old) }
 {
-    let answer = block_tools::transform_skip_scaled_residual(
+    block_tools::transform_skip_scaled_residual(
         levels,
         n,
         QpPrime(qp_prime),
@@ -72,8 +72,8 @@ pub fn residual_transform_skip_scaled_residual(
         rotate,
         accumulate_of(accumulate),
         out,
-    );
-    answers::count_answered(answer)
+    )
+    .into()
 }
 
 // Levels that are the residual, rotated and accumulated.
@@ -88,7 +88,7 @@ pub fn residual_bypass_residual(
 ) -> Answered
     ensures { Writes result out.new (bypass_residual (accumulate_of accumulate) rotate n bit_depth extended_precision levels.now out.old) }
 {
-    let answer = block_tools::bypass_residual(
+    block_tools::bypass_residual(
         levels,
         n,
         bit_depth,
@@ -96,8 +96,8 @@ pub fn residual_bypass_residual(
         rotate,
         accumulate_of(accumulate),
         out,
-    );
-    answers::answered(answer)
+    )
+    .into()
 }
 
 // The levels that give the coefficients of a block without a list.
@@ -111,15 +111,15 @@ pub fn residual_find_levels(
 ) -> Answered
     ensures { Writes result levels.new (levels_found flat n qp_prime bit_depth extended_precision coeff.now levels.old) }
 {
-    let answer = level_search::find_levels(
+    level_search::find_levels(
         coeff,
         n,
         QpPrime(qp_prime),
         bit_depth,
         extended_precision,
         levels,
-    );
-    answers::answered(answer)
+    )
+    .into()
 }
 
 // The same with a list.
@@ -135,7 +135,7 @@ pub fn residual_find_levels_scaled(
 ) -> Answered
     ensures { Writes result levels.new (levels_found (listed list.now dc) n qp_prime bit_depth extended_precision coeff.now levels.old) }
 {
-    let answer = level_search::find_levels_scaled(
+    level_search::find_levels_scaled(
         coeff,
         n,
         QpPrime(qp_prime),
@@ -144,6 +144,6 @@ pub fn residual_find_levels_scaled(
         list,
         dc,
         levels,
-    );
-    answers::answered(answer)
+    )
+    .into()
 }

@@ -4,7 +4,7 @@ ghost use Rattle.transform_1d.specs.declared.Kind.TheVariants.{Dct, Dst};
 ghost use Rattle.transform_blocks.specs.Blocks.{inverted, bits16, bits32, plain_range, extended_range};
 ghost use Rattle.c_api.specs.Blocks.{Writes};
 
-use crate::{Answered, answers};
+use crate::Answered;
 
 // The inverse DCT, 32-bit.
 pub fn residual_inv_transform_into_scalar(
@@ -16,8 +16,7 @@ pub fn residual_inv_transform_into_scalar(
 ) -> Answered
     ensures { Writes result out.new (inverted bits32 Dct n bit_depth plain_range nx coeff.now out.old) }
 {
-    let answer = transform::inv_transform_into_scalar(coeff, n, bit_depth, nx, out);
-    answers::answered(answer)
+    transform::inv_transform_into_scalar(coeff, n, bit_depth, nx, out).into()
 }
 
 // The inverse DCT, extended precision, 32-bit.
@@ -30,8 +29,7 @@ pub fn residual_inv_transform_into_scalar_extended(
 ) -> Answered
     ensures { Writes result out.new (inverted bits32 Dct n bit_depth extended_range nx coeff.now out.old) }
 {
-    let answer = transform::inv_transform_into_scalar_extended(coeff, n, bit_depth, nx, out);
-    answers::answered(answer)
+    transform::inv_transform_into_scalar_extended(coeff, n, bit_depth, nx, out).into()
 }
 
 // The inverse DCT, 16-bit.
@@ -44,8 +42,7 @@ pub fn residual_inv_transform_into_scalar16(
 ) -> Answered
     ensures { Writes result out.new (inverted bits16 Dct n bit_depth plain_range nx coeff.now out.old) }
 {
-    let answer = transform::inv_transform_into_scalar16(coeff, n, bit_depth, nx, out);
-    answers::answered(answer)
+    transform::inv_transform_into_scalar16(coeff, n, bit_depth, nx, out).into()
 }
 
 // The inverse DST of size 4, 32-bit.
@@ -56,8 +53,7 @@ pub fn residual_inv_transform_dst_into_scalar(
 ) -> Answered
     ensures { Writes result out.new (inverted bits32 Dst 4 bit_depth plain_range 4 coeff.now out.old) }
 {
-    let answer = transform::inv_transform_dst_into_scalar(coeff, bit_depth, out);
-    answers::answered(answer)
+    transform::inv_transform_dst_into_scalar(coeff, bit_depth, out).into()
 }
 
 // The inverse DST of size 4, extended precision, 32-bit.
@@ -68,8 +64,7 @@ pub fn residual_inv_transform_dst_into_scalar_extended(
 ) -> Answered
     ensures { Writes result out.new (inverted bits32 Dst 4 bit_depth extended_range 4 coeff.now out.old) }
 {
-    let answer = transform::inv_transform_dst_into_scalar_extended(coeff, bit_depth, out);
-    answers::answered(answer)
+    transform::inv_transform_dst_into_scalar_extended(coeff, bit_depth, out).into()
 }
 
 // The inverse DST of size 4, 16-bit.
@@ -80,6 +75,5 @@ pub fn residual_inv_transform_dst_into_scalar16(
 ) -> Answered
     ensures { Writes result out.new (inverted bits16 Dst 4 bit_depth plain_range 4 coeff.now out.old) }
 {
-    let answer = transform::inv_transform_dst_into_scalar16(coeff, bit_depth, out);
-    answers::answered(answer)
+    transform::inv_transform_dst_into_scalar16(coeff, bit_depth, out).into()
 }

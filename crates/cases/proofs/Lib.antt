@@ -1,2 +1,0 @@
--- What signed numbers put together from bytes rely on.
-pub mod SignedLaws

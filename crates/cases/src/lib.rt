@@ -6,12 +6,6 @@ mod reading;
 mod writing;
 
 pub use reading::{
-    are_next_narrow, are_next_wide, copy_text, is_next_long, is_next_wide, next_byte, next_length,
-    next_sample, next_short, next_wide, next_word, read_first_bytes, read_first_narrow,
-    read_first_samples, read_first_wide, read_index, read_narrow, read_samples, read_short,
-    read_wide,
+    Number, are_next, copy_text, next, next_length, read_all, read_first, read_indices, read_named,
 };
-pub use writing::{
-    put, put_answer, put_bytes, put_end, put_flag, put_narrow, put_refusal, put_same, put_samples,
-    put_signed, put_wide,
-};
+pub use writing::{put, put_all, put_answer, put_end, put_flag, put_refusal, put_same};

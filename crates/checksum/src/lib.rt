@@ -1,17 +1,11 @@
 // The checksum form of the decoded picture hash, H.265 Annex D.
 #![tactic(auto)]
 
-ghost use Rattle.std.specs.Prelude.{◌≡◌, ◌+◌, ◌*◌, ◌<◌, ◌≤◌, min, length};
-ghost use Rattle.checksum.specs.Answers.{checksum_outcome};
+ghost use Rattle.std.specs.Prelude.{◌≡◌, ◌+◌, ◌*◌, ◌<◌, ◌≤◌, length};
+ghost use Rattle.refusal.specs.Outcome.{outcome};
 ghost use Rattle.checksum.specs.Checksum.{xor_mask, sample_term, run_term, total, row_total, picture_checksum, checksummed};
 
 use refusal::Refusal;
-
-#[derive(Clone, Copy)]
-pub enum ChecksumAnswer {
-    Sum(u32),
-    Refused(Refusal),
-}
 
 // The mask of column x and row y.
 fn xor_mask(x: u16, y: u16) -> u16
@@ -40,20 +34,11 @@ fn run_total(bit_depth: u8, at: usize, count: usize, mask: u16, plane: &[u16]) -
     ensures { (result ≡ total count (run_term bit_depth at mask plane.now)) × (result ≤ 510 * count) }
 {
     let mut sum: u16 = 0;
-    let mut k: usize = 0;
-    while k < count {
+    for k in 0..count {
         let term = sample_term(bit_depth, plane[at + k], (k as u16) ^ mask);
         sum += term;
-        k += 1;
     }
     sum
-}
-
-// How many columns of a row are in the next run.
-fn run_length(left: usize) -> usize
-    ensures { result ≡ min left 128 }
-{
-    if left < 128 { left } else { 128 }
 }
 
 // What row y adds: at most 510 for each of 16,384 samples.
@@ -65,7 +50,7 @@ fn row_total(bit_depth: u8, width: usize, first: usize, y: u16, plane: &[u16]) -
     let mut x: usize = 0;
     while x < width {
         let mask = xor_mask(x as u16, y);
-        let count = run_length(width - x);
+        let count = (width - x).min(128);
         let run = run_total(bit_depth, first + x, count, mask, plane);
         sum += run as u32;
         x += 128;
@@ -79,12 +64,9 @@ fn rows_total(bit_depth: u8, width: usize, height: usize, stride: usize, plane: 
     ensures { result ≡ picture_checksum bit_depth width height stride plane.now }
 {
     let mut sum: u32 = 0;
-    let mut y: usize = 0;
-    while y < height {
+    for y in 0..height {
         let row = row_total(bit_depth, width, y * stride, y as u16, plane);
-        let next = std::num::wrapping_add_u32(sum, row);
-        sum = next;
-        y += 1;
+        sum = sum.wrapping_add(row);
     }
     sum
 }
@@ -96,14 +78,14 @@ pub fn picture_checksum(
     stride: usize,
     bit_depth: u8,
     plane: &[u16],
-) -> ChecksumAnswer
-    ensures { checksum_outcome result ≡ checksummed bit_depth width height stride plane.now }
+) -> Result<u32, Refusal>
+    ensures { outcome 0 result ≡ checksummed bit_depth width height stride plane.now }
 {
     if refusal::depth_refused(bit_depth) {
-        return ChecksumAnswer::Refused(Refusal::DepthInvalid);
+        return Err(Refusal::DepthInvalid);
     }
     if planes::picture_refused(width, height, stride, plane.len()) {
-        return ChecksumAnswer::Refused(Refusal::PictureInvalid);
+        return Err(Refusal::PictureInvalid);
     }
-    ChecksumAnswer::Sum(rows_total(bit_depth, width, height, stride, plane))
+    Ok(rows_total(bit_depth, width, height, stride, plane))
 }

@@ -63,14 +63,12 @@ fn row_outside(coeff: &[i32], base: usize, nx: usize, range: u32) -> usize
     requires { (base + nx ≤ length coeff.now) × (range ≤ 22) }
     ensures { result ≡ first_where nx (λ c. outside_range range (get_or coeff.now (base + c) (pos 0))) }
 {
-    let mut c: usize = 0;
-    while c < nx {
+    for c in 0..nx {
         if is_outside(coeff[base + c], range) {
             return c;
         }
-        c += 1;
     }
-    c
+    nx
 }
 
 // The size of x, counted from 0 for x ≥ 0 and from -1 below: x lies in the range where this is below 2^R.
@@ -90,10 +88,8 @@ pub fn all_inside(coeff: &[i32], len: usize, range: u32) -> bool
     ensures { result ≡ true → (i : ℕ) → i < len → outside_range range (get_or coeff.now i (pos 0)) ≡ false }
 {
     let mut bits: u32 = 0;
-    let mut i: usize = 0;
-    while i < len {
-        bits = bits | reach(coeff[i]);
-        i += 1;
+    for i in 0..len {
+        bits |= reach(coeff[i]);
     }
     bits < (1u32 << range)
 }
@@ -103,13 +99,11 @@ fn rows_outside(coeff: &[i32], n: usize, nx: usize, range: u32) -> usize
     requires { T (is_size n) × (nx ≤ n) × (n * n ≤ length coeff.now) × (range ≤ 22) }
     ensures { result ≡ first_outside range n nx coeff.now }
 {
-    let mut k: usize = 0;
-    while k < n {
+    for k in 0..n {
         let c = row_outside(coeff, k * n, nx, range);
         if c < nx {
             return k * n + c;
         }
-        k += 1;
     }
     n * n
 }

@@ -7,12 +7,10 @@ fn zero_run(coeff: &[i32], base: usize, nx: usize) -> bool
     requires { base + nx ≤ length coeff.now }
     ensures { result ≡ true → (c : ℕ) → c < nx → get_or coeff.now (base + c) (pos 0) ≡ pos 0 }
 {
-    let mut c: usize = 0;
-    while c < nx {
+    for c in 0..nx {
         if coeff[base + c] != 0 {
             return false;
         }
-        c += 1;
     }
     true
 }
@@ -23,6 +21,7 @@ pub fn rows_used(coeff: &[i32], n: usize, nx: usize, least: usize) -> usize
     requires { (n * n ≤ length coeff.now) × (nx ≤ n) × (n ≤ 32) }
     ensures { RowsUsed coeff.now n nx result }
 {
+    // counted down by hand: a reversed range holds the row below the answer, and with `least` above n it is no plainer
     let mut k = n;
     while least < k {
         if !zero_run(coeff, (k - 1) * n, nx) {

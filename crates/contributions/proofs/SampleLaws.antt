@@ -6,6 +6,7 @@
 --   sample_asked     and what it gives the functions below
 --   sample_done      past the ladder: the buffer as written
 --   sample_wrote     an answer of 0: no condition holds, and the buffer is written
+use Rattle.std.specs.Prelude.{Ok, Err}
 use mathlib.Core.Path.{◌≡◌, refl, ap}
 use mathlib.Core.Bool.{true, false, ◌||◌}
 use mathlib.Core.List.{List, [], ◌∷◌}
@@ -18,7 +19,6 @@ use lib.ListN.{length}
 use Rattle.integers.specs.Lists.{overwrite}
 use Rattle.h265.specs.Range.{is_size}
 use Rattle.h265.specs.Transform.{row_order}
-use Rattle.refusal.specs.declared.Answer.TheVariants.{Done, Refused}
 use Rattle.refusal.specs.declared.Refusal.{Refusal}
 use Rattle.refusal.specs.declared.Refusal.TheVariants.{SizeInvalid, DstSizeInvalid, InputTooShort, OutputTooShort, PlaceOutside}
 use Rattle.refusal.specs.Condition.{size_refused, block_refused}
@@ -82,13 +82,13 @@ module _ (kind : Kind) (n m j : ℕ) (d out : List ℤ) where
   abbrev written : List ℤ
   written = overwrite (n * n) (row_order n (contribution (matrix_of kind n) n d m j)) out
 
-  pub sample_refused : (e : Refusal) → answer (Refused e) ≡ sample_ladder (refused tt) (accepted tt) kind n m j (length d) (length out)
-      → Writes (Refused e) out (contributed kind n m j d out)
+  pub sample_refused : (e : Refusal) → answer (Err e) ≡ sample_ladder (refused tt) (accepted tt) kind n m j (length d) (length out)
+      → Writes (Err e) out (contributed kind n m j d out)
   unfolding contributed sample_ladder
   sample_refused e h =
-      first_refused tt tt (left out) (wrote written) (λ w. Writes (Refused e) out w) e (λ f k. record { answered = k; out = refl }) checks h
+      first_refused tt tt (left out) (wrote written) (λ w. Writes (Err e) out w) e (λ f k. record { answered = k; out = refl }) checks h
 
-  pub sample_passed : answer Done ≡ sample_ladder (refused tt) (accepted tt) kind n m j (length d) (length out) → Passed checks
+  pub sample_passed : answer (Ok tt) ≡ sample_ladder (refused tt) (accepted tt) kind n m j (length d) (length out) → Passed checks
   unfolding sample_ladder
   sample_passed h = (first_accepted tt tt tt checks h).0
 
@@ -96,7 +96,7 @@ module _ (kind : Kind) (n m j : ℕ) (d out : List ℤ) where
   unfolding contributed sample_ladder
   past p = first_passed (left out) (wrote written) checks p
 
-  pub sample_done : Passed checks → {after : List ℤ} → after ≡ written → Writes Done after (contributed kind n m j d out)
+  pub sample_done : Passed checks → {after : List ℤ} → after ≡ written → Writes (Ok tt) after (contributed kind n m j d out)
   sample_done p h = rw (past p) (record { answered = refl; out = h })
 
   pub sample_wrote : (contributed kind n m j d out).answer.number ≡ 0 → Asked kind n m j (length d) (length out) × ((contributed kind n m j d out).out ≡ written)

@@ -5,7 +5,7 @@
 ghost use Rattle.refusal.specs.Written.{Writes};
 ghost use Rattle.contributions.specs.Sample.{contributed};
 
-use refusal::Answer;
+use refusal::Refusal;
 use transform_1d::Kind;
 
 mod matrix; // a column of the matrix
@@ -20,13 +20,10 @@ pub fn contributions(
     column: usize,
     coeff: &[i32],
     out: &mut [i64],
-) -> Answer
+) -> Result<(), Refusal>
     ensures { Writes result out.new (contributed kind n row column coeff.now out.old) }
 {
-    let checked = refuse::sample_refusal(kind, n, row, column, coeff.len(), out.len());
-    if let Answer::Refused(why) = checked {
-        return Answer::Refused(why);
-    }
+    refuse::sample_refusal(kind, n, row, column, coeff.len(), out.len())?;
     products::block_products(kind, n, row, column, coeff, out);
-    Answer::Done
+    Ok(())
 }

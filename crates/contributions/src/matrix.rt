@@ -13,10 +13,8 @@ pub(crate) fn dct_column(t: &[i16; 1024], n: usize, m: usize) -> [i16; 32]
 {
     let stride = 1024 / n;
     let mut r = [0i16; 32];
-    let mut k: usize = 0;
-    while k < n {
+    for k in 0..n {
         r[k] = t[k * stride + m];
-        k += 1;
     }
     r
 }
@@ -27,10 +25,8 @@ pub(crate) fn dst_column(t: &[i16; 64], m: usize) -> [i16; 32]
     ensures { ColumnOf dst_matrix 4 m result }
 {
     let mut r = [0i16; 32];
-    let mut k: usize = 0;
-    while k < 4 {
+    for k in 0..4 {
         r[k] = t[32 * (k % 2) + 2 * m + k / 2];
-        k += 1;
     }
     r
 }

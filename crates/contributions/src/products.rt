@@ -25,10 +25,8 @@ fn products(down: &[i16; 32], across: &[i16; 32], n: usize, coeff: &[i32], out: 
     ensures { out.new ≡ overwrite (n * n) (row_order n (product_of down.now across.now n coeff.now)) out.old }
 {
     let count = n * n;
-    let mut i: usize = 0;
-    while i < count {
+    for i in 0..count {
         out[i] = product(down[i / n], across[i % n], coeff[i]);
-        i += 1;
     }
 }
 

@@ -3,7 +3,7 @@ ghost use Rattle.std.specs.Prelude.{◌≡◌};
 ghost use Rattle.refusal.specs.Outcome.{accepted, refused, answer};
 ghost use Rattle.contributions.specs.Sample.{sample_ladder};
 
-use refusal::{Answer, Refusal};
+use refusal::Refusal;
 use transform_1d::Kind;
 
 // The lowest row that applies, by the lengths of the buffers.
@@ -14,27 +14,27 @@ pub(crate) fn sample_refusal(
     column: usize,
     coeff: usize,
     out: usize,
-) -> Answer
+) -> Result<(), Refusal>
     ensures { answer result ≡ sample_ladder (refused tt) (accepted tt) kind n row column coeff out }
 {
     if refusal::size_refused(n) {
-        return Answer::Refused(Refusal::SizeInvalid);
+        return Err(Refusal::SizeInvalid);
     }
     if transform_1d::dst_refused(kind, n) {
-        return Answer::Refused(Refusal::DstSizeInvalid);
+        return Err(Refusal::DstSizeInvalid);
     }
     let cells = n * n;
     if coeff < cells {
-        return Answer::Refused(Refusal::InputTooShort);
+        return Err(Refusal::InputTooShort);
     }
     if out < cells {
-        return Answer::Refused(Refusal::OutputTooShort);
+        return Err(Refusal::OutputTooShort);
     }
     if n <= row {
-        return Answer::Refused(Refusal::PlaceOutside);
+        return Err(Refusal::PlaceOutside);
     }
     if n <= column {
-        return Answer::Refused(Refusal::PlaceOutside);
+        return Err(Refusal::PlaceOutside);
     }
-    Answer::Done
+    Ok(())
 }

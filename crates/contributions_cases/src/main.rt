@@ -19,10 +19,10 @@ fn kind_of(dst: bool) -> Kind {
 }
 
 fn next_case(stdin: &mut impl Read) -> Case {
-    let dst = cases::next_byte(stdin) != 0;
-    let n = cases::next_word(stdin);
-    let row = cases::next_word(stdin);
-    let column = cases::next_word(stdin);
+    let dst = cases::next::<u8>(stdin) != 0;
+    let n = cases::next::<usize>(stdin);
+    let row = cases::next::<usize>(stdin);
+    let column = cases::next::<usize>(stdin);
     Case {
         dst,
         n,
@@ -44,7 +44,7 @@ fn put_long(rt: &impl Print, z: i64) {
     if z < 0 {
         streams::write_all(rt, b"-");
     }
-    streams::print_decimal(rt, size(z));
+    streams::print(rt, size(z));
 }
 
 fn put_bar(rt: &impl Print) {
@@ -75,7 +75,7 @@ fn replay_case(rt: &impl Print, stdin: &mut impl Read, case: Case) {
     let mut coeff = [0i32; 1024];
     let mut out = [7i64; 1040];
     let count = cases::next_length(stdin, 1024);
-    cases::read_first_wide(stdin, count, &mut coeff);
+    cases::read_first(stdin, count, &mut coeff);
     let room = cases::next_length(stdin, 1040);
     show(rt, case, &coeff[0..count], &mut out[0..room]);
 }

@@ -124,15 +124,13 @@ fn row_span(
 {
     let mut from = span.from;
     let mut to = span.to;
-    let mut j: usize = 0;
-    while j < n {
+    for j in 0..n {
         let now = Span { from, to };
         let left = sample_span(
             t, d, ones, between, twos, target, wanted, n, range, shift, k, c, m, j, now,
         );
         from = left.from;
         to = left.to;
-        j += 1;
     }
     Span { from, to }
 }
@@ -157,8 +155,7 @@ fn index_span(
 {
     let mut from: u32 = 0;
     let mut to: u32 = 2u32 << range;
-    let mut m: usize = 0;
-    while m < n {
+    for m in 0..n {
         if to <= from {
             return Span { from, to };
         }
@@ -168,7 +165,6 @@ fn index_span(
         );
         from = left.from;
         to = left.to;
-        m += 1;
     }
     Span { from, to }
 }
@@ -214,8 +210,7 @@ pub(crate) fn all_indices(
     ensures { (least.new ≡ overwrite (n * n) (least_by (tables t.now d.now ones.now between.now twos.now target.now) wanted.now n range shift) least.old) × (most.new ≡ overwrite (n * n) (most_by (tables t.now d.now ones.now between.now twos.now target.now) wanted.now n range shift) most.old) }
 {
     let count = n * n;
-    let mut i: usize = 0;
-    while i < count {
+    for i in 0..count {
         let span = index_span(
             t,
             d,
@@ -234,6 +229,5 @@ pub(crate) fn all_indices(
         let high = most_of(range, span);
         least[i] = low;
         most[i] = high;
-        i += 1;
     }
 }

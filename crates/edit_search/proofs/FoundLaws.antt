@@ -6,6 +6,7 @@
 --   edits_ask           what the search below asks
 --   answered_passed     a ladder that answered 0 has passed every rung
 --   found_wrote         an answer of 0: no condition holds, and both buffers are written
+use Rattle.std.specs.Prelude.{Ok, Err}
 use mathlib.Core.Path.{◌≡◌, refl, sym, ap, ◌∙◌}
 use mathlib.Core.Bool.{Bool, true, false}
 use mathlib.Core.List.{List, [], ◌∷◌}
@@ -19,7 +20,6 @@ use Rattle.integers.specs.Lists.{overwrite}
 use Rattle.integers.proofs.SearchLaws.{first_where_first}
 use Rattle.h265.specs.Range.{transform_range, outside_range}
 use Rattle.h265.proofs.TransformLaws.{cell_column}
-use Rattle.refusal.specs.declared.Answer.TheVariants.{Done, Refused}
 use Rattle.refusal.specs.declared.Refusal.{Refusal}
 use Rattle.refusal.specs.declared.Refusal.TheVariants.{SizeInvalid, DepthInvalid, DstSizeInvalid, InputTooShort, OutputTooShort}
 use Rattle.refusal.specs.Condition.{size_refused, depth_refused, block_refused}
@@ -67,14 +67,14 @@ module _ (kind : Kind) (n b : ℕ) (x : Bool) (d target : List ℤ) (wanted : Li
   abbrev answer_by : Found
   answer_by = edits_found kind n b x d target wanted least most
 
-  pub edits_refused : (e : Refusal) → answer (Refused e) ≡ edit_ladder (refused tt) (accepted tt) kind n b (length d) (length target) (length wanted) (length least) (length most)
-      → Finds (Refused e) least most answer_by
+  pub edits_refused : (e : Refusal) → answer (Err e) ≡ edit_ladder (refused tt) (accepted tt) kind n b (length d) (length target) (length wanted) (length least) (length most)
+      → Finds (Err e) least most answer_by
   unfolding edits_found edit_ladder
   edits_refused e h =
-      first_refused tt tt (left least most) (block_found kind n b x d target wanted least most) (λ w. Finds (Refused e) least most w) e
+      first_refused tt tt (left least most) (block_found kind n b x d target wanted least most) (λ w. Finds (Err e) least most w) e
       (λ f k. record { answered = k; least = refl; most = refl }) checks h
 
-  pub edits_passed : answer Done ≡ edit_ladder (refused tt) (accepted tt) kind n b (length d) (length target) (length wanted) (length least) (length most) → Passed checks
+  pub edits_passed : answer (Ok tt) ≡ edit_ladder (refused tt) (accepted tt) kind n b (length d) (length target) (length wanted) (length least) (length most) → Passed checks
   unfolding edit_ladder
   edits_passed h = (first_accepted tt tt tt checks h).0
 
@@ -83,13 +83,13 @@ module _ (kind : Kind) (n b : ℕ) (x : Bool) (d target : List ℤ) (wanted : Li
   past p = first_passed (left least most) (block_found kind n b x d target wanted least most) checks p
 
   pub edits_outside : Passed checks → first_outside (transform_range b x) n n d < n * n → {e : Refusal} → e ≡ refusal_at (transform_range b x) n d (first_outside (transform_range b x) n n d)
-      → Finds (Refused e) least most answer_by
+      → Finds (Err e) least most answer_by
   unfolding block_found
-  edits_outside p h q = rw (past p, lt-ltb (first_outside (transform_range b x) n n d) (n * n) h) (record { answered = ap (λ (e : Refusal). answer (Refused e)) q; least = refl; most = refl })
+  edits_outside p h q = rw (past p, lt-ltb (first_outside (transform_range b x) n n d) (n * n) h) (record { answered = ap (λ (e : Refusal). answer (Err e)) q; least = refl; most = refl })
 
   pub edits_done : Passed checks → n * n ≤ first_outside (transform_range b x) n n d → {low high : List ℤ}
       → low ≡ overwrite (n * n) (least_edit kind n b x d target wanted) least → high ≡ overwrite (n * n) (most_edit kind n b x d target wanted) most
-      → Finds Done low high answer_by
+      → Finds (Ok tt) low high answer_by
   unfolding block_found
   edits_done p h l m = rw (past p, le-ltb (first_outside (transform_range b x) n n d) (n * n) h) (record { answered = refl; least = l; most = m })
 

@@ -6,10 +6,9 @@
 --   Finds               a call's answer and buffers are what a `Found` says
 --   edit_ladder          the conditions by size, depth, kind and lengths, lowest number first
 --   edits_found          the edits of a block
-use Rattle.std.specs.Prelude.{◌≡◌, Bool, cond, List, ℕ, ◌*◌, ltb, ℤ, length}
+use Rattle.std.specs.Prelude.{◌≡◌, Bool, cond, List, ℕ, ◌*◌, ltb, ℤ, length, Result}
 use Rattle.integers.specs.Lists.{overwrite}
 use Rattle.h265.specs.Range.{transform_range}
-use Rattle.refusal.specs.declared.Answer.{Answer}
 use Rattle.refusal.specs.declared.Refusal.{Refusal}
 use Rattle.refusal.specs.declared.Refusal.TheVariants.{SizeInvalid, DepthInvalid, DstSizeInvalid, InputTooShort, OutputTooShort}
 use Rattle.refusal.specs.Condition.{size_refused, depth_refused, block_refused}
@@ -30,7 +29,7 @@ left least most e = record { answer = refused tt e; least = least; most = most }
 abbrev pub wrote : List ℤ → List ℤ → Found
 wrote least most = record { answer = accepted tt; least = least; most = most }
 
-pub record Finds (r : Answer) (low high : List ℤ) (f : Found) : Type 0 where
+pub record Finds (r : Result (Unit {0}) Refusal) (low high : List ℤ) (f : Found) : Type 0 where
   pub answered : answer r ≡ f.answer
   pub least : low ≡ f.least
   pub most : high ≡ f.most

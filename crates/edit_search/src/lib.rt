@@ -3,7 +3,7 @@
 
 ghost use Rattle.edit_search.specs.Found.{Finds, edits_found};
 
-use refusal::Answer;
+use refusal::Refusal;
 use transform_1d::Kind;
 
 mod refuse;
@@ -19,10 +19,10 @@ pub fn find_edits(
     wanted: &[u8],
     least: &mut [i32],
     most: &mut [i32],
-) -> Answer
+) -> Result<(), Refusal>
     ensures { Finds result least.new most.new (edits_found kind n bit_depth extended_precision coeff.now target.now wanted.now least.old most.old) }
 {
-    let checked = refuse::edit_refusal(
+    refuse::edit_refusal(
         kind,
         n,
         bit_depth,
@@ -31,14 +31,11 @@ pub fn find_edits(
         wanted.len(),
         least.len(),
         most.len(),
-    );
-    if let Answer::Refused(why) = checked {
-        return Answer::Refused(why);
-    }
+    )?;
     let range = coefficients::transform_range(bit_depth, extended_precision);
     let first = coefficients::first_outside(coeff, n, n, range);
     if first < n * n {
-        return Answer::Refused(coefficients::refusal_at(coeff, n, first, range));
+        return Err(coefficients::refusal_at(coeff, n, first, range));
     }
     edit_blocks::find(
         kind,
@@ -51,5 +48,5 @@ pub fn find_edits(
         least,
         most,
     );
-    Answer::Done
+    Ok(())
 }

@@ -5,7 +5,7 @@
 #![tactic(auto)]
 
 use parameters::QpPrime;
-use refusal::Answer;
+use refusal::Refusal;
 use std::io::Read;
 use transform_1d::Kind;
 
@@ -25,13 +25,13 @@ fn kind_of(dst: bool) -> Kind {
 }
 
 fn next_case(stdin: &mut impl Read) -> Case {
-    let function = cases::next_byte(stdin);
-    let dst = cases::next_byte(stdin) != 0;
-    let n = cases::next_word(stdin);
-    let qp = cases::next_wide(stdin);
-    let bit_depth = cases::next_byte(stdin);
-    let extended = cases::next_byte(stdin) != 0;
-    let dc = cases::next_byte(stdin);
+    let function = cases::next::<u8>(stdin);
+    let dst = cases::next::<u8>(stdin) != 0;
+    let n = cases::next::<usize>(stdin);
+    let qp = cases::next::<i32>(stdin);
+    let bit_depth = cases::next::<u8>(stdin);
+    let extended = cases::next::<u8>(stdin) != 0;
+    let dc = cases::next::<u8>(stdin);
     Case {
         function,
         dst,
@@ -51,7 +51,7 @@ fn call(
     wanted: &[u8],
     least: &mut [i32],
     most: &mut [i32],
-) -> Answer {
+) -> Result<(), Refusal> {
     let kind = kind_of(case.dst);
     let n = case.n;
     let qp = QpPrime(case.qp);
@@ -82,8 +82,8 @@ fn show(
     most: &mut [i32],
 ) {
     cases::put_answer(rt, call(case, list, given, target, wanted, least, most));
-    cases::put_wide(rt, least);
-    cases::put_wide(rt, most);
+    cases::put_all(rt, least);
+    cases::put_all(rt, most);
 }
 
 // The buffers of a case, and its answer.
@@ -95,13 +95,13 @@ fn replay_case(rt: &impl Print, stdin: &mut impl Read, case: Case) {
     let mut least = [7i32; 1040];
     let mut most = [7i32; 1040];
     let entries = cases::next_length(stdin, 64);
-    cases::read_first_bytes(stdin, entries, &mut list);
+    cases::read_first(stdin, entries, &mut list);
     let count = cases::next_length(stdin, 1024);
-    cases::read_first_wide(stdin, count, &mut given);
+    cases::read_first(stdin, count, &mut given);
     let targets = cases::next_length(stdin, 1024);
-    cases::read_first_wide(stdin, targets, &mut target);
+    cases::read_first(stdin, targets, &mut target);
     let flags = cases::next_length(stdin, 1024);
-    cases::read_first_bytes(stdin, flags, &mut wanted);
+    cases::read_first(stdin, flags, &mut wanted);
     let low = cases::next_length(stdin, 1040);
     let high = cases::next_length(stdin, 1040);
     show(

@@ -45,10 +45,8 @@ fn entries(t: &[i16], n: usize) -> [i64; 1024]
 {
     let count = n * n;
     let mut r = [0i64; 1024];
-    let mut i: usize = 0;
-    while i < count {
+    for i in 0..count {
         r[i] = entry(t, i / n, i % n);
-        i += 1;
     }
     r
 }

@@ -19,10 +19,8 @@ pub fn widened(coeff: &[i32], n: usize) -> [i64; 1024]
 {
     let count = n * n;
     let mut r = [0i64; 1024];
-    let mut i: usize = 0;
-    while i < count {
+    for i in 0..count {
         r[i] = wide(coeff[i]);
-        i += 1;
     }
     r
 }
@@ -33,11 +31,9 @@ fn line(t: &[i64; 1024], x: &[i64; 1024], n: usize, m: usize, base: usize, strid
     ensures { result ≡ transform_line (block_at n t.now) n (λ k. get_or x.now (base + k * stride) (pos 0)) m }
 {
     let mut sum: i64 = 0;
-    let mut k: usize = 0;
-    while k < n {
+    for k in 0..n {
         let more = edit_values::mac(sum, t[k * n + m], x[base + k * stride]);
         sum = more;
-        k += 1;
     }
     sum
 }
@@ -49,10 +45,8 @@ pub fn down_columns(t: &[i64; 1024], d: &[i64; 1024], n: usize) -> [i64; 1024]
 {
     let count = n * n;
     let mut r = [0i64; 1024];
-    let mut i: usize = 0;
-    while i < count {
+    for i in 0..count {
         r[i] = line(t, d, n, i / n, i % n, n);
-        i += 1;
     }
     r
 }
@@ -64,10 +58,8 @@ pub fn along_rows(t: &[i64; 1024], g: &[i64; 1024], n: usize) -> [i64; 1024]
 {
     let count = n * n;
     let mut r = [0i64; 1024];
-    let mut i: usize = 0;
-    while i < count {
+    for i in 0..count {
         r[i] = line(t, g, n, i % n, i / n * n, 1);
-        i += 1;
     }
     r
 }
@@ -79,10 +71,8 @@ pub fn limited(ones: &[i64; 1024], n: usize, range: u32) -> [i64; 1024]
 {
     let count = n * n;
     let mut r = [0i64; 1024];
-    let mut i: usize = 0;
-    while i < count {
+    for i in 0..count {
         r[i] = edit_values::stage_one(ones[i], range);
-        i += 1;
     }
     r
 }

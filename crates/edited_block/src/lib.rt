@@ -3,12 +3,12 @@
 
 ghost use Rattle.refusal.specs.Written.{Writes};
 ghost use Rattle.block_rules.specs.Opening.{on_coefficients, opened_as};
-ghost use Rattle.block_rules.specs.Edit.{with_columns, edited, refreshed, buffers, Opens, Edits};
+ghost use Rattle.block_rules.specs.Edit.{edited, refreshed, buffers, Opens, Edits};
 
-pub use block_rules::{Edited, EditedBlock, Opened, Source, zero_block, zero_source};
+pub use block_rules::{EditedBlock, Source, zero_block, zero_source};
 use block_work::columns::column_count;
 use block_work::refuse::block_refusal;
-use refusal::{Answer, Refusal};
+use refusal::Refusal;
 use transform_1d::Kind;
 
 // Opens a block on the caller's own coefficients, which it leaves, and writes its intermediate and its residual.
@@ -20,8 +20,8 @@ pub fn open_block(
     coeff: &[i32],
     inter: &mut [i32],
     residual: &mut [i32],
-) -> Opened
-    ensures { Opens (opened_as (on_coefficients kind n bit_depth extended_precision) (buffers coeff.now inter.old residual.old)) result.answer result.block inter.new residual.new }
+) -> Result<EditedBlock, Refusal>
+    ensures { Opens (opened_as (on_coefficients kind n bit_depth extended_precision) (buffers coeff.now inter.old residual.old)) result inter.new residual.new }
 {
     block_work::open_from(
         kind,
@@ -35,71 +35,43 @@ pub fn open_block(
     )
 }
 
-// One edit of a block whose record is given by value; the new column count is in the answer.
-pub fn edit_core(
-    block: EditedBlock,
+// One edit of an open block: sets the value, and writes the column count, the intermediate and the residual. A refused edit changes nothing.
+// A function and no method: an `impl` of the record stands in the record's own crate, which lies below the stages that an edit runs.
+pub fn edit(
+    block: &mut EditedBlock,
     coeff: &mut [i32],
     inter: &mut [i32],
     residual: &mut [i32],
     row: usize,
     column: usize,
     value: i32,
-) -> Edited
-    ensures { Edits (edited block (buffers coeff.old inter.old residual.old) row column value) result.answer (with_columns block result.columns) coeff.new inter.new residual.new }
+) -> Result<(), Refusal>
+    ensures { Edits (edited block.old (buffers coeff.old inter.old residual.old) row column value) result block.new coeff.new inter.new residual.new }
 {
-    let kind = block.kind;
-    let size = block.size;
-    let bit_depth = block.depth;
-    let extended_precision = block.extended;
-    let columns = block.columns;
-    let levels = block.source.levels;
-    let checked = block_refusal(
+    let EditedBlock {
         kind,
-        size,
-        bit_depth,
-        coeff.len(),
-        inter.len(),
-        residual.len(),
-    );
-    if let Answer::Refused(why) = checked {
-        return Edited {
-            answer: Answer::Refused(why),
-            columns,
-        };
+        size: n,
+        depth,
+        extended,
+        source,
+        ..
+    } = *block;
+    block_refusal(kind, n, depth, coeff.len(), inter.len(), residual.len())?;
+    if source.levels {
+        return Err(Refusal::WayMismatched);
     }
-    if levels {
-        return Edited {
-            answer: Answer::Refused(Refusal::WayMismatched),
-            columns,
-        };
+    if n <= row || n <= column {
+        return Err(Refusal::PlaceOutside);
     }
-    if size <= row {
-        return Edited {
-            answer: Answer::Refused(Refusal::PlaceOutside),
-            columns,
-        };
-    }
-    if size <= column {
-        return Edited {
-            answer: Answer::Refused(Refusal::PlaceOutside),
-            columns,
-        };
-    }
-    let range = coefficients::transform_range(bit_depth, extended_precision);
+    let range = coefficients::transform_range(depth, extended);
     if coefficients::is_outside(value, range) {
-        let why = coefficients::outside_refusal(value, range, row, column);
-        return Edited {
-            answer: Answer::Refused(why),
-            columns,
-        };
+        return Err(coefficients::outside_refusal(value, range, row, column));
     }
     block_work::edit_stages(
-        kind, size, bit_depth, range, coeff, inter, residual, row, column, value,
+        kind, n, depth, range, coeff, inter, residual, row, column, value,
     );
-    Edited {
-        answer: Answer::Done,
-        columns: column_count(coeff, size),
-    }
+    block.columns = column_count(coeff, n);
+    Ok(())
 }
 
 // The residual of an intermediate: stage two alone, for a caller whose residual is out of date.
@@ -110,14 +82,11 @@ pub fn refresh_residual(
     extended_precision: bool,
     inter: &[i32],
     residual: &mut [i32],
-) -> Answer
+) -> Result<(), Refusal>
     ensures { Writes result residual.new (refreshed kind n bit_depth extended_precision inter.now residual.old) }
 {
-    let checked = block_refusal(kind, n, bit_depth, 1024, inter.len(), residual.len());
-    if let Answer::Refused(why) = checked {
-        return Answer::Refused(why);
-    }
+    block_refusal(kind, n, bit_depth, 1024, inter.len(), residual.len())?;
     let range = coefficients::transform_range(bit_depth, extended_precision);
     stages_wide::residual_of(kind, n, bit_depth, range, inter, residual);
-    Answer::Done
+    Ok(())
 }

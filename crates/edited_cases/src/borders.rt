@@ -1,15 +1,15 @@
 // Calls on lent buffers of any length. A case goes on with the lengths of levels, coefficients, intermediate and residual, two bytes each, and what they hold; an
 // edit's with the column count of its record, whether it is of a level, row and column, and the value; a list's as `lists` says. The text goes on with the answer,
-// the record handed back, and the four buffers.
+// the record handed back, zeros where an opening was refused, and the four buffers.
 use crate::settings::Setting;
 use crate::{edits, lists, settings};
 use std::io::Read;
 
 fn put_buffers(rt: &impl Print, levels: &[i32], coeff: &[i32], inter: &[i32], residual: &[i32]) {
-    cases::put_wide(rt, levels);
-    cases::put_wide(rt, coeff);
-    cases::put_wide(rt, inter);
-    cases::put_wide(rt, residual);
+    cases::put_all(rt, levels);
+    cases::put_all(rt, coeff);
+    cases::put_all(rt, inter);
+    cases::put_all(rt, residual);
 }
 
 fn opening_coefficients(
@@ -21,9 +21,7 @@ fn opening_coefficients(
     residual: &mut [i32],
 ) {
     let opened = settings::open(setting, coeff, levels, inter, residual);
-    let answer = opened.answer;
-    settings::put_count(rt, answer);
-    settings::put_record(rt, opened.block);
+    settings::put_opened(rt, opened);
     put_buffers(rt, levels, coeff, inter, residual);
 }
 
@@ -36,9 +34,7 @@ fn opening_levels(
     residual: &mut [i32],
 ) {
     let opened = settings::open(setting, levels, coeff, inter, residual);
-    let answer = opened.answer;
-    settings::put_count(rt, answer);
-    settings::put_record(rt, opened.block);
+    settings::put_opened(rt, opened);
     put_buffers(rt, levels, coeff, inter, residual);
 }
 
@@ -67,17 +63,16 @@ fn edit(
     inter: &mut [i32],
     residual: &mut [i32],
 ) {
-    let block = settings::record(setting, cases::next_word(stdin));
-    let level = cases::next_byte(stdin) != 0;
-    let row = cases::next_word(stdin);
-    let column = cases::next_word(stdin);
-    let value = cases::next_wide(stdin);
-    let edited = edits::edit(
-        block, level, row, column, value, levels, coeff, inter, residual,
+    let mut block = settings::record(setting, cases::next::<usize>(stdin));
+    let level = cases::next::<u8>(stdin) != 0;
+    let row = cases::next::<usize>(stdin);
+    let column = cases::next::<usize>(stdin);
+    let value = cases::next::<i32>(stdin);
+    let answer = edits::edit(
+        &mut block, level, row, column, value, levels, coeff, inter, residual,
     );
-    let answer = edited.answer;
     edits::put_edit(rt, answer);
-    settings::put_record(rt, edited.block);
+    settings::put_record(rt, block);
     put_buffers(rt, levels, coeff, inter, residual);
 }
 
@@ -91,10 +86,10 @@ fn call(
     inter: &mut [i32],
     residual: &mut [i32],
 ) {
-    cases::read_wide(stdin, levels);
-    cases::read_wide(stdin, coeff);
-    cases::read_wide(stdin, inter);
-    cases::read_wide(stdin, residual);
+    cases::read_all(stdin, levels);
+    cases::read_all(stdin, coeff);
+    cases::read_all(stdin, inter);
+    cases::read_all(stdin, residual);
     match which {
         0 => opening(rt, setting, levels, coeff, inter, residual),
         1 => edit(rt, stdin, setting, levels, coeff, inter, residual),

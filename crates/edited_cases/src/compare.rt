@@ -3,50 +3,12 @@ use crate::settings;
 use crate::settings::Setting;
 use edited_block::{EditedBlock, Source};
 use parameters::QpPrime;
-use refusal::Answer;
-use scaling_blocks::CountAnswer;
+use refusal::Refusal;
 use transform_1d::Kind;
 
+// Of buffers of one length or of different ones, as arrays and as slices.
 pub fn same(xs: &[i32], ys: &[i32]) -> bool {
-    if xs.len() != ys.len() {
-        return false;
-    }
-    let mut i = 0;
-    while i < xs.len() {
-        if xs[i] != ys[i] {
-            return false;
-        }
-        i += 1;
-    }
-    true
-}
-
-fn same_bytes(xs: &[u8], ys: &[u8]) -> bool {
-    if xs.len() != ys.len() {
-        return false;
-    }
-    let mut i = 0;
-    while i < xs.len() {
-        if xs[i] != ys[i] {
-            return false;
-        }
-        i += 1;
-    }
-    true
-}
-
-fn is_done(answer: Answer) -> bool {
-    match answer {
-        Answer::Done => true,
-        Answer::Refused(_) => false,
-    }
-}
-
-fn is_counted(answer: CountAnswer) -> bool {
-    match answer {
-        CountAnswer::Limited(_) => true,
-        CountAnswer::Refused(_) => false,
-    }
+    xs == ys
 }
 
 fn is_dst(kind: Kind) -> bool {
@@ -62,7 +24,7 @@ fn same_source(a: Source, b: Source) -> bool {
     let entries = a.entries;
     let others = b.entries;
     let numbers = a.levels == b.levels && a.listed == b.listed && a.dc == b.dc;
-    numbers && p.0 == q.0 && same_bytes(&entries, &others)
+    numbers && p.0 == q.0 && entries == others
 }
 
 fn same_record(a: EditedBlock, b: EditedBlock) -> bool {
@@ -76,7 +38,7 @@ fn same_record(a: EditedBlock, b: EditedBlock) -> bool {
 }
 
 // A decode of all columns.
-fn decode(setting: Setting, coeff: &[i32], out: &mut [i32]) -> Answer {
+fn decode(setting: Setting, coeff: &[i32], out: &mut [i32]) -> Result<(), Refusal> {
     let n = setting.n;
     let depth = setting.bit_depth;
     let kind = setting.kind;
@@ -102,7 +64,7 @@ fn decode(setting: Setting, coeff: &[i32], out: &mut [i32]) -> Answer {
 fn is_decoded(setting: Setting, coeff: &[i32], residual: &[i32]) -> bool {
     let mut out = [7i32; 1040];
     let answer = decode(setting, coeff, &mut out);
-    is_done(answer) && same(&out, residual)
+    answer.is_ok() && same(&out, residual)
 }
 
 // Whether record and intermediate are those of a fresh opening on the values, whose own residual is to be a decode.
@@ -117,10 +79,9 @@ fn is_opened(
     let mut out = [7i32; 1040];
     let mut residual = [7i32; 1040];
     let opened = settings::open(setting, values, &mut scaled, &mut out, &mut residual);
-    let answer = opened.answer;
-    let record = same_record(opened.block, block);
+    let record = same_record(settings::block_of(opened), block);
     let decoded = is_decoded(setting, coeff, &residual);
-    is_counted(answer) && record && decoded && same(&out, inter)
+    opened.is_ok() && record && decoded && same(&out, inter)
 }
 
 // The coefficients of levels.
@@ -130,26 +91,21 @@ fn scale(setting: Setting, levels: &[i32], out: &mut [i32]) -> bool {
     let by = QpPrime(setting.qp_prime);
     let entries = setting.entries;
     let way = setting.way;
-    if way == 1 {
-        return is_counted(scaling_wide::dequantize_into_scalar_i32(
+    let answer = if way == 1 {
+        scaling_wide::dequantize_into_scalar_i32(levels, n, by, depth, setting.extended, out)
+    } else {
+        scaling_wide::dequantize_scaled_into_scalar_i32(
             levels,
             n,
             by,
             depth,
             setting.extended,
+            &entries,
+            setting.dc,
             out,
-        ));
-    }
-    is_counted(scaling_wide::dequantize_scaled_into_scalar_i32(
-        levels,
-        n,
-        by,
-        depth,
-        setting.extended,
-        &entries,
-        setting.dc,
-        out,
-    ))
+        )
+    };
+    answer.is_ok()
 }
 
 // Whether intermediate, residual and record are those of a fresh opening on the values, which give these coefficients.

@@ -1,21 +1,11 @@
-// One edit of either kind, by the functions that lend the record.
+// One edit of either kind.
 use edited_block::EditedBlock;
-use level_block::{LevelEditedBlock, Limits, LimitsAnswer};
-use refusal::Answer;
+use level_block::Limits;
+use refusal::Refusal;
 use std::io::Read;
 
-fn unlimited(answer: Answer) -> LimitsAnswer {
-    match answer {
-        Answer::Done => LimitsAnswer::Done(Limits {
-            level: false,
-            result: false,
-        }),
-        Answer::Refused(why) => LimitsAnswer::Refused(why),
-    }
-}
-
 pub fn edit(
-    block: EditedBlock,
+    block: &mut EditedBlock,
     level: bool,
     row: usize,
     column: usize,
@@ -24,19 +14,15 @@ pub fn edit(
     coeff: &mut [i32],
     inter: &mut [i32],
     residual: &mut [i32],
-) -> LevelEditedBlock {
+) -> Result<Limits, Refusal> {
     if level {
-        return level_record::edit_level_by_value(
-            block, levels, coeff, inter, residual, row, column, value,
-        );
+        return level_block::edit_level(block, levels, coeff, inter, residual, row, column, value);
     }
-    let e = edited_record::edit_by_value(block, coeff, inter, residual, row, column, value);
-    let answer = e.answer;
-    let after = e.block;
-    LevelEditedBlock {
-        answer: unlimited(answer),
-        block: after,
-    }
+    edited_block::edit(block, coeff, inter, residual, row, column, value)?;
+    Ok(Limits {
+        level: false,
+        result: false,
+    })
 }
 
 fn put_limits(rt: &impl Print, limits: Limits) {
@@ -45,13 +31,13 @@ fn put_limits(rt: &impl Print, limits: Limits) {
 }
 
 // Number, place, row, column, whether the level was limited, and whether the result was.
-pub fn put_edit(rt: &impl Print, answer: LimitsAnswer) {
+pub fn put_edit(rt: &impl Print, answer: Result<Limits, Refusal>) {
     match answer {
-        LimitsAnswer::Done(limits) => {
-            cases::put_answer(rt, Answer::Done);
+        Ok(limits) => {
+            cases::put_answer(rt, Ok(()));
             put_limits(rt, limits);
         }
-        LimitsAnswer::Refused(why) => {
+        Err(why) => {
             cases::put_refusal(rt, why);
             cases::put_flag(rt, false);
             cases::put_flag(rt, false);
@@ -59,22 +45,9 @@ pub fn put_edit(rt: &impl Print, answer: LimitsAnswer) {
     }
 }
 
-pub fn is_done(answer: LimitsAnswer) -> bool {
-    match answer {
-        LimitsAnswer::Done(_) => true,
-        LimitsAnswer::Refused(_) => false,
-    }
-}
-
-fn next_flag(stdin: &mut impl Read) -> bool {
-    cases::next_byte(stdin) != 0
-}
-
 // A byte each.
-pub fn read_flags(stdin: &mut impl Read, xs: &mut [bool]) {
-    let mut i = 0;
-    while i < xs.len() {
-        xs[i] = next_flag(stdin);
-        i += 1;
+pub fn read_flags(stdin: &mut impl Read, flags: &mut [bool]) {
+    for flag in flags {
+        *flag = cases::next::<u8>(stdin) != 0;
     }
 }

@@ -1,24 +1,33 @@
 // An opening and a list of edits in one call. A case goes on with eight rows, columns, values and ways, where a row or column is a byte and 255 the largest number there
 // is; then the lengths of the slices that are lent: rows, columns, values and ways, and numbers, rows, columns and limits of the answers, which hold 77. The text goes
-// on with the opening's answer, the record handed back, how many edits were given, and the answers' slices.
+// on with the opening's answer, the record handed back and how many edits were given, zeros where it was refused, and the answers' slices.
 use crate::settings::Setting;
 use crate::{edits, settings};
 use edited_list::Listed;
 use parameters::QpPrime;
+use refusal::Refusal;
 use std::io::Read;
 
-fn put_listed(rt: &impl Print, listed: Listed) {
-    let answer = listed.answer;
-    settings::put_count(rt, answer);
-    settings::put_record(rt, listed.block);
-    cases::put(rt, listed.edits as u64);
+fn put_listed(rt: &impl Print, listed: Result<Listed, Refusal>) {
+    match listed {
+        Ok(told) => {
+            settings::put_count(rt, Ok(told.limited));
+            settings::put_record(rt, told.block);
+            cases::put(rt, told.edits as u64);
+        }
+        Err(why) => {
+            settings::put_count(rt, Err(why));
+            settings::put_record(rt, edited_block::zero_block());
+            cases::put(rt, 0);
+        }
+    }
 }
 
 fn put_told(rt: &impl Print, numbers: &[u8], named: &[u8], across: &[u8], limits: &[u8]) {
-    cases::put_bytes(rt, numbers);
-    cases::put_bytes(rt, named);
-    cases::put_bytes(rt, across);
-    cases::put_bytes(rt, limits);
+    cases::put_all(rt, numbers);
+    cases::put_all(rt, named);
+    cases::put_all(rt, across);
+    cases::put_all(rt, limits);
 }
 
 fn flat(
@@ -35,7 +44,7 @@ fn flat(
     named: &mut [u8],
     across: &mut [u8],
     limits: &mut [u8],
-) -> Listed {
+) -> Result<Listed, Refusal> {
     let kind = setting.kind;
     let way = setting.way;
     if way == 0 {
@@ -94,7 +103,7 @@ fn scaled(
     named: &mut [u8],
     across: &mut [u8],
     limits: &mut [u8],
-) -> Listed {
+) -> Result<Listed, Refusal> {
     let kind = setting.kind;
     edited_list::open_levels_scaled_and_edit(
         kind,
@@ -212,9 +221,9 @@ pub fn list(
     let mut columns = [0usize; 8];
     let mut values = [0i32; 8];
     let mut ways = [false; 8];
-    cases::read_short(stdin, &mut rows);
-    cases::read_short(stdin, &mut columns);
-    cases::read_wide(stdin, &mut values);
+    cases::read_named(stdin, &mut rows);
+    cases::read_named(stdin, &mut columns);
+    cases::read_all(stdin, &mut values);
     edits::read_flags(stdin, &mut ways);
     let a = cases::next_length(stdin, 8);
     let b = cases::next_length(stdin, 8);

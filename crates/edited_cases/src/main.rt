@@ -17,7 +17,7 @@ fn replay(rt: &impl Print, stdin: &mut impl Read) -> bool {
     if !cases::copy_text(rt, stdin) {
         return false;
     }
-    let which = cases::next_byte(stdin);
+    let which = cases::next::<u8>(stdin);
     let setting = settings::next(stdin);
     match which {
         0..=2 => borders::replay(rt, stdin, which, setting),
@@ -29,8 +29,9 @@ fn replay(rt: &impl Print, stdin: &mut impl Read) -> bool {
 
 fn main(rt: HostRuntime) {
     let mut stdin = rt.stdin();
-    let mut turns = u64::MAX;
-    while turns > 0 && replay(&rt, &mut stdin) {
-        turns -= 1;
+    for _ in 0..u64::MAX {
+        if !replay(&rt, &mut stdin) {
+            break;
+        }
     }
 }

@@ -27,23 +27,16 @@ struct Edit {
     level: bool,
 }
 
-// What one edit gave, and whether all of it was as it should be.
-#[derive(Clone, Copy)]
-struct Turned {
-    block: EditedBlock,
-    right: bool,
-}
-
 fn next_edits(stdin: &mut impl Read) -> Edits {
     let mut rows = [0usize; 100];
     let mut columns = [0usize; 100];
     let mut values = [0i32; 100];
     let mut places = [0usize; 100];
     let mut ways = [false; 100];
-    cases::read_short(stdin, &mut rows);
-    cases::read_short(stdin, &mut columns);
-    cases::read_wide(stdin, &mut values);
-    cases::read_index(stdin, &mut places);
+    cases::read_named(stdin, &mut rows);
+    cases::read_named(stdin, &mut columns);
+    cases::read_all(stdin, &mut values);
+    cases::read_indices(stdin, &mut places);
     edits::read_flags(stdin, &mut ways);
     Edits {
         rows,
@@ -57,17 +50,12 @@ fn next_edits(stdin: &mut impl Read) -> Edits {
 fn edit_at(edits: Edits, i: usize) -> Edit
     requires { i < 100 }
 {
-    let rows = edits.rows;
-    let columns = edits.columns;
-    let values = edits.values;
-    let places = edits.places;
-    let ways = edits.ways;
     Edit {
-        row: rows[i],
-        column: columns[i],
-        value: values[i],
-        place: places[i],
-        level: ways[i],
+        row: edits.rows[i],
+        column: edits.columns[i],
+        value: edits.values[i],
+        place: edits.places[i],
+        level: edits.ways[i],
     }
 }
 
@@ -76,46 +64,38 @@ fn keep(done: bool, edit: Edit, kept: &mut [i32]) {
     if !done {
         return;
     }
-    let at = edit.place;
-    let value = edit.value;
-    if at < kept.len() {
-        kept[at] = value;
+    if edit.place < kept.len() {
+        kept[edit.place] = edit.value;
     }
 }
 
-// One edit and what is compared after it.
+// One edit and what is compared after it; answers whether all of it was as it should be.
 fn turn(
     rt: &impl Print,
     setting: Setting,
-    block: EditedBlock,
+    block: &mut EditedBlock,
     edit: Edit,
     levels: &mut [i32],
     coeff: &mut [i32],
     inter: &mut [i32],
     residual: &mut [i32],
     kept: &mut [i32],
-) -> Turned {
-    let level = edit.level;
-    let row = edit.row;
-    let column = edit.column;
-    let value = edit.value;
-    let edited = edits::edit(
-        block, level, row, column, value, levels, coeff, inter, residual,
+) -> bool {
+    let answer = edits::edit(
+        block,
+        edit.level,
+        edit.row,
+        edit.column,
+        edit.value,
+        levels,
+        coeff,
+        inter,
+        residual,
     );
-    let after = edited.block;
-    let answer = edited.answer;
     edits::put_edit(rt, answer);
-    cases::put(rt, after.columns as u64);
-    keep(edits::is_done(answer), edit, kept);
-    let right = compare::is_fresh(setting, after, kept, levels, coeff, inter, residual);
-    Turned {
-        block: after,
-        right,
-    }
-}
-
-fn both(a: bool, b: bool) -> bool {
-    a && b
+    cases::put(rt, block.columns as u64);
+    keep(answer.is_ok(), edit, kept);
+    compare::is_fresh(setting, *block, kept, levels, coeff, inter, residual)
 }
 
 // All edits, each with record and buffers as the one before left them.
@@ -132,17 +112,12 @@ fn play(
 ) {
     let mut block = opened;
     let mut right = true;
-    let mut i: usize = 0;
-    while i < 100 {
+    for i in 0..100 {
         let edit = edit_at(edits, i);
         let turned = turn(
-            rt, setting, block, edit, levels, coeff, inter, residual, kept,
+            rt, setting, &mut block, edit, levels, coeff, inter, residual, kept,
         );
-        let more = both(right, turned.right);
-        right = more;
-        let after = turned.block;
-        block = after;
-        i += 1;
+        right = right && turned;
     }
     settings::put_record(rt, block);
     cases::put_same(rt, right);
@@ -200,8 +175,8 @@ fn play_list(
 }
 
 fn read_block(stdin: &mut impl Read, values: &mut [i32]) {
-    let count = cases::next_word(stdin);
-    cases::read_first_wide(stdin, count, values);
+    let count = cases::next::<usize>(stdin);
+    cases::read_first(stdin, count, values);
 }
 
 // A block that is opened on coefficients. Past its n² elements the mark 7 stands.
@@ -217,13 +192,11 @@ fn replay_coefficients(rt: &impl Print, stdin: &mut impl Read, setting: Setting)
     let mut residual = [7i32; 1040];
     let mut unused = [7i32; 1040];
     let opened = settings::open(setting, &coeff, &mut unused, &mut inter, &mut residual);
-    let answer = opened.answer;
-    let block = opened.block;
-    settings::put_count(rt, answer);
+    settings::put_answer(rt, opened);
     play(
         rt,
         setting,
-        block,
+        settings::block_of(opened),
         edits,
         &mut levels,
         &mut coeff,
@@ -256,13 +229,11 @@ fn replay_levels(rt: &impl Print, stdin: &mut impl Read, setting: Setting) {
     let mut inter = [7i32; 1040];
     let mut residual = [7i32; 1040];
     let opened = settings::open(setting, &levels, &mut coeff, &mut inter, &mut residual);
-    let answer = opened.answer;
-    let block = opened.block;
-    settings::put_count(rt, answer);
+    settings::put_answer(rt, opened);
     play(
         rt,
         setting,
-        block,
+        settings::block_of(opened),
         edits,
         &mut levels,
         &mut coeff,

@@ -4,8 +4,7 @@ ghost use Rattle.std.specs.Prelude.{◌≤◌};
 use edited_block::{EditedBlock, Source};
 use level_block::LevelsOpened;
 use parameters::QpPrime;
-use refusal::Answer;
-use scaling_blocks::CountAnswer;
+use refusal::Refusal;
 use std::io::Read;
 use transform_1d::Kind;
 
@@ -28,16 +27,16 @@ fn kind_of(byte: u8) -> Kind {
 }
 
 pub fn next(stdin: &mut impl Read) -> Setting {
-    let kind = kind_of(cases::next_byte(stdin));
-    let n = cases::next_word(stdin);
-    let bit_depth = cases::next_byte(stdin);
-    let extended = cases::next_byte(stdin) != 0;
-    let way = cases::next_byte(stdin);
-    let qp_prime = cases::next_wide(stdin);
-    let dc = cases::next_byte(stdin);
+    let kind = kind_of(cases::next::<u8>(stdin));
+    let n = cases::next::<usize>(stdin);
+    let bit_depth = cases::next::<u8>(stdin);
+    let extended = cases::next::<u8>(stdin) != 0;
+    let way = cases::next::<u8>(stdin);
+    let qp_prime = cases::next::<i32>(stdin);
+    let dc = cases::next::<u8>(stdin);
     let count = cases::next_length(stdin, 64);
     let mut entries = [0u8; 64];
-    cases::read_first_bytes(stdin, count, &mut entries);
+    cases::read_first(stdin, count, &mut entries);
     Setting {
         kind,
         n,
@@ -71,22 +70,15 @@ pub fn record(setting: Setting, columns: usize) -> EditedBlock {
     }
 }
 
-fn counted(answer: Answer) -> CountAnswer {
-    match answer {
-        Answer::Done => CountAnswer::Limited(0),
-        Answer::Refused(why) => CountAnswer::Refused(why),
-    }
-}
-
 fn open_coefficients(
     setting: Setting,
     coeff: &[i32],
     inter: &mut [i32],
     residual: &mut [i32],
-) -> LevelsOpened {
+) -> Result<LevelsOpened, Refusal> {
     let kind = setting.kind;
     let depth = setting.bit_depth;
-    let opened = edited_block::open_block(
+    let block = edited_block::open_block(
         kind,
         setting.n,
         depth,
@@ -94,13 +86,8 @@ fn open_coefficients(
         coeff,
         inter,
         residual,
-    );
-    let answer = opened.answer;
-    let block = opened.block;
-    LevelsOpened {
-        answer: counted(answer),
-        block,
-    }
+    )?;
+    Ok(LevelsOpened { limited: 0, block })
 }
 
 fn open_scaled(
@@ -110,7 +97,7 @@ fn open_scaled(
     coeff: &mut [i32],
     inter: &mut [i32],
     residual: &mut [i32],
-) -> LevelsOpened {
+) -> Result<LevelsOpened, Refusal> {
     let kind = setting.kind;
     let depth = setting.bit_depth;
     level_block::open_levels_scaled(
@@ -132,11 +119,7 @@ fn open_scaled(
 fn entry_count(setting: Setting) -> usize
     ensures { result ≤ 64 }
 {
-    let count = setting.count;
-    if count <= 64 {
-        return count;
-    }
-    64
+    setting.count.min(64)
 }
 
 fn open_with_list(
@@ -145,7 +128,7 @@ fn open_with_list(
     coeff: &mut [i32],
     inter: &mut [i32],
     residual: &mut [i32],
-) -> LevelsOpened {
+) -> Result<LevelsOpened, Refusal> {
     let entries = setting.entries;
     let count = entry_count(setting);
     open_scaled(setting, &entries[0..count], levels, coeff, inter, residual)
@@ -157,7 +140,7 @@ fn open_flat(
     coeff: &mut [i32],
     inter: &mut [i32],
     residual: &mut [i32],
-) -> LevelsOpened {
+) -> Result<LevelsOpened, Refusal> {
     let kind = setting.kind;
     let depth = setting.bit_depth;
     level_block::open_levels(
@@ -180,7 +163,7 @@ pub fn open(
     out: &mut [i32],
     inter: &mut [i32],
     residual: &mut [i32],
-) -> LevelsOpened {
+) -> Result<LevelsOpened, Refusal> {
     let way = setting.way;
     match way {
         0 => open_coefficients(setting, values, inter, residual),
@@ -208,22 +191,44 @@ pub fn put_record(rt: &impl Print, block: EditedBlock) {
     let qp_prime = source.qp_prime;
     let entries = source.entries;
     cases::put_flag(rt, source.levels);
-    cases::put_signed(rt, qp_prime.0);
+    cases::put(rt, qp_prime.0);
     cases::put_flag(rt, source.listed);
     cases::put(rt, source.dc as u64);
-    cases::put_bytes(rt, &entries);
+    cases::put_all(rt, &entries);
 }
 
 // Number, place, row, column, and how many were limited.
-pub fn put_count(rt: &impl Print, answer: CountAnswer) {
+pub fn put_count(rt: &impl Print, answer: Result<u16, Refusal>) {
     match answer {
-        CountAnswer::Limited(k) => {
-            cases::put_answer(rt, Answer::Done);
+        Ok(k) => {
+            cases::put_answer(rt, Ok(()));
             cases::put(rt, k as u64);
         }
-        CountAnswer::Refused(why) => {
+        Err(why) => {
             cases::put_refusal(rt, why);
             cases::put(rt, 0);
         }
     }
+}
+
+// The record of an opening, zeros where it was refused.
+pub fn block_of(opened: Result<LevelsOpened, Refusal>) -> EditedBlock {
+    match opened {
+        Ok(told) => told.block,
+        Err(_) => edited_block::zero_block(),
+    }
+}
+
+// An opening's answer alone.
+pub fn put_answer(rt: &impl Print, opened: Result<LevelsOpened, Refusal>) {
+    match opened {
+        Ok(told) => put_count(rt, Ok(told.limited)),
+        Err(why) => put_count(rt, Err(why)),
+    }
+}
+
+// The answer and the record.
+pub fn put_opened(rt: &impl Print, opened: Result<LevelsOpened, Refusal>) {
+    put_answer(rt, opened);
+    put_record(rt, block_of(opened));
 }

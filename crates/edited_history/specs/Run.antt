@@ -12,15 +12,11 @@ use Rattle.std.specs.Prelude.{◌≡◌, cond, List, [], ◌∷◌, ◌++◌, �
 use Rattle.refusal.specs.Outcome.{Outcome}
 use Rattle.block_rules.specs.declared.EditedBlock.{EditedBlock}
 use Rattle.block_rules.specs.Columns.{column_count}
-use Rattle.block_rules.specs.Edit.{Buffers, Left, edited}
+use Rattle.block_rules.specs.Edit.{Buffers, Left, edited, valued}
 use Rattle.block_rules.specs.Opening.{Opening, opened_as, block_of}
 use Rattle.block_rules.specs.declared.Limits.{Limits}
 use Rattle.block_rules.specs.Level.{LevelLeft, OpenLeft, no_limits, level_edited, level_opened}
 use Rattle.edited_history.specs.History.{Edit, answers_to, history_of, coefficients_of, history_intermediate, history_residual}
-
--- an outcome with another value
-abbrev pub valued : {A : Type 0} → A → Outcome (Unit {0}) → Outcome A
-valued v o = record { number = o.number; place = o.place; row = o.row; column = o.column; value = v }
 
 -- an opening on coefficients limits none
 abbrev pub uncounted : Left → OpenLeft

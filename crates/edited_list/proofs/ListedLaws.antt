@@ -1,6 +1,8 @@
 -- An opening and a list of edits: after an opening that answered 0 the run is the history's, and after a refused one nothing was done.
 --   ran_is_history     the run as the history gives it, in one equation
---   lists_after        an opening and the edits after it are what the call is to hand back
+--   opens_held, opens_held-refused   an opening on coefficients as one of either way
+--   lists_after, lists-refused       an opening and the edits after it, or a refused one, are what the call is to hand back
+use Rattle.std.specs.Prelude.{Result, Ok, Err}
 use mathlib.Core.Path.{◌≡◌, refl, sym, ap, ap₂, subst, ◌∙◌}
 use mathlib.Core.Bool.{Bool, true, false, ◌||◌, cond}
 use mathlib.Core.List.{List, [], ◌∷◌, ◌++◌}
@@ -10,29 +12,28 @@ use borrow.Author.Tests.{ne_eqb}
 use lib.Dec.{ltb}
 use lib.IntN.{ℤ}
 use lib.ListN.{length, take, drop, take-append-drop}
-use Rattle.refusal.specs.declared.Answer.{Answer}
 use Rattle.refusal.specs.declared.Refusal.TheVariants.{SizeInvalid, DepthInvalid, DstSizeInvalid, ListLengthInvalid, InputTooShort, OutputTooShort}
 use Rattle.refusal.specs.Refusal.{number}
-use Rattle.refusal.specs.Outcome.{Outcome, answer}
+use Rattle.refusal.specs.Outcome.{Outcome, accepted, refused, outcome}
 use Rattle.refusal.specs.Condition.{size_refused, depth_refused, list_refused, block_refused}
 use Rattle.refusal.proofs.RefusalLaws.{number_least}
 use Rattle.refusal.proofs.LadderLaws.{first_both}
 use Rattle.refusal.proofs.LadderLaws.Rung.{rung}
+use Rattle.refusal.specs.declared.Refusal.{Refusal}
 use Rattle.coefficients.specs.Outside.{first_outside, refusal_at}
 use Rattle.block_rules.specs.declared.EditedBlock.{EditedBlock}
 use Rattle.transform_1d.specs.Kinds.{dst_refused}
-use Rattle.block_rules.specs.Edit.{Buffers, Left, buffers, zero_block, block_ladder, stopped, opened_buffers, opened, Opens}
+use Rattle.block_rules.specs.Edit.{Buffers, Left, buffers, zero_block, block_ladder, stopped, opened_buffers, opened, valued, Opens}
 use Rattle.block_rules.specs.Opening.{Opening, range_of, opened_as}
-use Rattle.scaling_blocks.specs.declared.CountAnswer.{CountAnswer}
-use Rattle.scaling_blocks.specs.declared.CountAnswer.TheVariants.{Limited, Refused}
-use Rattle.scaling_blocks.specs.Blocks.{entries_of, count_outcome}
-use Rattle.block_rules.specs.Level.{list_of, OpenLeft, open_stopped, level_ladder, level_opened, LevelOpens}
+use Rattle.scaling_blocks.specs.Blocks.{entries_of}
+use Rattle.block_rules.specs.declared.LevelsOpened.{LevelsOpened}
+use Rattle.block_rules.specs.Level.{list_of, OpenLeft, open_stopped, level_ladder, levels_opened, level_opened, LevelOpens}
 use Rattle.edited_history.specs.History.{Edit}
-use Rattle.edited_history.specs.Run.{valued, uncounted, Ran, held_opened, ran_from, ran}
+use Rattle.edited_history.specs.Run.{uncounted, Ran, held_opened, ran_from, ran}
 use Rattle.edited_history.proofs.HistoryLaws.{edits_follow_history}
 use Rattle.edited_steps.specs.declared.Listed.{Listed}
-use Rattle.edited_steps.specs.Steps.{Slices, put, ran_after, RunsAfter}
-use Rattle.edited_list.specs.Listed.{history_ran, listed, Lists}
+use Rattle.edited_steps.specs.Steps.{Slices, put, RunsAfter}
+use Rattle.edited_list.specs.Listed.{history_ran, listed, listed_as, Lists}
 
 -- a list by its first k elements and the others
 halves : {A : Type 0} (k : ℕ) (xs ys zs : List A) → take k xs ≡ ys → drop k xs ≡ zs → xs ≡ ys ++ zs
@@ -91,19 +92,27 @@ opened_coeff o lent =
     ∷ rung (block_refused n (length lent.inter) || block_refused n (length lent.res)) OutputTooShort ∷ rung (ltb first (n * n)) (refusal_at (range_of o) n lent.coeff first) ∷ [])
     (λ e. refl) (λ passed. refl)
 
-pub opens_held : (o : Opening) (levels : List ℤ) (lent : Buffers) (a : Answer) (block : EditedBlock) (g e : List ℤ) → o.source.levels ≡ false → Opens (opened_as o lent) a block g e
-    → (r : CountAnswer) → count_outcome r ≡ valued 0 (answer a) → LevelOpens (held_opened o levels lent) r block lent.coeff g e
-unfolding held_opened
-opens_held o levels lent a block g e w h r told =
-    subst (λ (t : Bool). LevelOpens (cond t (level_opened o levels lent) (uncounted (opened_as o lent))) r block lent.coeff g e) (sym w)
-    (record { answered = told ∙ ap (valued 0) h.answered; block = h.block; coeff = opened_coeff o lent; inter = h.inter; res = h.res })
+-- what an opening on coefficients hands back is what one of either way does, with no coefficient limited
+module _ (o : Opening) (levels : List ℤ) (lent : Buffers) (g e : List ℤ) (w : o.source.levels ≡ false) where
+  held-is : (r : Result LevelsOpened Refusal) → LevelOpens (uncounted (opened_as o lent)) r lent.coeff g e → LevelOpens (held_opened o levels lent) r lent.coeff g e
+  unfolding held_opened
+  held-is r h = subst (λ (t : Bool). LevelOpens (cond t (level_opened o levels lent) (uncounted (opened_as o lent))) r lent.coeff g e) (sym w) h
+
+  pub opens_held : (block : EditedBlock) → Opens (opened_as o lent) (Ok block) g e → LevelOpens (held_opened o levels lent) (Ok (levels_opened 0 block)) lent.coeff g e
+  opens_held block h =
+      held-is (Ok (levels_opened 0 block))
+      (record { answered = ap (λ (a : Outcome EditedBlock). valued (levels_opened 0 a.value) a) h.answered; coeff = opened_coeff o lent; inter = h.inter; res = h.res })
+
+  pub opens_held-refused : (why : Refusal) → Opens (opened_as o lent) (Err why) g e → LevelOpens (held_opened o levels lent) (Err why) lent.coeff g e
+  opens_held-refused why h =
+      held-is (Err why) (record { answered = ap (λ (a : Outcome EditedBlock). valued (levels_opened 0 a.value) a) h.answered; coeff = opened_coeff o lent; inter = h.inter; res = h.res })
 
 -- a run from what an opening handed back and wrote
-ran_from_opening : (o : Opening) (levels : List ℤ) (lent : Buffers) (es : List Edit) (a : CountAnswer) (block : EditedBlock) (d g e : List ℤ) → LevelOpens (held_opened o levels lent) a block d g e
-    → ran_from block levels (buffers d g e) es ≡ ran o levels lent es
+ran_from_opening : (o : Opening) (levels : List ℤ) (lent : Buffers) (es : List Edit) (opened : LevelsOpened) (d g e : List ℤ) → LevelOpens (held_opened o levels lent) (Ok opened) d g e
+    → ran_from opened.block levels (buffers d g e) es ≡ ran o levels lent es
 unfolding ran
-ran_from_opening o levels lent es a block d g e h =
-    ap₂ (λ (b : EditedBlock) (now : Buffers). ran_from b levels now es) h.block (λ k. record { coeff = h.coeff k; inter = h.inter k; res = h.res k })
+ran_from_opening o levels lent es opened d g e h =
+    ap₂ (λ (b : EditedBlock) (now : Buffers). ran_from b levels now es) (ap (λ (a : Outcome LevelsOpened). a.value.block) h.answered) (λ k. record { coeff = h.coeff k; inter = h.inter k; res = h.res k })
 
 abbrev undone : List ℤ → Buffers → Ran
 undone levels lent = record { answers = []; block = zero_block; levels = levels; buffers = lent }
@@ -118,33 +127,36 @@ module _ (o : Opening) (levels : List ℤ) (lent : Buffers) (es : List Edit) whe
   unfolding listed
   listed_done e = rw e
 
-  -- the run after an opening is what the call is to hand back
-  after_is : (a : CountAnswer) (block : EditedBlock) (d g e : List ℤ) → LevelOpens (held_opened o levels lent) a block d g e → ran_after a block levels (buffers d g e) es ≡ listed o levels lent es
-  unfolding ran_after
-  after_is (Limited k) block d g e h =
-      let zero : (held_opened o levels lent).answer.number ≡ 0 = ap (λ (x : Outcome ℕ). x.number) (sym h.answered) in
-      ran_from_opening o levels lent es (Limited k) block d g e h ∙ ran_is_history o levels lent es zero ∙ sym (listed_done zero)
-  after_is (Refused why) block d g e h =
-      let is : number why ≡ (held_opened o levels lent).answer.number = ap (λ (x : Outcome ℕ). x.number) h.answered in
-      let no_zero : (held_opened o levels lent).answer.number ≡ 0 → ⊥ = λ z. omega (arith, number_least why, is, z) in
-      let stop = held-stopped o levels lent no_zero in
-      ap₂ (λ (b : EditedBlock) (now : Buffers). let r : Ran = record { answers = []; block = b; levels = levels; buffers = now } in r) (h.block ∙ stop.0) (written ∙ stop.1)
-      ∙ sym (listed-refused no_zero)
-    where
-      written : buffers d g e ≡ (held_opened o levels lent).buffers
-      written k = record { coeff = h.coeff k; inter = h.inter k; res = h.res k }
-
-  pub lists_after : (s : Slices) (r : Listed) (a : CountAnswer) (block : EditedBlock) (d₀ g₀ e₀ ls d g e : List ℤ) (told : Slices)
-      → LevelOpens (held_opened o levels lent) a block d₀ g₀ e₀ → RunsAfter a block levels (buffers d₀ g₀ e₀) es s r ls d g e told
-      → Lists o levels lent es s r ls (buffers d g e) told
-  lists_after s r a block d₀ g₀ e₀ ls d g e told h w =
-      let is = after_is a block d₀ g₀ e₀ h in
+  pub lists_after : (s : Slices) (r : Listed) (opened : LevelsOpened) (d₀ g₀ e₀ ls d g e : List ℤ) (told : Slices)
+      → LevelOpens (held_opened o levels lent) (Ok opened) d₀ g₀ e₀ → RunsAfter opened levels (buffers d₀ g₀ e₀) es s r ls d g e told
+      → Lists o levels lent es s (Ok r) ls (buffers d g e) told
+  lists_after s r opened d₀ g₀ e₀ ls d g e told h w =
+      let zero : (held_opened o levels lent).answer.number ≡ 0 = ap (λ (x : Outcome LevelsOpened). x.number) (sym h.answered) in
+      let is : ran_from opened.block levels (buffers d₀ g₀ e₀) es ≡ listed o levels lent es = ran_from_opening o levels lent es opened d₀ g₀ e₀ h ∙ ran_is_history o levels lent es zero ∙ sym (listed_done zero) in
       let run = w.runs in
+      let made : r ≡ listed_as opened.limited (listed o levels lent es).block (length (listed o levels lent es).answers) =
+      λ k. listed_as (w.limited k) ((run.block_is ∙ ap (λ (x : Ran). x.block) is) k) ((w.edits ∙ ap (λ (x : Ran). length x.answers) is) k) in
       record {
-        answered = ap count_outcome w.answered ∙ h.answered;
-        edits = w.edits ∙ ap (λ (x : Ran). length x.answers) is;
-        block = run.block_is ∙ ap (λ (x : Ran). x.block) is;
+        answered = ap accepted made
+            ∙ ap (λ (a : Outcome LevelsOpened). valued (listed_as a.value.limited (listed o levels lent es).block (length (listed o levels lent es).answers)) a) h.answered;
         levels_are = run.levels_are ∙ ap (λ (x : Ran). x.levels) is;
         buffers = run.buffers_are ∙ ap (λ (x : Ran). x.buffers) is;
         told_are = run.told_are ∙ ap (λ (x : Ran). put s 0 x.answers) is;
       }
+
+  pub lists-refused : (s : Slices) (why : Refusal) (d g e : List ℤ) → LevelOpens (held_opened o levels lent) (Err why) d g e → Lists o levels lent es s (Err why) levels (buffers d g e) s
+  lists-refused s why d g e h =
+      let is : number why ≡ (held_opened o levels lent).answer.number = ap (λ (x : Outcome LevelsOpened). x.number) h.answered in
+      let no_zero : (held_opened o levels lent).answer.number ≡ 0 → ⊥ = λ z. omega (arith, number_least why, is, z) in
+      let stop = held-stopped o levels lent no_zero in
+      let none : undone levels lent ≡ listed o levels lent es = sym (listed-refused no_zero) in
+      record {
+        answered = ap (λ (a : Outcome LevelsOpened). valued (listed_as a.value.limited zero_block 0) a) h.answered
+            ∙ ap (λ (x : Ran). valued (listed_as (held_opened o levels lent).answer.value x.block (length x.answers)) (held_opened o levels lent).answer) none;
+        levels_are = ap (λ (x : Ran). x.levels) none;
+        buffers = written ∙ stop.1 ∙ ap (λ (x : Ran). x.buffers) none;
+        told_are = ap (λ (x : Ran). put s 0 x.answers) none;
+      }
+    where
+      written : buffers d g e ≡ (held_opened o levels lent).buffers
+      written k = record { coeff = h.coeff k; inter = h.inter k; res = h.res k }

@@ -3,10 +3,12 @@
 --                           elements from n² on as lent
 --   listed                  the same; after a refused opening no edit, the record of zeros, and the buffers as lent
 --   Lists                   what the call hands back is what `listed` says, and the answers stand in its four slices from the start on
-use Rattle.std.specs.Prelude.{◌≡◌, cond, List, [], ◌++◌, ℕ, ◌*◌, eqb, ℤ, length, drop}
-use Rattle.scaling_blocks.specs.Blocks.{count_outcome}
+use Rattle.std.specs.Prelude.{◌≡◌, cond, List, [], ◌++◌, ℕ, ◌*◌, eqb, ℤ, length, drop, Result}
+use Rattle.refusal.specs.declared.Refusal.{Refusal}
+use Rattle.refusal.specs.Outcome.{outcome}
+use Rattle.block_rules.specs.declared.EditedBlock.{EditedBlock}
 use Rattle.block_rules.specs.Columns.{column_count}
-use Rattle.block_rules.specs.Edit.{Buffers, buffers, zero_block}
+use Rattle.block_rules.specs.Edit.{Buffers, buffers, zero_block, valued}
 use Rattle.block_rules.specs.Opening.{Opening, block_of}
 use Rattle.edited_history.specs.History.{Edit, answers_to, coefficients_of, history_intermediate, history_residual}
 use Rattle.edited_history.specs.Run.{Ran, held_opened, history_after}
@@ -29,10 +31,14 @@ unfoldable pub listed : Opening → List ℤ → Buffers → List Edit → Ran
 listed o levels lent es =
     cond (eqb (held_opened o levels lent).answer.number 0) (history_ran o levels lent es) (record { answers = []; block = zero_block; levels = levels; buffers = lent })
 
-pub record Lists (o : Opening) (levels : List ℤ) (lent : Buffers) (es : List Edit) (s : Slices) (r : Listed) (ls : List ℤ) (after : Buffers) (told : Slices) : Type 0 where
-  pub answered : count_outcome r.answer ≡ (held_opened o levels lent).answer
-  pub edits : r.edits ≡ length (listed o levels lent es).answers
-  pub block : r.block ≡ (listed o levels lent es).block
+-- what the call hands back: how many coefficients the opening limited, the record after the last edit, and how many edits there were
+abbrev pub listed_as : ℕ → EditedBlock → ℕ → Listed
+listed_as k block made = record { limited = k; block = block; edits = made }
+
+-- a refused opening hands back nothing, which counts as zeros
+pub record Lists (o : Opening) (levels : List ℤ) (lent : Buffers) (es : List Edit) (s : Slices) (r : Result Listed Refusal) (ls : List ℤ) (after : Buffers) (told : Slices) : Type 0 where
+  pub answered : outcome (listed_as 0 zero_block 0) r
+      ≡ valued (listed_as (held_opened o levels lent).answer.value (listed o levels lent es).block (length (listed o levels lent es).answers)) (held_opened o levels lent).answer
   pub levels_are : ls ≡ (listed o levels lent es).levels
   pub buffers : after ≡ (listed o levels lent es).buffers
   pub told_are : told ≡ put s 0 (listed o levels lent es).answers

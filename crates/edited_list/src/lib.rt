@@ -1,4 +1,5 @@
-// A block that is opened and then edited by a list, lent as slices: what holds of every list of edits, as the contract of one call.
+// A block that is opened and then edited by a list, lent as slices: what holds of every list of edits, as the contract of one call. Where the opening
+// is refused, no edit is made, and the call is refused as the opening.
 #![tactic(auto)]
 
 ghost use Rattle.std.specs.Prelude.{length};
@@ -8,8 +9,10 @@ ghost use Rattle.block_rules.specs.Level.{on_levels, on_scaled_levels};
 ghost use Rattle.edited_steps.specs.Steps.{slices, edit_count, edits_of};
 ghost use Rattle.edited_list.specs.Listed.{Lists};
 
+use block_rules::LevelsOpened;
 pub use edited_steps::Listed;
 use parameters::QpPrime;
+use refusal::Refusal;
 use transform_1d::Kind;
 
 // Opens a block on coefficients and makes a list of edits: edit i puts values[i] at row rows[i] and column columns[i], as a level where ways[i] and as a
@@ -32,7 +35,7 @@ pub fn open_and_edit(
     named: &mut [u8],
     across: &mut [u8],
     limits: &mut [u8],
-) -> Listed
+) -> Result<Listed, Refusal>
     ensures { Lists (on_coefficients kind n bit_depth extended_precision) levels.old (buffers coeff.old inter.old residual.old) (edits_of (edit_count (length rows.now) (length columns.now) (length values.now) (length ways.now) (slices numbers.old named.old across.old limits.old)) rows.now columns.now values.now ways.now) (slices numbers.old named.old across.old limits.old) result levels.new (buffers coeff.new inter.new residual.new) (slices numbers.new named.new across.new limits.new) }
 {
     let opening = edited_block::open_block(
@@ -44,13 +47,14 @@ pub fn open_and_edit(
         inter,
         residual,
     );
-    let answered = opening.answer;
-    let given = edited_steps::uncounted(answered);
-    let block = opening.block;
-    edited_steps::edit_after(
-        given, block, levels, coeff, inter, residual, rows, columns, values, ways, numbers, named,
+    let opened = LevelsOpened {
+        limited: 0,
+        block: opening?,
+    };
+    Ok(edited_steps::edit_after(
+        opened, levels, coeff, inter, residual, rows, columns, values, ways, numbers, named,
         across, limits,
-    )
+    ))
 }
 
 // The same of a block that is opened on levels without a list.
@@ -72,10 +76,10 @@ pub fn open_levels_and_edit(
     named: &mut [u8],
     across: &mut [u8],
     limits: &mut [u8],
-) -> Listed
+) -> Result<Listed, Refusal>
     ensures { Lists (on_levels kind n bit_depth extended_precision qp_prime.0) levels.old (buffers coeff.old inter.old residual.old) (edits_of (edit_count (length rows.now) (length columns.now) (length values.now) (length ways.now) (slices numbers.old named.old across.old limits.old)) rows.now columns.now values.now ways.now) (slices numbers.old named.old across.old limits.old) result levels.new (buffers coeff.new inter.new residual.new) (slices numbers.new named.new across.new limits.new) }
 {
-    let opening = level_block::open_levels(
+    let opened = level_block::open_levels(
         kind,
         n,
         bit_depth,
@@ -85,13 +89,11 @@ pub fn open_levels_and_edit(
         coeff,
         inter,
         residual,
-    );
-    let given = opening.answer;
-    let block = opening.block;
-    edited_steps::edit_after(
-        given, block, levels, coeff, inter, residual, rows, columns, values, ways, numbers, named,
+    )?;
+    Ok(edited_steps::edit_after(
+        opened, levels, coeff, inter, residual, rows, columns, values, ways, numbers, named,
         across, limits,
-    )
+    ))
 }
 
 // The same of a block that is opened on levels with a list.
@@ -115,10 +117,10 @@ pub fn open_levels_scaled_and_edit(
     named: &mut [u8],
     across: &mut [u8],
     limits: &mut [u8],
-) -> Listed
+) -> Result<Listed, Refusal>
     ensures { Lists (on_scaled_levels kind n bit_depth extended_precision qp_prime.0 list.now dc) levels.old (buffers coeff.old inter.old residual.old) (edits_of (edit_count (length rows.now) (length columns.now) (length values.now) (length ways.now) (slices numbers.old named.old across.old limits.old)) rows.now columns.now values.now ways.now) (slices numbers.old named.old across.old limits.old) result levels.new (buffers coeff.new inter.new residual.new) (slices numbers.new named.new across.new limits.new) }
 {
-    let opening = level_block::open_levels_scaled(
+    let opened = level_block::open_levels_scaled(
         kind,
         n,
         bit_depth,
@@ -130,11 +132,9 @@ pub fn open_levels_scaled_and_edit(
         coeff,
         inter,
         residual,
-    );
-    let given = opening.answer;
-    let block = opening.block;
-    edited_steps::edit_after(
-        given, block, levels, coeff, inter, residual, rows, columns, values, ways, numbers, named,
+    )?;
+    Ok(edited_steps::edit_after(
+        opened, levels, coeff, inter, residual, rows, columns, values, ways, numbers, named,
         across, limits,
-    )
+    ))
 }

@@ -1,5 +1,6 @@
 -- The loop over a list of edits: what is left of the run, from the record and the buffers at the loop's head, ends as the whole run does.
 --   Going      its invariant; going_begins, -on and -ends are its needs
+use Rattle.std.specs.Prelude.{Result}
 use mathlib.Core.Path.{◌≡◌, refl, sym, ap, ap₂, ◌∙◌}
 use mathlib.Core.Bool.{Bool}
 use mathlib.Core.List.{List, [], ◌∷◌}
@@ -10,10 +11,12 @@ use lib.IntN.{ℤ}
 use lib.ListN.{length, length-set, get_or, drop, drop_of_length-le}
 use lib.Seq.{drop-cons}
 use Rattle.integers.proofs.ListsLaws.{tabulate-length, tabulate-get_or}
+use Rattle.refusal.specs.Outcome.{outcome}
+use Rattle.refusal.specs.declared.Refusal.{Refusal}
 use Rattle.block_rules.specs.declared.EditedBlock.{EditedBlock}
+use Rattle.block_rules.specs.declared.Limits.{Limits}
 use Rattle.block_rules.specs.Edit.{Buffers, buffers}
-use Rattle.block_rules.specs.declared.LimitsAnswer.{LimitsAnswer}
-use Rattle.block_rules.specs.Level.{LevelLeft, limits_outcome, LevelEdits}
+use Rattle.block_rules.specs.Level.{LevelLeft, LevelEdits, no_limits}
 use Rattle.edited_history.specs.History.{Edit}
 use Rattle.edited_history.specs.Run.{Ran, held_edited, answered_first, ran_from}
 use Rattle.edited_steps.specs.Steps.{Slices, put, put_one, edit_at, edits_of, RunsFrom}
@@ -60,10 +63,10 @@ ran_from-drop b ls now es i e h is = rw (drop-cons es i e h, is)
 module _ {b₀ b : EditedBlock} {lent : Buffers} {es : List Edit} {s₀ s : Slices} {ls₀ ls d g e : List ℤ} {i : ℕ}
     (going : Going b₀ ls₀ lent es s₀ ls d g e s b i) where
   -- one edit more, with what it hands back
-  pub going_on : (t : Edit) → i < length es → get_or es i t ≡ t → (a : LimitsAnswer) (block : EditedBlock) (ls' d' g' e' : List ℤ)
+  pub going_on : (t : Edit) → i < length es → get_or es i t ≡ t → (a : Result Limits Refusal) (block : EditedBlock) (ls' d' g' e' : List ℤ)
       → LevelEdits (held_edited b ls (buffers d g e) t) a block ls' d' g' e'
       → length ls' ≡ length ls → length d' ≡ length d → length g' ≡ length g → length e' ≡ length e
-      → (s' : Slices) → s' ≡ put_one s i (limits_outcome a)
+      → (s' : Slices) → s' ≡ put_one s i (outcome no_limits a)
       → Going b₀ ls₀ lent es s₀ ls' d' g' e' s' block (i + 1)
   going_on t h is a block ls' d' g' e' w ll ld lg le s' one =
       rw add-one

@@ -1,21 +1,19 @@
 -- How many edits there are, and the edits after an opening.
 --   count_ask             the loop has what it relies on
---   runs_none, runs_all   the edits after an opening that was refused, and after one that was not
-use mathlib.Core.Path.{◌≡◌, refl, sym, ap, subst, ◌∙◌}
+--   runs_all              the edits after an opening
+use mathlib.Core.Path.{◌≡◌, refl, sym, ap, ◌∙◌}
 use mathlib.Core.List.{List, [], ◌∷◌}
 use Prim.Native.Nat.{ℕ, suc, ◌≤◌, min}
 use native.Mathlib.Omega.{arith}
 use lib.IntN.{ℤ}
 use lib.ListN.{length}
-use Rattle.refusal.specs.declared.Refusal.{Refusal}
-use Rattle.scaling_blocks.specs.declared.CountAnswer.{CountAnswer}
-use Rattle.scaling_blocks.specs.declared.CountAnswer.TheVariants.{Limited, Refused}
 use Rattle.block_rules.specs.declared.EditedBlock.{EditedBlock}
+use Rattle.block_rules.specs.declared.LevelsOpened.{LevelsOpened}
 use Rattle.block_rules.specs.Edit.{Buffers}
 use Rattle.block_rules.specs.Level.{LevelLeft}
 use Rattle.edited_history.specs.History.{Edit}
 use Rattle.edited_history.specs.Run.{held_edited, ran_from}
-use Rattle.edited_steps.specs.Steps.{Slices, edit_count, ran_after, ListNeeds, RunsFrom, RunsAfter}
+use Rattle.edited_steps.specs.Steps.{Slices, edit_count, ListNeeds, RunsFrom, RunsAfter}
 
 -- a run answers every edit
 ran-length : (es : List Edit) (block : EditedBlock) (levels : List ℤ) (lent : Buffers) → length (ran_from block levels lent es).answers ≡ length es
@@ -49,18 +47,8 @@ count_ask rows columns values ways s =
       limits_long = told.3;
     }
 
--- ---- the edits after an opening, by its answer
-module _ (block : EditedBlock) (levels : List ℤ) (lent : Buffers) (es : List Edit) (s : Slices) where
-  pub runs_none : (given : CountAnswer) (why : Refusal) → given ≡ Refused why
-      → RunsAfter given block levels lent es s (record { answer = Refused why; block = block; edits = 0 }) levels lent.coeff lent.inter lent.res s
-  runs_none given why told = subst (λ (a : CountAnswer). RunsAfter a block levels lent es s (record { answer = Refused why; block = block; edits = 0 }) levels lent.coeff lent.inter lent.res s) (sym told) none
-    where
-      none : RunsAfter (Refused why) block levels lent es s (record { answer = Refused why; block = block; edits = 0 }) levels lent.coeff lent.inter lent.res s
-      none = unfold ran_after in record { answered = refl; edits = refl; runs = record { block_is = refl; levels_are = refl; buffers_are = refl; told_are = refl } }
-
-  pub runs_all : (given : CountAnswer) (k count : ℕ) (last : EditedBlock) (ls d g e : List ℤ) (told : Slices) → given ≡ Limited k → count ≡ length es → RunsFrom (ran_from block levels lent es) s last ls d g e told
-      → RunsAfter given block levels lent es s (record { answer = given; block = last; edits = count }) ls d g e told
-  runs_all given k count last ls d g e told limited made w = subst (λ (a : CountAnswer). RunsAfter a block levels lent es s (record { answer = a; block = last; edits = count }) ls d g e told) (sym limited) all
-    where
-      all : RunsAfter (Limited k) block levels lent es s (record { answer = Limited k; block = last; edits = count }) ls d g e told
-      all = unfold ran_after in record { answered = refl; edits = made ∙ sym (ran-length es block levels lent); runs = w }
+-- ---- the edits after an opening
+pub runs_all : (opened : LevelsOpened) (levels : List ℤ) (lent : Buffers) (es : List Edit) (s : Slices) (count : ℕ) (last : EditedBlock) (ls d g e : List ℤ) (told : Slices) → count ≡ length es
+    → RunsFrom (ran_from opened.block levels lent es) s last ls d g e told
+    → RunsAfter opened levels lent es s (record { limited = opened.limited; block = last; edits = count }) ls d g e told
+runs_all opened levels lent es s count last ls d g e told made w = record { limited = refl; edits = made ∙ sym (ran-length es opened.block levels lent); runs = w }

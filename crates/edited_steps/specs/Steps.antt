@@ -5,15 +5,14 @@
 --   edit_count               as many edits as every slice has
 --   edits_of k rows columns values ways   k edits; the i-th has the i-th row, column and value, and is of a level where the i-th way says so
 --   ListNeeds, RunsFrom       what the loop over the edits relies on, and what it leaves
---   RunsAfter               the same after an opening that answered so; after a refused one, no edit
+--   RunsAfter               the same of the edits after an opening
 use Rattle.std.specs.Prelude.{◌≡◌, Bool, false, cond, List, [], map, ℕ, ◌≤◌, min, ℤ, pos, length, get_or, set}
 use Rattle.std.proofs.lemmas.List.Edits.{sets}
 use Rattle.integers.specs.Lists.{tabulate}
 use Rattle.refusal.specs.Outcome.{Outcome}
-use Rattle.scaling_blocks.specs.declared.CountAnswer.{CountAnswer}
-use Rattle.scaling_blocks.specs.declared.CountAnswer.TheVariants.{Limited, Refused}
 use Rattle.block_rules.specs.declared.EditedBlock.{EditedBlock}
 use Rattle.block_rules.specs.declared.Limits.{Limits}
+use Rattle.block_rules.specs.declared.LevelsOpened.{LevelsOpened}
 use Rattle.block_rules.specs.Edit.{Buffers, buffers}
 use Rattle.edited_history.specs.History.{Edit}
 use Rattle.edited_history.specs.Run.{Ran, ran_from}
@@ -80,12 +79,7 @@ pub record RunsFrom (ran : Ran) (s : Slices) (block : EditedBlock) (ls d g e : L
   pub buffers_are : buffers d g e ≡ ran.buffers
   pub told_are : told ≡ put s 0 ran.answers
 
--- the edits after an opening that answered so
-unfoldable pub ran_after : CountAnswer → EditedBlock → List ℤ → Buffers → List Edit → Ran
-ran_after (Limited k) block levels lent es = ran_from block levels lent es
-ran_after (Refused e) block levels lent es = record { answers = []; block = block; levels = levels; buffers = lent }
-
-pub record RunsAfter (given : CountAnswer) (block : EditedBlock) (levels : List ℤ) (lent : Buffers) (es : List Edit) (s : Slices) (r : Listed) (ls d g e : List ℤ) (told : Slices) : Type 0 where
-  pub answered : r.answer ≡ given
-  pub edits : r.edits ≡ length (ran_after given block levels lent es).answers
-  pub runs : RunsFrom (ran_after given block levels lent es) s r.block ls d g e told
+pub record RunsAfter (opened : LevelsOpened) (levels : List ℤ) (lent : Buffers) (es : List Edit) (s : Slices) (r : Listed) (ls d g e : List ℤ) (told : Slices) : Type 0 where
+  pub limited : r.limited ≡ opened.limited
+  pub edits : r.edits ≡ length (ran_from opened.block levels lent es).answers
+  pub runs : RunsFrom (ran_from opened.block levels lent es) s r.block ls d g e told

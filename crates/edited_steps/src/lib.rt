@@ -2,96 +2,73 @@
 #![tactic(auto)]
 
 ghost use Rattle.std.specs.Prelude.{◌≡◌, min, ◌<◌, length};
-ghost use Rattle.refusal.specs.Outcome.{answer};
+ghost use Rattle.refusal.specs.Outcome.{outcome};
 ghost use Rattle.block_rules.specs.Edit.{buffers};
-ghost use Rattle.edited_history.specs.Run.{valued, held_edited, ran_from};
-ghost use Rattle.scaling_blocks.specs.Blocks.{count_outcome};
-ghost use Rattle.block_rules.specs.Level.{no_limits, limits_outcome, LevelEdits};
+ghost use Rattle.edited_history.specs.Run.{held_edited, ran_from};
+ghost use Rattle.block_rules.specs.Level.{no_limits, LevelEdits};
 ghost use Rattle.edited_steps.specs.Steps.{slices, limits_number, put_one, edit_count, edit_of, edits_of, ListNeeds, RunsFrom, RunsAfter};
 
-use block_rules::{EditedBlock, LevelEditedBlock, Limits, LimitsAnswer};
-use refusal::Answer;
-use scaling_blocks::CountAnswer;
+use block_rules::{EditedBlock, LevelsOpened, Limits};
+use refusal::Refusal;
 
-// What the opening answered, with how many coefficients it limited, the record after the last edit, and how many edits were given to the block.
+// How many coefficients the opening limited, the record after the last edit, and how many edits were given to the block.
 #[derive(Clone, Copy)]
 pub struct Listed {
-    pub answer: CountAnswer,
+    pub limited: u16,
     pub block: EditedBlock,
     pub edits: usize,
 }
 
-fn answer_number(given: LimitsAnswer) -> u8
-    ensures { result ≡ (limits_outcome given).number }
+fn answer_number(given: Result<Limits, Refusal>) -> u8
+    ensures { result ≡ (outcome no_limits given).number }
 {
     match given {
-        LimitsAnswer::Done(_) => 0,
-        LimitsAnswer::Refused(why) => refusal::number(why),
+        Ok(_) => 0,
+        Err(why) => why.number(),
     }
 }
 
-fn answer_row(given: LimitsAnswer) -> u8
-    ensures { result ≡ (limits_outcome given).row }
+fn answer_row(given: Result<Limits, Refusal>) -> u8
+    ensures { result ≡ (outcome no_limits given).row }
 {
     match given {
-        LimitsAnswer::Done(_) => 0,
-        LimitsAnswer::Refused(why) => refusal::row(why),
+        Ok(_) => 0,
+        Err(why) => why.row(),
     }
 }
 
-fn answer_column(given: LimitsAnswer) -> u8
-    ensures { result ≡ (limits_outcome given).column }
+fn answer_column(given: Result<Limits, Refusal>) -> u8
+    ensures { result ≡ (outcome no_limits given).column }
 {
     match given {
-        LimitsAnswer::Done(_) => 0,
-        LimitsAnswer::Refused(why) => refusal::column(why),
+        Ok(_) => 0,
+        Err(why) => why.column(),
     }
 }
 
-fn limits_number(level: bool, res: bool) -> u8
-    ensures { result ≡ limits_number (record { level = level; result = res }) }
+fn limits_number(limits: Limits) -> u8
+    ensures { result ≡ limits_number limits }
 {
-    if level {
-        return if res { 3 } else { 1 };
-    }
-    if res { 2 } else { 0 }
-}
-
-fn answer_limits(given: LimitsAnswer) -> u8
-    ensures { result ≡ limits_number (limits_outcome given).value }
-{
-    match given {
-        LimitsAnswer::Done(l) => limits_number(l.level, l.result),
-        LimitsAnswer::Refused(_) => 0,
+    match (limits.level, limits.result) {
+        (true, true) => 3,
+        (true, false) => 1,
+        (false, true) => 2,
+        (false, false) => 0,
     }
 }
 
-// The answer to an edit of a coefficient, which limits nothing.
-fn unlimited(given: Answer) -> LimitsAnswer
-    ensures { limits_outcome result ≡ valued no_limits (answer given) }
+fn answer_limits(given: Result<Limits, Refusal>) -> u8
+    ensures { result ≡ limits_number (outcome no_limits given).value }
 {
     match given {
-        Answer::Done => LimitsAnswer::Done(Limits {
-            level: false,
-            result: false,
-        }),
-        Answer::Refused(why) => LimitsAnswer::Refused(why),
-    }
-}
-
-// The answer of an opening on coefficients, which limits none.
-pub fn uncounted(given: Answer) -> CountAnswer
-    ensures { count_outcome result ≡ valued 0 (answer given) }
-{
-    match given {
-        Answer::Done => CountAnswer::Limited(0),
-        Answer::Refused(why) => CountAnswer::Refused(why),
+        Ok(limits) => limits_number(limits),
+        Err(_) => 0,
     }
 }
 
 // One answer into the four slices.
 fn put_answer(
-    given: LimitsAnswer,
+    given: Result<Limits, Refusal>,
     i: usize,
     numbers: &mut [u8],
     named: &mut [u8],
@@ -99,18 +76,12 @@ fn put_answer(
     limits: &mut [u8],
 )
     requires { (i < length numbers.old) × (i < length named.old) × (i < length across.old) × (i < length limits.old) }
-    ensures { (slices numbers.new named.new across.new limits.new) ≡ put_one (slices numbers.old named.old across.old limits.old) i (limits_outcome given) }
+    ensures { (slices numbers.new named.new across.new limits.new) ≡ put_one (slices numbers.old named.old across.old limits.old) i (outcome no_limits given) }
 {
     numbers[i] = answer_number(given);
     named[i] = answer_row(given);
     across[i] = answer_column(given);
     limits[i] = answer_limits(given);
-}
-
-fn least(a: usize, b: usize) -> usize
-    ensures { result ≡ min a b }
-{
-    if a < b { a } else { b }
 }
 
 // As many edits as every slice has.
@@ -126,18 +97,17 @@ fn edit_count(
 ) -> usize
     ensures { result ≡ edit_count rows columns values ways (slices numbers.now named.now across.now limits.now) }
 {
-    least(
-        least(least(rows, columns), least(values, ways)),
-        least(
-            least(numbers.len(), named.len()),
-            least(across.len(), limits.len()),
-        ),
+    rows.min(columns).min(values.min(ways)).min(
+        numbers
+            .len()
+            .min(named.len())
+            .min(across.len().min(limits.len())),
     )
 }
 
 // One edit, of a level or of a coefficient.
 fn edit_one(
-    block: EditedBlock,
+    block: &mut EditedBlock,
     levels: &mut [i32],
     coeff: &mut [i32],
     inter: &mut [i32],
@@ -146,26 +116,22 @@ fn edit_one(
     column: usize,
     value: i32,
     level: bool,
-) -> LevelEditedBlock
-    ensures { LevelEdits (held_edited block levels.old (buffers coeff.old inter.old residual.old) (edit_of row column value level)) result.answer result.block levels.new coeff.new inter.new residual.new }
+) -> Result<Limits, Refusal>
+    ensures { LevelEdits (held_edited block.old levels.old (buffers coeff.old inter.old residual.old) (edit_of row column value level)) result block.new levels.new coeff.new inter.new residual.new }
 {
     if level {
-        return level_record::edit_level_by_value(
-            block, levels, coeff, inter, residual, row, column, value,
-        );
+        return level_block::edit_level(block, levels, coeff, inter, residual, row, column, value);
     }
-    let e = edited_record::edit_by_value(block, coeff, inter, residual, row, column, value);
-    let given = e.answer;
-    let after = e.block;
-    LevelEditedBlock {
-        answer: unlimited(given),
-        block: after,
-    }
+    edited_block::edit(block, coeff, inter, residual, row, column, value)?;
+    Ok(Limits {
+        level: false,
+        result: false,
+    })
 }
 
 // Edits from the slices, one after the other; each gets the record and the buffers as the one before left them.
 fn edit_each(
-    block: EditedBlock,
+    block: &mut EditedBlock,
     levels: &mut [i32],
     coeff: &mut [i32],
     inter: &mut [i32],
@@ -179,29 +145,21 @@ fn edit_each(
     across: &mut [u8],
     limits: &mut [u8],
     count: usize,
-) -> EditedBlock
+)
     requires { ListNeeds count (length rows.now) (length columns.now) (length values.now) (length ways.now) (slices numbers.old named.old across.old limits.old) }
-    ensures { RunsFrom (ran_from block levels.old (buffers coeff.old inter.old residual.old) (edits_of count rows.now columns.now values.now ways.now)) (slices numbers.old named.old across.old limits.old) result levels.new coeff.new inter.new residual.new (slices numbers.new named.new across.new limits.new) }
+    ensures { RunsFrom (ran_from block.old levels.old (buffers coeff.old inter.old residual.old) (edits_of count rows.now columns.now values.now ways.now)) (slices numbers.old named.old across.old limits.old) block.new levels.new coeff.new inter.new residual.new (slices numbers.new named.new across.new limits.new) }
 {
-    let mut b = block;
-    let mut i: usize = 0;
-    while i < count {
-        let e = edit_one(
-            b, levels, coeff, inter, residual, rows[i], columns[i], values[i], ways[i],
+    for i in 0..count {
+        let given = edit_one(
+            block, levels, coeff, inter, residual, rows[i], columns[i], values[i], ways[i],
         );
-        let a = e.answer;
-        put_answer(a, i, numbers, named, across, limits);
-        let next = e.block;
-        b = next;
-        i += 1;
+        put_answer(given, i, numbers, named, across, limits);
     }
-    b
 }
 
-// The edits after an opening, none where it was refused.
+// The edits after an opening.
 pub fn edit_after(
-    given: CountAnswer,
-    block: EditedBlock,
+    opened: LevelsOpened,
     levels: &mut [i32],
     coeff: &mut [i32],
     inter: &mut [i32],
@@ -215,15 +173,8 @@ pub fn edit_after(
     across: &mut [u8],
     limits: &mut [u8],
 ) -> Listed
-    ensures { RunsAfter given block levels.old (buffers coeff.old inter.old residual.old) (edits_of (edit_count (length rows.now) (length columns.now) (length values.now) (length ways.now) (slices numbers.old named.old across.old limits.old)) rows.now columns.now values.now ways.now) (slices numbers.old named.old across.old limits.old) result levels.new coeff.new inter.new residual.new (slices numbers.new named.new across.new limits.new) }
+    ensures { RunsAfter opened levels.old (buffers coeff.old inter.old residual.old) (edits_of (edit_count (length rows.now) (length columns.now) (length values.now) (length ways.now) (slices numbers.old named.old across.old limits.old)) rows.now columns.now values.now ways.now) (slices numbers.old named.old across.old limits.old) result levels.new coeff.new inter.new residual.new (slices numbers.new named.new across.new limits.new) }
 {
-    if let CountAnswer::Refused(why) = given {
-        return Listed {
-            answer: CountAnswer::Refused(why),
-            block,
-            edits: 0,
-        };
-    }
     let edits = edit_count(
         rows.len(),
         columns.len(),
@@ -234,13 +185,14 @@ pub fn edit_after(
         across,
         limits,
     );
-    let last = edit_each(
-        block, levels, coeff, inter, residual, rows, columns, values, ways, numbers, named, across,
-        limits, edits,
+    let mut block = opened.block;
+    edit_each(
+        &mut block, levels, coeff, inter, residual, rows, columns, values, ways, numbers, named,
+        across, limits, edits,
     );
     Listed {
-        answer: given,
-        block: last,
+        limited: opened.limited,
+        block,
         edits,
     }
 }

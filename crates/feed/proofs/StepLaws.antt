@@ -1,6 +1,8 @@
 -- What `step` hands back.
 --   long_buffers            what is known where no buffer is too short
---   steps_none, steps_done, steps_refused   of a step without room, of an accepted one and of a refused one
+--   steps_none, steps_taken   of a step without room, and of any other
+--   told                    what `step` answers for a record's answer
+use Rattle.std.specs.Prelude.{Result, Ok, Err, is_ok, MatchResult, IsErrAnd}
 use mathlib.Core.Path.{◌≡◌, refl, sym, ap, ◌∙◌}
 use mathlib.Core.Bool.{false, ◌||◌, true≢false}
 use mathlib.Core.List.{List, []}
@@ -9,9 +11,7 @@ use native.Mathlib.Omega.{arith}
 use borrow.Author.Tests.{ltb-false}
 use lib.Dec.{ltb}
 use lib.ListN.{length}
-use Rattle.refusal.specs.declared.Answer.TheVariants.{Done, Refused}
 use Rattle.refusal.specs.declared.Refusal.{Refusal}
-use Rattle.refusal.specs.Refusal.{number}
 use Rattle.refusal.specs.Outcome.{Outcome, answer}
 use Rattle.refusal.proofs.RefusalLaws.{number_least}
 use Rattle.text.proofs.WroteLaws.{wrote_none, counts}
@@ -24,8 +24,9 @@ use Rattle.feed_state.proofs.StateLaws.{capped_id}
 use Rattle.feed_history.specs.Stepping.{too_short}
 use Rattle.feed_history.specs.Stepping.Room.{too_little, enough}
 use Rattle.integers.proofs.TestLaws.{neither}
-use Rattle.feed.specs.declared.StepAnswer.TheVariants.{Done as StepDone, Refused as StepRefused, NoRoom as StepNoRoom}
-use Rattle.feed.specs.Answers.{Steps}
+use Rattle.feed.specs.declared.StepError.{StepError}
+use Rattle.feed.specs.declared.StepError.TheVariants.{Refused, NoRoom}
+use Rattle.feed.specs.Answers.{step_answer, Steps}
 
 pub long_buffers : (w : Lent) → too_short w ≡ false → Ample w
 unfolding too_short
@@ -37,27 +38,27 @@ long_buffers w e =
 
 -- a step without room
 pub steps_none : (s : State) (w : Lent) (l : List ℕ) → s.blocks ≤ 18446744073709551615 → s.offset ≤ 18446744073709551615
-    → Steps s (record { answer = StepNoRoom; state = s; end = 0 }) w l l (record { answer = too_little; state = state_of s w; text = [] })
+    → Steps s (record { answer = Err NoRoom; state = s; end = 0 }) w l l (record { answer = too_little; state = state_of s w; text = [] })
 steps_none s w l h k = record { answered = refl; state = sym (capped_id (state_of s w) h k); wrote = wrote_none l 0; counts = counts 0 l (omega arith); kept = λ z. refl }
 
-module _ {s : State} {r : Taken} {w : Lent} {l m : List ℕ} {o : Outcome (Effect Buffered)} {room : ℕ} (t : Takes s r w l 0 m o room) (h : room ≤ length m) where
-  pub steps_done : r.answer ≡ Done → Steps s (record { answer = StepDone; state = r.state; end = r.end }) w l m (record { answer = enough (answer_of o); state = o.value.state; text = o.value.text })
-  steps_done e =
-      record {
-        answered = ap enough (ap answer (sym e) ∙ t.answered);
-        state = t.state;
-        wrote = t.text.wrote;
-        counts = counts r.end m (omega (arith, t.text.bound));
-        kept = λ z. absurd (true≢false z);
-      }
+-- a record that was taken, with what `step` answers for its answer
+refused_number : (a : Result (Unit {0}) Refusal) → is_ok a ≡ false → (answer a).number ≡ 0 → ⊥
+refused_number (Ok tt) z e = true≢false z
+refused_number (Err why) z e = omega (arith, number_least why, e)
 
-  pub steps_refused : (why : Refusal) → r.answer ≡ Refused why → Steps s (record { answer = StepRefused why; state = r.state; end = r.end }) w l m (record { answer = enough (answer_of o); state = o.value.state; text = o.value.text })
-  steps_refused why e =
-      let q : answer (Refused why) ≡ answer_of o = ap answer (sym e) ∙ t.answered in
+pub told : (x : Result (Unit {0}) Refusal) (a : Result (Unit {0}) StepError) → MatchResult x (λ u. a ≡ Ok u) (λ why. IsErrAnd a (λ error. error ≡ Refused why)) → step_answer a ≡ enough (answer x)
+told (Ok tt) a h = rw h refl
+told (Err why) (Ok tt) h = absurd h
+told (Err why) (Err error) h = rw h refl
+
+module _ {s : State} {r : Taken} {w : Lent} {l m : List ℕ} {o : Outcome (Effect Buffered)} {room : ℕ} (t : Takes s r w l 0 m o room) (h : room ≤ length m) where
+  pub steps_taken : (a : Result (Unit {0}) StepError) → step_answer a ≡ enough (answer r.answer) → is_ok a ≡ is_ok r.answer
+      → Steps s (record { answer = a; state = r.state; end = r.end }) w l m (record { answer = enough (answer_of o); state = o.value.state; text = o.value.text })
+  steps_taken a e k =
       record {
-        answered = ap enough q;
+        answered = e ∙ ap enough t.answered;
         state = t.state;
         wrote = t.text.wrote;
         counts = counts r.end m (omega (arith, t.text.bound));
-        kept = λ z. t.kept (λ y. let n : number why ≡ 0 = ap (λ (a : Outcome (Unit {0})). a.number) q ∙ y in omega (arith, number_least why, n));
+        kept = λ z. t.kept (λ y. refused_number r.answer (sym k ∙ z) (ap (λ (x : Outcome (Unit {0})). x.number) t.answered ∙ y));
       }

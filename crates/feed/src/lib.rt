@@ -1,35 +1,39 @@
 // The feed: records of parameters, lists, levels, edits and readings in, rows of residuals as text out. On slices; `feed_main` is the program.
 #![tactic(auto)]
 
+ghost use Rattle.std.specs.Prelude.{◌≡◌};
+ghost use Rattle.feed.specs.declared.StepError.TheVariants.{Refused};
+
 use refusal::Refusal;
 
 mod stream;
 
 pub use feed_format::{
-    Given, Mode, Parameters, feed_room, list_ignored, record_length, record_room,
+    List, Mode, Parameters, feed_room, list_ignored, record_length, record_room,
 };
 pub use feed_lines::{Line, blocks_line, refusal_line};
 pub use feed_state::{State, start};
 pub use stream::{run, step};
 
-#[derive(Clone, Copy)]
-pub enum StepAnswer {
-    Done,
+// Why a record was not taken: it was refused, or a buffer was too short for it.
+#[derive(Clone, Copy, Debug, PartialEq, Eq)]
+pub enum StepError {
     Refused(Refusal),
     NoRoom,
+}
+
+impl From<Refusal> for StepError {
+    ghost from_gives = { λ why e. e ≡ Refused why };
+
+    fn from(why: Refusal) -> StepError {
+        StepError::Refused(why)
+    }
 }
 
 // The answer to one record, the state after it, and how many bytes its text took.
 #[derive(Clone, Copy)]
 pub struct Stepped {
-    pub answer: StepAnswer,
+    pub answer: Result<(), StepError>,
     pub state: State,
     pub end: usize,
-}
-
-// Where the text of a whole feed ends; or the buffer was too short for it, and nothing was written.
-#[derive(Clone, Copy)]
-pub enum Ran {
-    Text(usize),
-    NoRoom,
 }

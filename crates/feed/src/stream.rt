@@ -1,6 +1,5 @@
 // A feed's stream of records: one record, and a whole input.
 ghost use Rattle.std.specs.Prelude.{◌≡◌, ◌||◌, ◌≤◌, ltb, length};
-ghost use Rattle.refusal.specs.Outcome.{answer as answer·spec};
 ghost use Rattle.text.specs.Text.{Wrote, Counts};
 ghost use Rattle.feed_format.specs.Room.{feed_room};
 ghost use Rattle.feed_rules.specs.Feed.{feed_text};
@@ -9,9 +8,8 @@ ghost use Rattle.feed_state.specs.Taken.{state_of};
 ghost use Rattle.feed_history.specs.Stepping.{stepping};
 ghost use Rattle.feed.specs.Answers.{Steps, Runs};
 
-use crate::{Ran, StepAnswer, Stepped};
+use crate::{StepError, Stepped};
 use feed_state::State;
-use refusal::Answer;
 
 // Whether a buffer of the open block has no room for the largest block.
 fn too_short(levels: usize, coeff: usize, inter: usize, residual: usize) -> bool
@@ -47,14 +45,14 @@ pub fn step(
 {
     if out.len() < feed_format::record_room(kind) {
         return Stepped {
-            answer: StepAnswer::NoRoom,
+            answer: Err(StepError::NoRoom),
             state,
             end: 0,
         };
     }
     if too_short(levels.len(), coeff.len(), inter.len(), residual.len()) {
         return Stepped {
-            answer: StepAnswer::NoRoom,
+            answer: Err(StepError::NoRoom),
             state,
             end: 0,
         };
@@ -62,29 +60,11 @@ pub fn step(
     let taken = feed_records::take_record(
         state, kind, body, levels, coeff, inter, residual, out, 0,
     );
-    let answer = taken.answer;
-    let next = taken.state;
-    let end = taken.end;
-    match answer {
-        Answer::Done => Stepped {
-            answer: StepAnswer::Done,
-            state: next,
-            end,
-        },
-        Answer::Refused(why) => Stepped {
-            answer: StepAnswer::Refused(why),
-            state: next,
-            end,
-        },
-    }
-}
-
-fn number_of(answer: Answer) -> u8
-    ensures { result ≡ (answer·spec answer).number }
-{
-    match answer {
-        Answer::Done => 0,
-        Answer::Refused(why) => refusal::number(why),
+    let answer = taken.answer.map_err(StepError::Refused);
+    Stepped {
+        answer,
+        state: taken.state,
+        end: taken.end,
     }
 }
 
@@ -103,7 +83,7 @@ fn run_within(input: &[u8], out: &mut [u8]) -> usize
         let at = state.offset as usize;
         let kind = input[at];
         let from = at + 1;
-        let stop = feed_format::least(from + feed_format::record_length(kind), input.len());
+        let stop = (from + feed_format::record_length(kind)).min(input.len());
         let taken = feed_records::take_record(
             state,
             kind,
@@ -115,27 +95,23 @@ fn run_within(input: &[u8], out: &mut [u8]) -> usize
             out,
             end,
         );
-        let answer = taken.answer;
-        let number = number_of(answer);
-        let reached = taken.end;
-        if number != 0 {
-            return feed_lines::put_refused(number, state.offset, out, reached);
+        if let Err(why) = taken.answer {
+            return feed_lines::put_refused(why.number(), state.offset, out, taken.end);
         }
-        let next = taken.state;
-        state = next;
-        end = reached;
+        state = taken.state;
+        end = taken.end;
     }
     let blocks = state.blocks;
     feed_lines::put_blocks(blocks, out, end)
 }
 
 // The text of a whole feed at the start of `out`: the rows of its blocks, each with the count of its limited coefficients, its readings, then the line of
-// a refusal or the number of blocks. With fewer bytes than `feed_room` says, `NoRoom` is answered and the buffer is as lent.
-pub fn run(input: &[u8], out: &mut [u8]) -> Ran
+// a refusal or the number of blocks; the answer is where it ends. With fewer bytes than `feed_room` says it is `None`, and the buffer is as lent.
+pub fn run(input: &[u8], out: &mut [u8]) -> Option<usize>
     ensures { Runs result out.old out.new input.now }
 {
     if out.len() < feed_format::feed_room(input) {
-        return Ran::NoRoom;
+        return None;
     }
-    Ran::Text(run_within(input, out))
+    Some(run_within(input, out))
 }

@@ -3,6 +3,7 @@
 --   opening_fits                   no condition of the opening holds
 --   opened-limited, opened_rows    how many coefficients were limited, and the residual
 --   opens_block                    both, of what a call hands back
+use Rattle.std.specs.Prelude.{Result}
 use mathlib.Core.Path.{◌≡◌, refl, sym, ap, subst, ◌∙◌}
 use mathlib.Core.Bool.{Bool, false, ◌||◌}
 use mathlib.Core.List.{List, []}
@@ -16,22 +17,22 @@ use Rattle.h265.specs.ScalingFactor.{ScalingList}
 use Rattle.h265.specs.ScalingFactor.ScalingList.{flat, listed}
 use Rattle.h265.specs.Limited.{limited_at, limited_count}
 use Rattle.refusal.specs.Condition.{list_refused, block_refused}
-use Rattle.refusal.specs.Outcome.{Outcome}
+use Rattle.refusal.specs.Outcome.{Outcome, outcome}
+use Rattle.refusal.specs.declared.Refusal.{Refusal}
 use Rattle.scaling_values.proofs.CountLaws.{count_cong}
-use Rattle.scaling_blocks.specs.Blocks.{entries_of, count_outcome}
-use Rattle.scaling_blocks.specs.declared.CountAnswer.{CountAnswer}
+use Rattle.scaling_blocks.specs.Blocks.{entries_of}
 use Rattle.transform_1d.specs.declared.Kind.{Kind}
 use Rattle.transform_1d.specs.declared.Kind.TheVariants.{Dct as DctKind, Dst as DstKind}
 use Rattle.transform_1d.specs.Kinds as kinds
 use Rattle.transform_1d.specs.MatrixOf.{matrix_of}
-use Rattle.block_rules.specs.Edit.{Buffers}
+use Rattle.block_rules.specs.Edit.{zero_block, Buffers}
 use Rattle.block_rules.specs.Opening.{Opening}
-use Rattle.block_rules.specs.Level.{list_of, OpenLeft, level_opened, LevelOpens}
+use Rattle.block_rules.specs.declared.LevelsOpened.{LevelsOpened}
+use Rattle.block_rules.specs.Level.{levels_opened, list_of, OpenLeft, level_opened, LevelOpens}
 use Rattle.block_laws.proofs.LevelOpeningLaws.{OpenFits, level_open_is}
 use Rattle.edited_history.specs.History.{history_of, coefficients_of, history_residual}
 use Rattle.edited_history.specs.Run.{held_opened, ran, ran_from, opened_on, history_after}
 use Rattle.edited_history.proofs.HistoryLaws.{edits_follow_history}
-use Rattle.feed_block.specs.declared.BlockOpened.{BlockOpened}
 use Rattle.feed_format.specs.declared.Mode.{Mode}
 use Rattle.feed_format.specs.declared.Parameters.{Parameters}
 use Rattle.feed_format.specs.Format.{level_at, levels_of, dst_refused, list_ignored}
@@ -125,14 +126,14 @@ module _ (kind : Kind) (list : ScalingList) (p : Parameters) (n : ℕ) (body : L
       ∙ same_residual kind list p n (levels_of n body) m
 
   -- what the function that opens a block on a body's levels hands back
-  pub opens_block : {r : BlockOpened} {ans : CountAnswer} {ls d g e : List ℤ} → ls ≡ levels → LevelOpens (level_opened o ls lent) ans r.block d g e → r.limited ≡ (count_outcome ans).value
+  pub opens_block : {r : LevelsOpened} {given : Result LevelsOpened Refusal} {ls d g e : List ℤ} → ls ≡ levels → LevelOpens (level_opened o ls lent) given d g e → r ≡ (outcome (levels_opened 0 zero_block) given).value
       → OpensBlock list p kind n body before lent r ls d g e
-  opens_block {r} {ans} {ls} {d} {g} {e} h opens k =
-      let there : LevelOpens (level_opened o levels lent) ans r.block d g e = subst (λ (xs : List ℤ). LevelOpens (level_opened o xs lent) ans r.block d g e) h opens in
+  opens_block {r} {given} {ls} {d} {g} {e} h opens k =
+      let there : LevelOpens (level_opened o levels lent) given d g e = subst (λ (xs : List ℤ). LevelOpens (level_opened o xs lent) given d g e) h opens in
       record {
         levels_are = h;
-        block = opens.block;
+        block = ap (λ (x : LevelsOpened). x.block) k ∙ ap (λ (a : Outcome LevelsOpened). a.value.block) opens.answered;
         buffers_are = rw (opens.coeff, opens.inter, opens.res) refl;
-        limited = k ∙ ap (λ (a : Outcome ℕ). a.value) there.answered ∙ opened-limited;
+        limited = ap (λ (x : LevelsOpened). x.limited) k ∙ ap (λ (a : Outcome LevelsOpened). a.value.limited) there.answered ∙ opened-limited;
         rows = ap (take (n * n)) there.res ∙ opened_rows;
       }

@@ -1,10 +1,10 @@
 -- What the crate `scaling` does where nothing is refused, and what its coefficients are good for.
---   list_used                      the list by which a block is scaled, by the test of the code
 --   dequantized_out, skipped_out   the output of scaling and of transform skip, and the count
 --   size_ok, block_ok              a size and a buffer that no row refuses
 --   coefficients_in_range          every coefficient lies in its range
+use Rattle.std.specs.Prelude.{Result}
 use mathlib.Core.Path.{◌≡◌, refl, sym, ap, ◌∙◌}
-use mathlib.Core.Bool.{Bool, true, false, not, ◌&&◌, cond}
+use mathlib.Core.Bool.{Bool, true, false, not}
 use mathlib.Core.List.{List}
 use Prim.Native.Nat.{ℕ, ◌*◌, ◌≤◌, ◌<◌}
 use borrow.Author.Tests.{le-ltb}
@@ -16,29 +16,17 @@ use Rattle.integers.proofs.MachineLaws.{lt_z_of_le}
 use Rattle.integers.proofs.ListsLaws.{tabulate-length, tabulate-get_or}
 use Rattle.h265.specs.Range.{is_size, transform_range, clip_coeff, outside_range}
 use Rattle.h265.specs.ScalingFactor.{ScalingList}
-use Rattle.h265.specs.ScalingFactor.ScalingList.{flat}
 use Rattle.h265.specs.Scaling.{scale_level, scaled_at}
 use Rattle.h265.specs.TransformSkip.{skipped_at}
 use Rattle.h265.specs.Limited.{limited_count}
 use Rattle.h265.proofs.RangeLaws.{clip_coeff_between}
-use Rattle.refusal.specs.Outcome.{Outcome}
+use Rattle.refusal.specs.Outcome.{Outcome, outcome}
 use Rattle.refusal.specs.Condition.{size_refused, depth_refused, list_refused, block_refused}
-use Rattle.scaling_blocks.specs.Blocks.{bits32, entries_of, scaling_ladder, block_written, dequantized, transform_skipped, count_outcome, CountWritten, CountWrites, counted}
-use Rattle.scaling_blocks.specs.declared.CountAnswer.{CountAnswer}
-use Rattle.feed_format.specs.declared.Mode.{Mode}
+use Rattle.refusal.specs.declared.Refusal.{Refusal}
+use Rattle.scaling_blocks.specs.Blocks.{bits32, entries_of, scaling_ladder, block_written, dequantized, transform_skipped, CountWritten, CountWrites, counted}
 use Rattle.feed_format.specs.declared.Parameters.{Parameters}
-use Rattle.feed_format.specs.Format.{list_ignored}
-use Rattle.feed_rules.specs.Block.{list_for, coefficients, list_in}
+use Rattle.feed_rules.specs.Block.{coefficients}
 use Rattle.feed_block.specs.Work.{Leaves}
-
-pub list_used : {t : Bool} (mode : Mode) (n : ℕ) (x : Bool) (entries : List ℕ) (d : ℕ) → t ≡ not (list_ignored mode n) && x
-    → list_for mode n (list_in x entries d) ≡ list_in t entries d
-unfolding list_for
-list_used mode n x entries d e = by_test (list_ignored mode n) ∙ sym (ap (λ (u : Bool). list_in u entries d) e)
-  where
-    by_test : (u : Bool) → cond u flat (list_in x entries d) ≡ list_in (not u && x) entries d
-    by_test true = refl
-    by_test false = refl
 
 pub size_ok : (n : ℕ) → T (is_size n) → size_refused n ≡ false
 unfolding size_refused
@@ -64,17 +52,17 @@ module _ (list : ScalingList) (n : ℕ) (q : ℤ) (b : ℕ) (x : Bool) (levels o
   unfolding block_written scaling_ladder
   done at = simp (size_ok n size, depth, list_ok (entries_of list) entries, block_ok n (length levels) input, block_ok n (length out) output)
 
-  leaves : {r : CountAnswer} {after : List ℤ} {m : ℕ} (at : ℕ → ℤ) → CountWrites r after (block_written bits32 list n q b x levels out at) → m ≡ (count_outcome r).value
+  leaves : {r : (Result ℕ Refusal)} {after : List ℤ} {m : ℕ} (at : ℕ → ℤ) → CountWrites r after (block_written bits32 list n q b x levels out at) → m ≡ (outcome 0 r).value
       → Leaves (limited_count list n b x q levels) at (n * n) out after m
   leaves at w e =
       record { out = w.out ∙ ap (λ (c : CountWritten). c.out) (done at); limited = e ∙ ap (λ (o : Outcome ℕ). o.value) (w.answered ∙ ap (λ (c : CountWritten). c.answer) (done at)) }
 
-  pub dequantized_out : {r : CountAnswer} {after : List ℤ} {m : ℕ} → CountWrites r after (dequantized bits32 list n q b x levels out) → m ≡ (count_outcome r).value
+  pub dequantized_out : {r : (Result ℕ Refusal)} {after : List ℤ} {m : ℕ} → CountWrites r after (dequantized bits32 list n q b x levels out) → m ≡ (outcome 0 r).value
       → Leaves (limited_count list n b x q levels) (scaled_at list n b x q levels) (n * n) out after m
   unfolding dequantized
   dequantized_out w e = leaves (scaled_at list n b x q levels) w e
 
-  pub skipped_out : {r : CountAnswer} {after : List ℤ} {m : ℕ} → CountWrites r after (transform_skipped bits32 list n q b x levels out) → m ≡ (count_outcome r).value
+  pub skipped_out : {r : (Result ℕ Refusal)} {after : List ℤ} {m : ℕ} → CountWrites r after (transform_skipped bits32 list n q b x levels out) → m ≡ (outcome 0 r).value
       → Leaves (limited_count list n b x q levels) (skipped_at list n b x q levels) (n * n) out after m
   unfolding transform_skipped
   skipped_out w e = leaves (skipped_at list n b x q levels) w e

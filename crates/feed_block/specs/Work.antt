@@ -10,11 +10,11 @@ use Rattle.h265.specs.ScalingFactor.{ScalingList}
 use Rattle.refusal.specs.Condition.{depth_refused}
 use Rattle.transform_1d.specs.declared.Kind.{Kind}
 use Rattle.block_rules.specs.Edit.{Buffers, buffers}
+use Rattle.block_rules.specs.declared.LevelsOpened.{LevelsOpened}
 use Rattle.block_rules.specs.Level.{level_opened}
 use Rattle.feed_format.specs.declared.Parameters.{Parameters}
 use Rattle.feed_format.specs.Format.{dst_refused, level_at, levels_of}
 use Rattle.feed_rules.specs.Block.{opening_of, block_residual, block_limited}
-use Rattle.feed_block.specs.declared.BlockOpened.{BlockOpened}
 
 pub record Accepted (p : Parameters) (n : ℕ) : Type 0 where
   pub size : T (is_size n)
@@ -25,7 +25,7 @@ pub record Leaves (m : ℕ) (f : ℕ → ℤ) (k : ℕ) (xs ys : List ℤ) (r : 
   pub out : ys ≡ overwrite k f xs
   pub limited : r ≡ m
 
-pub record OpensBlock (list : ScalingList) (p : Parameters) (kind : Kind) (n : ℕ) (body : List ℕ) (levels : List ℤ) (lent : Buffers) (r : BlockOpened) (ls d g e : List ℤ) : Type 0 where
+pub record OpensBlock (list : ScalingList) (p : Parameters) (kind : Kind) (n : ℕ) (body : List ℕ) (levels : List ℤ) (lent : Buffers) (r : LevelsOpened) (ls d g e : List ℤ) : Type 0 where
   pub levels_are : ls ≡ overwrite (n * n) (level_at body) levels
   pub block : r.block ≡ (level_opened (opening_of kind list p n) ls lent).block
   pub buffers_are : buffers d g e ≡ (level_opened (opening_of kind list p n) ls lent).buffers

@@ -5,7 +5,6 @@
 ghost use Rattle.std.specs.Prelude.{◌≤◌, length};
 ghost use Rattle.text.specs.Text.{Counts};
 
-use feed::Ran;
 use std::io::Read;
 use std::rt::Files;
 use std::{env, fs, io};
@@ -34,7 +33,7 @@ fn read_feed(file: &mut impl Read, n: usize, feed: &mut [u8]) -> usize
 
 fn title(rt: &impl Print, number: u64) {
     streams::write_all(rt, b"case ");
-    streams::print_decimal(rt, number);
+    streams::print(rt, number);
     streams::write_all(rt, b"\n");
 }
 
@@ -53,18 +52,17 @@ fn replay(rt: &impl Print, file: &mut impl Read, number: u64) -> bool {
     let there = read_feed(file, n, &mut feed);
     title(rt, number);
     match feed::run(&feed[..there], &mut out) {
-        Ran::Text(end) => streams::write_all(rt, &out[..end]),
-        Ran::NoRoom => streams::write_all(rt, b"no room\n"),
+        Some(end) => streams::write_all(rt, &out[..end]),
+        None => streams::write_all(rt, b"no room\n"),
     }
 }
 
 // All cases of a file.
 fn replay_all(rt: &impl Print, file: &mut impl Read) {
-    let mut number: u64 = 0;
-    let mut going = true;
-    while number < u64::MAX && going {
-        going = replay(rt, file, number);
-        number += 1;
+    for number in 0..u64::MAX {
+        if !replay(rt, file, number) {
+            return;
+        }
     }
 }
 

@@ -1,42 +1,42 @@
 -- Laws of the values in a body.
---   level_low, level_high   a level from its 32 bits, by their highest
+--   machine_is              a level from its 32 bits
 --   level-at                a level from its four bytes
 --   edit-level              the level of an edit from its four bytes
 use mathlib.Core.Path.{◌≡◌, refl, sym, ◌∙◌, ap}
+use mathlib.Core.Bool.{Bool, true, false}
 use mathlib.Core.List.{List}
 use Prim.Native.Nat.{ℕ, zero, suc, ◌+◌, ◌-◌, ◌*◌, ◌≤◌, ◌<◌}
 use native.Mathlib.Omega.{arith}
-use borrow.Author.Tests.{lt-ltb, le-ltb}
-use lib.IntN.{pos, negsuc, ◌-ℤ◌}
+use borrow.Author.Tests.{lt-ltb, le-ltb, ltb-true, ltb-false}
+use lib.Dec.{ltb}
+use lib.IntN.{negsuc}
 use lib.ListN.{get_or, drop}
 use lib.Seq.{get_or-drop}
 use mir.Syntax.{w32}
-use mir.Val.{SFits, to_z, of_z}
-use mir.Facts.{to_z_pos}
-use Rattle.integers.proofs.MachineLaws.{round_trip}
+use mir.Val.{to_z}
+use mir.Facts.{to_z-neg}
 use Rattle.feed_format.specs.Format.{signed32, level_at, edit_level}
 
-pub level_low : (u : ℕ) → u < 2147483648 → to_z w32 u ≡ signed32 u
+level_low : (u : ℕ) → u < 2147483648 → to_z w32 u ≡ signed32 u
 unfolding signed32
 level_low u h = simp (lt-ltb u 2147483648 h)
-
-complement : (m : ℕ) → negsuc 0 -ℤ pos m ≡ negsuc m
-complement zero = refl
-complement (suc m) = ap (λ (x : ℕ). negsuc (suc x)) (omega arith)
 
 high_is : (u : ℕ) → 2147483648 ≤ u → u < 4294967296 → signed32 u ≡ negsuc (4294967295 - u)
 unfolding signed32
 high_is u h k =
     simp (le-ltb u 2147483648 h, lt-ltb u 4294967296 k) (ap negsuc (let e : 4294967296 - suc u ≡ 4294967295 - u = omega arith in e))
 
-machine_is : (u : ℕ) → 2147483648 ≤ u → u < 4294967296 → negsuc 0 -ℤ to_z w32 (4294967295 - u) ≡ negsuc (4294967295 - u)
-machine_is u h k = rw (to_z_pos w32 {n = 4294967295 - u} (omega arith)) (complement (4294967295 - u))
+level_high : (u : ℕ) → 2147483648 ≤ u → u < 4294967296 → to_z w32 u ≡ signed32 u
+level_high u h k =
+    let same : 4294967296 - suc (4294967295 - u) ≡ u = omega arith in
+    rw same at (to_z-neg w32 (4294967295 - u) (omega arith)) ∙ sym (high_is u h k)
 
-pub level_fits : (u : ℕ) → 2147483648 ≤ u → u < 4294967296 → SFits w32 (negsuc 0 -ℤ to_z w32 (4294967295 - u))
-level_fits u h k = rw (machine_is u h k) (record { sfits = omega arith })
-
-pub level_high : (u : ℕ) → 2147483648 ≤ u → u < 4294967296 → to_z w32 (of_z w32 (negsuc 0 -ℤ to_z w32 (4294967295 - u))) ≡ signed32 u
-level_high u h k = round_trip (level_fits u h k) ∙ machine_is u h k ∙ sym (high_is u h k)
+pub machine_is : (u : ℕ) → u < 4294967296 → to_z w32 u ≡ signed32 u
+machine_is u k = by_test (ltb u 2147483648) refl
+  where
+    by_test : (t : Bool) → ltb u 2147483648 ≡ t → to_z w32 u ≡ signed32 u
+    by_test true e = level_low u (ltb-true u 2147483648 e)
+    by_test false e = level_high u (ltb-false u 2147483648 e) k
 
 pub level-at : (body : List ℕ) (at i : ℕ) → at ≡ 4 * i
     → signed32 (get_or body at 0 + 256 * (get_or body (at + 1) 0 + 256 * (get_or body (at + 2) 0 + 256 * get_or body (at + 3) 0))) ≡ level_at body i

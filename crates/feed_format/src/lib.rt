@@ -9,7 +9,7 @@ mod values;
 pub use format::{
     dst_refused, is_unknown, kind_of, list_ignored, mode_of, record_length, record_room,
 };
-pub use room::{capped_sum, feed_room, least};
+pub use room::feed_room;
 pub use values::{edit_level, entries_of, read_levels};
 
 #[derive(Clone, Copy)]
@@ -38,9 +38,9 @@ pub struct Parameters {
     pub mode: Mode,
 }
 
-// The parameters, once there are any.
+// A scaling list: its entries, and DC.
 #[derive(Clone, Copy)]
-pub enum Given {
-    Nothing,
-    These(Parameters),
+pub struct List {
+    pub entries: [u8; 64],
+    pub dc: u8,
 }

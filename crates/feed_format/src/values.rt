@@ -3,28 +3,10 @@ ghost use Rattle.std.specs.Prelude.{◌≡◌, ◌+◌, ◌*◌, ◌≤◌, ◌<
 ghost use Rattle.integers.specs.Lists.{overwrite};
 ghost use Rattle.feed_format.specs.Format.{signed32, level_at, edit_level};
 
-fn wide(byte: u8) -> u32
-    ensures value { result ≡ byte }
-    ensures upper_bound { result < 256 }
-{
-    byte as u32
-}
-
-fn four_bytes(a: u8, b: u8, c: u8, d: u8) -> u32
-    ensures { result ≡ a + 256 * (b + 256 * (c + 256 * d)) }
-{
-    wide(a) + 256 * (wide(b) + 256 * (wide(c) + 256 * wide(d)))
-}
-
-// From 2^31 on the complement is cast, since a cast must lose nothing.
 fn level(a: u8, b: u8, c: u8, d: u8) -> i32
     ensures { result ≡ signed32 (a + 256 * (b + 256 * (c + 256 * d))) }
 {
-    let bits = four_bytes(a, b, c, d);
-    if bits < 2147483648 {
-        return bits as i32;
-    }
-    -1 - (4294967295 - bits) as i32
+    i32::from_le_bytes([a, b, c, d])
 }
 
 // The first `count` levels of a body.
@@ -33,12 +15,9 @@ pub fn read_levels(body: &[u8], count: usize, levels: &mut [i32])
     requires count_in_bounds_2 { count ≤ length levels.old }
     ensures { levels.new ≡ overwrite count (level_at body.now) levels.old }
 {
-    let mut at = 0;
-    let mut i = 0;
-    while i < count {
+    for i in 0..count {
+        let at = 4 * i;
         levels[i] = level(body[at], body[at + 1], body[at + 2], body[at + 3]);
-        at += 4;
-        i += 1;
     }
 }
 
@@ -56,10 +35,6 @@ pub fn entries_of(body: &[u8]) -> [u8; 64]
     ensures { result ≡ take 64 body.now }
 {
     let mut entries = [0u8; 64];
-    let mut i = 0;
-    while i < 64 {
-        entries[i] = body[i];
-        i += 1;
-    }
+    entries.copy_from_slice(&body[..64]);
     entries
 }

@@ -6,6 +6,7 @@
 --   walks_agree                walks by effects that are the same on such states give the same text
 --   follows_start              before the first record
 --   buffers_follow_history     the statement over every feed
+use Rattle.std.specs.Prelude.{Option, Some, None}
 use mathlib.Core.Path.{◌≡◌, refl, sym, ap, ap₂, subst, ◌∙◌}
 use mathlib.Core.Bool.{Bool, true, false, cond}
 use mathlib.Core.List.{List, [], ◌∷◌, ◌++◌}
@@ -47,16 +48,13 @@ use Rattle.feed_format.specs.declared.Kind.TheVariants.{Parameters as Parameters
 use Rattle.feed_format.specs.declared.Mode.{Mode}
 use Rattle.feed_format.specs.declared.Mode.TheVariants.{Dct, Dst, Skip}
 use Rattle.feed_format.specs.declared.Parameters.{Parameters}
-use Rattle.feed_format.specs.declared.Given.{Given}
-use Rattle.feed_format.specs.declared.Given.TheVariants.{Nothing, These}
 use Rattle.feed_format.specs.Format.{kind_of, body_length, record_length, level_at, levels_of, dst_refused, size_known, is_unknown}
 use Rattle.feed_rules.specs.Block.{mode_of_kind, opening_of}
 use Rattle.feed_block.specs.Work.{Accepted}
 use Rattle.feed_format.proofs.FormatLaws.{kind_size}
 use Rattle.feed_block.proofs.OpenLaws.{opened-number, levels_are}
 use Rattle.feed_rules.specs.Record.{FeedState, Effect, unchanged, answered_by, parameter_refused, parameters_effect, list_effect, no_list_effect, block_after, levels_by, levels_effect, edit_effect, reading_effect, body_effect, record_effect}
-use Rattle.feed_state.specs.Buffers.{Held, Lent, Buffered, opened_in, edited_in, read_text, read_in, in_buffers, closed}
-use Rattle.feed_state.specs.Buffers.Held.{none as no_record, block as the-record}
+use Rattle.feed_state.specs.Buffers.{Lent, Buffered, opened_in, edited_in, read_text, read_in, in_buffers, closed}
 use Rattle.feed_state.specs.Taken.{Ample}
 use Rattle.feed_rules.specs.Feed.{text_by, OpenBlock, held_coefficients, History, opened_as, edit_in, edited_by, read_by, in_history, beginning, feed_text}
 use Rattle.feed_rules.specs.Feed.History.{none, block}
@@ -69,11 +67,11 @@ pub record OpenAgrees (b : EditedBlock) (t : OpenBlock) (w : Lent) : Type 0 wher
   pub fits : HeldFits t.opening before lent
   pub agrees : HeldAgrees t.opening before lent (history_of t.opening t.edits t.levels) b w.levels w.buffers
 
-abbrev pub BlockAgrees : Held → History → Lent → Type 0
-BlockAgrees no_record none w = Unit {0}
-BlockAgrees no_record (block t) w = ⊥
-BlockAgrees (the-record b) none w = ⊥
-BlockAgrees (the-record b) (block t) w = OpenAgrees b t w
+abbrev pub BlockAgrees : Option EditedBlock → History → Lent → Type 0
+BlockAgrees None none w = Unit {0}
+BlockAgrees None (block t) w = ⊥
+BlockAgrees (Some b) none w = ⊥
+BlockAgrees (Some b) (block t) w = OpenAgrees b t w
 
 -- what is in the buffers is as long as what was lent at the opening
 record AsLong (first : List ℤ) (lent : Buffers) (ls : List ℤ) (now : Buffers) : Type 0 where
@@ -131,8 +129,8 @@ stays f why = record { number = refl; text = refl; state = f }
 -- ---- each kind of record
 module _ {s : FeedState Buffered} {t : FeedState History} (f : Follows s t) where
   -- a record without a block moves to related states
-  moves : (g : Given) (l m : ScalingList) (k : ℕ) → l ≡ m → entries_of l ≡ 64
-      → Follows (record { given = g; list = l; block = record { held = no_record; lent_are = s.block.lent_are }; blocks = s.blocks; offset = s.offset + 1 + k }) (record { given = g; list = m; block = none; blocks = t.blocks; offset = t.offset + 1 + k })
+  moves : (g : Option Parameters) (l m : ScalingList) (k : ℕ) → l ≡ m → entries_of l ≡ 64
+      → Follows (record { given = g; list = l; block = record { held = None; lent_are = s.block.lent_are }; blocks = s.blocks; offset = s.offset + 1 + k }) (record { given = g; list = m; block = none; blocks = t.blocks; offset = t.offset + 1 + k })
   moves g l m k e w = record { given = refl; list = e; blocks = f.blocks; offset = ap (λ (o : ℕ). o + 1 + k) f.offset; whole = w; ample = f.ample; held = tt }
 
   parameters_same : (body : List ℕ) → Same (parameters_effect in_buffers s body) (parameters_effect in_history t body)
@@ -210,7 +208,7 @@ module _ {s : FeedState Buffered} {t : FeedState History} (f : Follows s t) wher
             offset = ap (λ (k : ℕ). k + 1 + at) f.offset;
             whole = f.whole;
             ample = record { levels = rw (overwrite-length (n * n) (level_at body) before (room f.ample.levels)) f.ample.levels; coeff = rw l.coeff f.ample.coeff; inter = rw l.inter f.ample.inter; res = rw l.res f.ample.res };
-            held = subst (λ (x : ScalingList). BlockAgrees (the-record h.block) (block (record { opening = opening_of kind x p n; levels = levels_of n body; edits = [] })) (record { levels = levels_now; buffers = h.buffers })) f.list opened_agrees;
+            held = subst (λ (x : ScalingList). BlockAgrees (Some h.block) (block (record { opening = opening_of kind x p n; levels = levels_of n body; edits = [] })) (record { levels = levels_now; buffers = h.buffers })) f.list opened_agrees;
           }
 
     block_follows : (mode : Mode) → p.mode ≡ mode
@@ -222,10 +220,10 @@ module _ {s : FeedState Buffered} {t : FeedState History} (f : Follows s t) wher
     block_follows Skip e =
         record { given = f.given; list = f.list; blocks = ap (λ (k : ℕ). k + 1) f.blocks; offset = ap (λ (k : ℕ). k + 1 + 4 * (n * n)) f.offset; whole = f.whole; ample = f.ample; held = tt }
 
-  levels_same : (g : Given) (n : ℕ) (body : List ℕ) → T (is_size n) → Same (levels_by in_buffers g s n body) (levels_by in_history g t n body)
+  levels_same : (g : Option Parameters) (n : ℕ) (body : List ℕ) → T (is_size n) → Same (levels_by in_buffers g s n body) (levels_by in_history g t n body)
   unfolding levels_by
-  levels_same Nothing n body h = stays f LevelsBeforeParameters
-  levels_same (These p) n body h =
+  levels_same None n body h = stays f LevelsBeforeParameters
+  levels_same (Some p) n body h =
       either (depth_refused p.bit_depth) (stays f DepthInvalid)
       (λ d. either (dst_refused p.mode n) (stays f DstSizeInvalid)
       (λ e. record { number = refl; text = rw f.list refl; state = block_follows p n body (record { size = h; depth = d; dst = e }) p.mode refl }))
@@ -261,16 +259,16 @@ module _ {s : FeedState Buffered} {t : FeedState History} (f : Follows s t) wher
 
       -- what an edit answers, and what it leaves where it is accepted
       edited_same : (o : Outcome Limits) (p : Outcome Limits) → o ≡ p
-          → Same (answered_by s (record { number = o.number; place = o.place; row = o.row; column = o.column; value = record { held = the-record left.block; lent_are = record { levels = left.levels; buffers = left.buffers } } }) (λ (h : Buffered). record { text = []; state = past 6 s h }))
+          → Same (answered_by s (record { number = o.number; place = o.place; row = o.row; column = o.column; value = record { held = Some left.block; lent_are = record { levels = left.levels; buffers = left.buffers } } }) (λ (h : Buffered). record { text = []; state = past 6 s h }))
           (answered_by t (record { number = p.number; place = p.place; row = p.row; column = p.column; value = block after }) (λ (h : History). record { text = []; state = past_told 6 t h }))
-      edited_same o p x = subst (λ (z : Outcome Limits). Same (answered_by s (record { number = o.number; place = o.place; row = o.row; column = o.column; value = record { held = the-record left.block; lent_are = record { levels = left.levels; buffers = left.buffers } } }) (λ (h : Buffered). record { text = []; state = past 6 s h })) (answered_by t (record { number = z.number; place = z.place; row = z.row; column = z.column; value = block after }) (λ (h : History). record { text = []; state = past_told 6 t h }))) x
+      edited_same o p x = subst (λ (z : Outcome Limits). Same (answered_by s (record { number = o.number; place = o.place; row = o.row; column = o.column; value = record { held = Some left.block; lent_are = record { levels = left.levels; buffers = left.buffers } } }) (λ (h : Buffered). record { text = []; state = past 6 s h })) (answered_by t (record { number = z.number; place = z.place; row = z.row; column = z.column; value = block after }) (λ (h : History). record { text = []; state = past_told 6 t h }))) x
           (record { number = refl; text = text (eqb o.number 0); state = state (eqb o.number 0) })
         where
-          text : (z : Bool) → (cond z (record { text = []; state = past 6 s (record { held = the-record left.block; lent_are = record { levels = left.levels; buffers = left.buffers } }) }) (unchanged s)).text ≡ (cond z (record { text = []; state = past_told 6 t (block after) }) (unchanged t)).text
+          text : (z : Bool) → (cond z (record { text = []; state = past 6 s (record { held = Some left.block; lent_are = record { levels = left.levels; buffers = left.buffers } }) }) (unchanged s)).text ≡ (cond z (record { text = []; state = past_told 6 t (block after) }) (unchanged t)).text
           text true = refl
           text false = refl
 
-          state : (z : Bool) → Follows (cond z (record { text = []; state = past 6 s (record { held = the-record left.block; lent_are = record { levels = left.levels; buffers = left.buffers } }) }) (unchanged s)).state (cond z (record { text = []; state = past_told 6 t (block after) }) (unchanged t)).state
+          state : (z : Bool) → Follows (cond z (record { text = []; state = past 6 s (record { held = Some left.block; lent_are = record { levels = left.levels; buffers = left.buffers } }) }) (unchanged s)).state (cond z (record { text = []; state = past_told 6 t (block after) }) (unchanged t)).state
           state true = record { given = f.given; list = f.list; blocks = f.blocks; offset = ap (λ (k : ℕ). k + 1 + 6) f.offset; whole = f.whole; ample = edit_ample; held = record { before = q.before; lent = q.lent; fits = q.fits; agrees = edit-held } }
           state false = f
 
@@ -289,12 +287,12 @@ module _ {s : FeedState Buffered} {t : FeedState History} (f : Follows s t) wher
   abbrev after_edit_told : History → Effect History
   after_edit_told x = record { text = []; state = record { given = t.given; list = t.list; block = x; blocks = t.blocks; offset = t.offset + 1 + 6 } }
 
-  edit_by : (h : Held) (k : History) → BlockAgrees h k s.block.lent_are → (body : List ℕ) → Same (answered_by s (edited_in h s.block body) after_edit) (answered_by t (edited_by k body) after_edit_told)
+  edit_by : (h : Option EditedBlock) (k : History) → BlockAgrees h k s.block.lent_are → (body : List ℕ) → Same (answered_by s (edited_in h s.block body) after_edit) (answered_by t (edited_by k body) after_edit_told)
   unfolding edited_in edited_by held_edited
-  edit_by no_record none a body = record { number = refl; text = refl; state = f }
-  edit_by no_record (block u) a body = absurd a
-  edit_by (the-record b) none a body = absurd a
-  edit_by (the-record b) (block u) a body = edited_same b u a (edit_in body) _ _ (edit-answer b u a (edit_in body))
+  edit_by None none a body = record { number = refl; text = refl; state = f }
+  edit_by None (block u) a body = absurd a
+  edit_by (Some b) none a body = absurd a
+  edit_by (Some b) (block u) a body = edited_same b u a (edit_in body) _ _ (edit-answer b u a (edit_in body))
 
   edit_same : (body : List ℕ) → Same (edit_effect in_buffers s body) (edit_effect in_history t body)
   unfolding edit_effect
@@ -306,12 +304,12 @@ module _ {s : FeedState Buffered} {t : FeedState History} (f : Follows s t) wher
   abbrev after_reading_told : List ℕ → Effect History
   after_reading_told rows = record { text = rows; state = record { given = t.given; list = t.list; block = t.block; blocks = t.blocks; offset = t.offset + 1 + 0 } }
 
-  reading_by : (h : Held) (k : History) → BlockAgrees h k s.block.lent_are → Same (answered_by s (read_in h s.block) after_reading) (answered_by t (read_by k) after_reading_told)
+  reading_by : (h : Option EditedBlock) (k : History) → BlockAgrees h k s.block.lent_are → Same (answered_by s (read_in h s.block) after_reading) (answered_by t (read_by k) after_reading_told)
   unfolding read_in read_by
-  reading_by no_record none a = record { number = refl; text = refl; state = f }
-  reading_by no_record (block u) a = absurd a
-  reading_by (the-record b) none a = absurd a
-  reading_by (the-record b) (block u) a =
+  reading_by None none a = record { number = refl; text = refl; state = f }
+  reading_by None (block u) a = absurd a
+  reading_by (Some b) none a = absurd a
+  reading_by (Some b) (block u) a =
       rw (sized b u a)
       (record { number = refl; text = read_rows b u a; state = record { given = f.given; list = f.list; blocks = f.blocks; offset = ap (λ (k : ℕ). k + 1 + 0) f.offset; whole = f.whole; ample = f.ample; held = f.held } })
 
@@ -324,7 +322,7 @@ module _ {s : FeedState Buffered} {t : FeedState History} (f : Follows s t) wher
   body_same ParametersKind body z h = parameters_same body
   body_same ListKind body z h = list_same body h
   body_same NoList body z h = no_list_same
-  body_same (Levels n) body z h = subst (λ (g : Given). Same (levels_by in_buffers s.given s n body) (levels_by in_history g t n body)) f.given (levels_same s.given n body z)
+  body_same (Levels n) body z h = subst (λ (g : Option Parameters). Same (levels_by in_buffers s.given s n body) (levels_by in_history g t n body)) f.given (levels_same s.given n body z)
   body_same EditKind body z h = edit_same body
   body_same Reading body z h = reading_same
   body_same Unknown body z h = stays f KindUnknown

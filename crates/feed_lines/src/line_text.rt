@@ -60,7 +60,7 @@ pub fn refusal_line(refusal: Refusal, offset: u64) -> Line
     ensures { Lines result (refused_text (number refusal) offset) }
 {
     let mut bytes = [0u8; 40];
-    let end = put_refused(refusal::number(refusal), offset, &mut bytes, 0);
+    let end = put_refused(refusal.number(), offset, &mut bytes, 0);
     Line { bytes, end }
 }
 

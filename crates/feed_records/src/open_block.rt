@@ -1,5 +1,5 @@
 // The block that a feed holds open: opened by a levels record, edited, and read.
-ghost use Rattle.std.specs.Prelude.{◌≡◌, ◌+◌, ◌*◌, ◌≤◌, length};
+ghost use Rattle.std.specs.Prelude.{◌≡◌, Some, ◌+◌, ◌*◌, ◌≤◌, length};
 ghost use Rattle.feed_format.specs.Format.{text_room};
 ghost use Rattle.feed_rules.specs.Block.{mode_of_kind};
 ghost use Rattle.feed_rules.specs.Record.{levels_by, edit_effect};
@@ -8,9 +8,8 @@ ghost use Rattle.feed_state.specs.Taken.{state_of, Ample, Takes, Quiet};
 ghost use Rattle.feed_block.specs.Work.{Accepted};
 ghost use Rattle.feed_records.specs.Work.{Reads};
 
-use feed_format::{Given, Kind, Parameters};
-use feed_state::{State, Taken, kept, moved, one_more, with_open};
-use level_block::LimitsAnswer;
+use feed_format::{Kind, Parameters};
+use feed_state::{State, Taken, kept, moved, with_open};
 use refusal::Refusal;
 
 // A block by a transform, which stays open.
@@ -31,13 +30,14 @@ pub(crate) fn take_opened(
     requires n_in_bounds { 4 * (n * n) ≤ length body.now }
     requires ample { Ample (lent levels.old coeff.old inter.old residual.old) }
     requires n_in_bounds_2 { at + text_room (Kind.Levels n) ≤ length out.old }
-    ensures { Takes s result (lent levels.new coeff.new inter.new residual.new) out.old at out.new (levels_by in_buffers (Given.These p) (state_of s (lent levels.old coeff.old inter.old residual.old)) n body.now) (text_room (Kind.Levels n)) }
+    ensures { Takes s result (lent levels.new coeff.new inter.new residual.new) out.old at out.new (levels_by in_buffers (Some p) (state_of s (lent levels.old coeff.old inter.old residual.old)) n body.now) (text_room (Kind.Levels n)) }
 {
     let opened = feed_block::open_body(s, p, kind, n, body, levels, coeff, inter, residual);
-    let limited = opened.limited;
-    let after = opened.block;
-    let end = feed_lines::put_rows(residual, n, limited, out, at);
-    moved(with_open(s, after, one_more(s.blocks), 4 * (n * n)), end)
+    let end = feed_lines::put_rows(residual, n, opened.limited, out, at);
+    moved(
+        with_open(s, opened.block, s.blocks.saturating_add(1), 4 * (n * n)),
+        end,
+    )
 }
 
 fn index(byte: u8) -> usize
@@ -59,22 +59,18 @@ pub(crate) fn take_edit(
     requires { 6 ≤ length body.now }
     ensures { Quiet s result (lent levels.new coeff.new inter.new residual.new) at (edit_effect in_buffers (state_of s (lent levels.old coeff.old inter.old residual.old)) body.now) }
 {
-    let editing = s.editing;
-    if !editing {
+    let Some(mut held) = s.held else {
         return kept(s, Refusal::BlockMissing, at);
-    }
+    };
     let row = index(body[0]);
     let column = index(body[1]);
     let level = feed_format::edit_level(body);
-    let held = s.block;
-    let edited = level_record::edit_level_by_value(
-        held, levels, coeff, inter, residual, row, column, level,
+    let edited = level_block::edit_level(
+        &mut held, levels, coeff, inter, residual, row, column, level,
     );
-    let answer = edited.answer;
-    let after = edited.block;
-    match answer {
-        LimitsAnswer::Done(_) => moved(with_open(s, after, s.blocks, 6), at),
-        LimitsAnswer::Refused(why) => kept(s, why, at),
+    match edited {
+        Ok(_) => moved(with_open(s, held, s.blocks, 6), at),
+        Err(why) => kept(s, why, at),
     }
 }
 
@@ -84,11 +80,9 @@ pub(crate) fn take_reading(s: State, residual: &[i32], out: &mut [u8], at: usize
     requires text_room_in_bounds { at + text_room Kind.Reading ≤ length out.old }
     ensures { Reads s result residual.now out.old at out.new }
 {
-    let editing = s.editing;
-    if !editing {
+    let Some(held) = s.held else {
         return kept(s, Refusal::BlockMissing, at);
-    }
-    let held = s.block;
+    };
     let n = held.size;
     let columns = held.columns;
     if refusal::size_refused(n) {

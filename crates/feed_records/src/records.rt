@@ -1,5 +1,5 @@
 // What one record does: a function for each kind, below the question of room.
-ghost use Rattle.std.specs.Prelude.{◌≡◌, ◌+◌, ◌*◌, ◌≤◌, T, length};
+ghost use Rattle.std.specs.Prelude.{◌≡◌, Some, ◌+◌, ◌*◌, ◌≤◌, T, length};
 ghost use Rattle.h265.specs.Range.{is_size};
 ghost use Rattle.feed_format.specs.Format.{text_room, record_room};
 ghost use Rattle.feed_rules.specs.Record.{levels_by, levels_effect, body_effect, record_effect};
@@ -9,7 +9,7 @@ ghost use Rattle.feed_block.specs.Work.{Accepted};
 ghost use Rattle.feed_records.specs.Work.{Whole, Skips};
 
 use crate::open_block;
-use feed_format::{Given, Kind, Mode, Parameters};
+use feed_format::{Kind, Mode, Parameters};
 use feed_state::{State, Taken, kept, moved, with_closed};
 use refusal::Refusal;
 
@@ -43,7 +43,7 @@ fn take_block(
     requires n_in_bounds { 4 * (n * n) ≤ length body.now }
     requires ample { Ample (lent levels.old coeff.old inter.old residual.old) }
     requires n_in_bounds_2 { at + text_room (Kind.Levels n) ≤ length out.old }
-    ensures { Takes s result (lent levels.new coeff.new inter.new residual.new) out.old at out.new (levels_by in_buffers (Given.These p) (state_of s (lent levels.old coeff.old inter.old residual.old)) n body.now) (text_room (Kind.Levels n)) }
+    ensures { Takes s result (lent levels.new coeff.new inter.new residual.new) out.old at out.new (levels_by in_buffers (Some p) (state_of s (lent levels.old coeff.old inter.old residual.old)) n body.now) (text_room (Kind.Levels n)) }
 {
     if refusal::depth_refused(p.bit_depth) {
         return kept(s, Refusal::DepthInvalid, at);
@@ -102,8 +102,8 @@ fn take_levels(
 {
     let given = s.given;
     match given {
-        Given::Nothing => kept(s, Refusal::LevelsBeforeParameters, at),
-        Given::These(p) => take_block(s, p, n, body, levels, coeff, inter, residual, out, at),
+        None => kept(s, Refusal::LevelsBeforeParameters, at),
+        Some(p) => take_block(s, p, n, body, levels, coeff, inter, residual, out, at),
     }
 }
 

@@ -1,5 +1,6 @@
 -- Laws of what one record does, however the open block is kept.
 --   Moved, effect_moved   it counts one block at most; where it is accepted, the offset moves past its kind and its body, which is whole
+use Rattle.std.specs.Prelude.{Option, Some, None}
 use mathlib.Core.Path.{◌≡◌, refl, sym, ◌∙◌}
 use mathlib.Core.Bool.{Bool, true, false, cond, true≢false}
 use mathlib.Core.List.{List, []}
@@ -13,10 +14,9 @@ use Rattle.refusal.specs.declared.Refusal.{Refusal}
 use Rattle.refusal.specs.declared.Refusal.TheVariants.{DepthInvalid, DstSizeInvalid, KindUnknown, BodyTooShort, LevelsBeforeParameters, ParameterInvalid}
 use Rattle.refusal.specs.Outcome.{Outcome, refused}
 use Rattle.refusal.proofs.RefusalLaws.{number_least}
+use Rattle.feed_format.specs.declared.Parameters.{Parameters}
 use Rattle.feed_format.specs.declared.Kind.{Kind}
-use Rattle.feed_format.specs.declared.Kind.TheVariants.{Parameters, List as ListKind, NoList, Levels, Edit, Reading, Unknown}
-use Rattle.feed_format.specs.declared.Given.{Given}
-use Rattle.feed_format.specs.declared.Given.TheVariants.{Nothing, These}
+use Rattle.feed_format.specs.declared.Kind.TheVariants.{Parameters as ParametersKind, List as ListKind, NoList, Levels, Edit, Reading, Unknown}
 use Rattle.feed_format.specs.Format.{kind_of, is_unknown, body_length, record_length, dst_refused}
 use Rattle.feed_rules.specs.Record.{FeedState, Effect, Keeper, unchanged, behind, answered_by, parameter_refused, parameters_effect, list_effect, no_list_effect, levels_by, levels_effect, edit_effect, reading_effect, body_effect, record_effect}
 
@@ -33,10 +33,10 @@ module _ {H : Type 0} (g : Keeper H) where
   stays : {s : FeedState H} {len : ℕ} (why : Refusal) → Moves s len (refused (unchanged s) why)
   stays why = record { blocks = omega arith; offset = λ z. absurd (omega (arith, number_least why)) }
 
-  levels_moves : (k : Given) (s : FeedState H) (n : ℕ) (body : List ℕ) → Moves s (body_length (Levels n)) (levels_by g k s n body)
+  levels_moves : (k : Option Parameters) (s : FeedState H) (n : ℕ) (body : List ℕ) → Moves s (body_length (Levels n)) (levels_by g k s n body)
   unfolding levels_by
-  levels_moves Nothing s n body = stays LevelsBeforeParameters
-  levels_moves (These p) s n body =
+  levels_moves None s n body = stays LevelsBeforeParameters
+  levels_moves (Some p) s n body =
       either (depth_refused p.bit_depth) (stays DepthInvalid)
       (either (dst_refused p.mode n) (stays DstSizeInvalid)
       (record { blocks = omega arith; offset = λ z. refl }))
@@ -52,7 +52,7 @@ module _ {H : Type 0} (g : Keeper H) where
 
   body_moves : (kind : Kind) (s : FeedState H) (body : List ℕ) → Moves s (body_length kind) (body_effect g kind s body)
   unfolding body_effect parameters_effect list_effect no_list_effect levels_effect edit_effect reading_effect
-  body_moves Parameters s body =
+  body_moves ParametersKind s body =
       either (depth_refused (get_or body 0 0)) (stays DepthInvalid)
       (either (parameter_refused body) (stays ParameterInvalid)
       (record { blocks = omega arith; offset = λ z. refl }))

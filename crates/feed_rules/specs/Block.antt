@@ -1,6 +1,6 @@
 -- The residual of one block of a feed, by the parameters and the list in force. docs/RULES.md, "The feed"; clause 8.6 in `h265`.
 -- Letters: n size, p the parameters, levels the block's levels in row order.
---   list_in on entries d        the list in force: entries with DC number d, or none
+--   list_in l                   the list in force, if there is one: its entries with their DC number
 --   list_for mode n list        the list by which a block is scaled, where `list` is in force
 --   coefficients list p n      the scaled levels
 --   transformed_at t b x n      the residual at an index, of coefficients by a matrix t
@@ -10,7 +10,7 @@
 --   block_limited list p n      how many of its coefficients were limited. Change request R-6
 --   mode_of_kind kind            the mode of a transform: DCT or DST
 --   opening_of kind list p n    what a block of levels is opened with, so that it can be edited: the parameters, and the list in force. Change request R-14
-use Rattle.std.specs.Prelude.{Bool, true, false, cond, List, ℕ, ◌*◌, ℤ, pos, replicate}
+use Rattle.std.specs.Prelude.{Bool, true, false, cond, List, Option, Some, None, ℕ, ◌*◌, ℤ, pos, replicate}
 use Rattle.integers.specs.Lists.{tabulate}
 use Rattle.h265.specs.Range.{transform_range}
 use Rattle.h265.specs.ScalingFactor.{ScalingList}
@@ -23,14 +23,15 @@ use Rattle.h265.specs.Transform.{residual, row_order}
 use Rattle.transform_1d.specs.declared.Kind.{Kind}
 use Rattle.transform_1d.specs.declared.Kind.TheVariants.{Dct as DctKind, Dst as DstKind}
 use Rattle.block_rules.specs.Opening.{Opening}
+use Rattle.feed_format.specs.declared.List.{List as FeedList}
 use Rattle.feed_format.specs.declared.Mode.{Mode}
 use Rattle.feed_format.specs.declared.Mode.TheVariants.{Dct, Dst, Skip}
 use Rattle.feed_format.specs.declared.Parameters.{Parameters}
 use Rattle.feed_format.specs.Format.{list_ignored}
 
-abbrev pub list_in : Bool → List ℕ → ℕ → ScalingList
-list_in true entries d = listed entries d
-list_in false entries d = flat
+abbrev pub list_in : Option FeedList → ScalingList
+list_in (Some l) = listed l.entries l.dc
+list_in None = flat
 
 unfoldable pub list_for : Mode → ℕ → ScalingList → ScalingList
 list_for mode n list = cond (list_ignored mode n) flat list

@@ -3,13 +3,12 @@
 --   Case           what a definition gives, and what is expected of it
 --   examples       the list of cases
 --   ExamplesHold   the statement: every definition gives what is expected of it
-use Rattle.std.specs.Prelude.{◌≡◌, List, [], ◌∷◌, ◌++◌, map, ℕ, ◌/◌, ◌%◌, replicate}
+use Rattle.std.specs.Prelude.{◌≡◌, List, [], ◌∷◌, ◌++◌, map, ℕ, ◌/◌, ◌%◌, replicate, None}
 use Prim.Native.Char.{code}
 use Prim.Native.String.{String, len, char_at}
 use Rattle.integers.specs.Lists.{tabulate}
 use Rattle.h265.specs.ScalingFactor.ScalingList.{flat}
 use Rattle.refusal.specs.Outcome.{Outcome}
-use Rattle.feed_format.specs.declared.Given.TheVariants.{Nothing}
 use Rattle.feed_rules.specs.Record.{FeedState, Effect, record_effect}
 use Rattle.feed_rules.specs.Feed.{History, in_history, feed_text}
 use Rattle.feed_rules.specs.Feed.History.{none}
@@ -55,7 +54,7 @@ feed gives text = record { found = feed_text feed; expected = bytes text }
 -- a record by itself, behind three blocks and 70 bytes: its number, and the blocks and the offset after it
 leaves : ℕ → List ℕ → List ℕ → Case
 leaves k body expected =
-    let s : FeedState History = record { given = Nothing; list = flat; block = none; blocks = 3; offset = 70 } in
+    let s : FeedState History = record { given = None; list = flat; block = none; blocks = 3; offset = 70 } in
     let o : Outcome (Effect History) = record_effect in_history s k body in
     record { found = o.number ∷ o.value.state.blocks ∷ o.value.state.offset ∷ []; expected = expected }
 

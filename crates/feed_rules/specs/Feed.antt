@@ -7,7 +7,7 @@
 --   History, in_history          the open block, if there is one; and how it is kept
 --   beginning h                 the state before the first record
 --   feed_text bytes              the text of a whole feed
-use Rattle.std.specs.Prelude.{Bool, cond, List, [], ◌∷◌, ◌++◌, ℕ, zero, suc, ◌+◌, eqb, ℤ, length, take, drop}
+use Rattle.std.specs.Prelude.{Bool, cond, List, [], ◌∷◌, ◌++◌, ℕ, zero, suc, ◌+◌, eqb, ℤ, length, take, drop, None}
 use Rattle.h265.specs.ScalingFactor.{ScalingList}
 use Rattle.h265.specs.ScalingFactor.ScalingList.{flat}
 use Rattle.refusal.specs.declared.Refusal.TheVariants.{BlockMissing}
@@ -19,7 +19,6 @@ use Rattle.block_rules.specs.declared.Limits.{Limits}
 use Rattle.edited_history.specs.History.{Edit, answer_to, history_of, coefficients_of, history_residual}
 use Rattle.text.specs.Text.{block_text}
 use Rattle.feed_format.specs.declared.Parameters.{Parameters}
-use Rattle.feed_format.specs.declared.Given.TheVariants.{Nothing}
 use Rattle.feed_format.specs.Format.{record_length, levels_of, edit_row, edit_column, edit_level}
 use Rattle.feed_lines.specs.Lines.{columns_text, refused_text, blocks_text}
 use Rattle.feed_rules.specs.Block.{opening_of}
@@ -85,7 +84,7 @@ in_history =
 
 -- ---- a whole feed
 unfoldable pub beginning : {H : Type 0} → H → FeedState H
-beginning h = record { given = Nothing; list = flat; block = h; blocks = 0; offset = 0 }
+beginning h = record { given = None; list = flat; block = h; blocks = 0; offset = 0 }
 
 abbrev pub last_line : {H : Type 0} → FeedState H → List ℕ
 last_line s = blocks_text s.blocks

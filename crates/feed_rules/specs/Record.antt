@@ -17,7 +17,7 @@
 --   edit_effect g s body          kind 8: row, column and a level
 --   reading_effect g s            kind 9: the rows of the open block, then its column count
 --   record_effect g s k body      a record of kind k; a body that is longer than the kind's counts up to its length
-use Rattle.std.specs.Prelude.{Bool, ◌||◌, cond, List, [], ◌++◌, ℕ, ◌+◌, eqb, ltb, length, take, get_or}
+use Rattle.std.specs.Prelude.{Bool, ◌||◌, cond, List, [], ◌++◌, ℕ, ◌+◌, eqb, ltb, length, take, get_or, Option, Some, None}
 use Rattle.h265.specs.ScalingFactor.{ScalingList}
 use Rattle.h265.specs.ScalingFactor.ScalingList.{flat, listed}
 use Rattle.refusal.specs.declared.Refusal.TheVariants.{DepthInvalid, DstSizeInvalid, KindUnknown, BodyTooShort, LevelsBeforeParameters, ParameterInvalid}
@@ -31,15 +31,13 @@ use Rattle.feed_format.specs.declared.Kind.TheVariants.{Parameters as Parameters
 use Rattle.feed_format.specs.declared.Mode.{Mode}
 use Rattle.feed_format.specs.declared.Mode.TheVariants.{Dct, Dst, Skip}
 use Rattle.feed_format.specs.declared.Parameters.{Parameters}
-use Rattle.feed_format.specs.declared.Given.{Given}
-use Rattle.feed_format.specs.declared.Given.TheVariants.{Nothing, These}
 use Rattle.feed_format.specs.Format.{kind_of, is_unknown, body_length, record_length, mode_of, dst_refused, levels_of}
 use Rattle.feed_lines.specs.Lines.{limited_text}
 use Rattle.feed_rules.specs.Block.{block_residual, block_limited}
 
 -- ---- states
 pub record FeedState (H : Type 0) : Type 0 where
-  pub given : Given
+  pub given : Option Parameters
   pub list : ScalingList
   pub block : H
   pub blocks : ℕ
@@ -82,7 +80,7 @@ parameters_effect g s body =
     (cond (parameter_refused body) (refused (unchanged s) ParameterInvalid)
     (accepted (record {
       text = [];
-      state = record { given = These (parameters_of body); list = s.list; block = g.closed s.block; blocks = s.blocks; offset = behind ParametersKind s };
+      state = record { given = Some (parameters_of body); list = s.list; block = g.closed s.block; blocks = s.blocks; offset = behind ParametersKind s };
     })))
 
 unfoldable pub list_effect : {H : Type 0} → Keeper H → FeedState H → List ℕ → Outcome (Effect H)
@@ -110,9 +108,9 @@ abbrev pub counted : {H : Type 0} → FeedState H → H → ℕ → FeedState H
 counted s h n = record { given = s.given; list = s.list; block = h; blocks = s.blocks + 1; offset = behind (Levels n) s }
 
 -- no feed leaves a depth that row 2 refuses; a state made by hand may have one
-unfoldable pub levels_by : {H : Type 0} → Keeper H → Given → FeedState H → ℕ → List ℕ → Outcome (Effect H)
-levels_by g Nothing s n body = refused (unchanged s) LevelsBeforeParameters
-levels_by g (These p) s n body =
+unfoldable pub levels_by : {H : Type 0} → Keeper H → Option Parameters → FeedState H → ℕ → List ℕ → Outcome (Effect H)
+levels_by g None s n body = refused (unchanged s) LevelsBeforeParameters
+levels_by g (Some p) s n body =
     cond (depth_refused p.bit_depth) (refused (unchanged s) DepthInvalid)
     (cond (dst_refused p.mode n) (refused (unchanged s) DstSizeInvalid)
     (accepted (record {

@@ -4,16 +4,16 @@
 --   quiet_takes                  a record without text leaves the buffer of texts as it is
 --   block_takes                  what a record with text hands back
 --   levels_given                 a block of levels, by what is known of the parameters
+use Rattle.feed_format.specs.declared.Parameters.{Parameters}
+use Rattle.std.specs.Prelude.{Ok, Err, Option}
 use mathlib.Core.Path.{◌≡◌, refl, sym, ap, ◌∙◌}
 use mathlib.Core.List.{List, []}
 use Prim.Native.Nat.{ℕ, ◌+◌, ◌≤◌, min}
 use native.Mathlib.Omega.{arith}
 use Rattle.refusal.specs.declared.Refusal.{Refusal}
-use Rattle.refusal.specs.declared.Answer.TheVariants.{Done, Refused}
 use Rattle.refusal.specs.Outcome.{Outcome, accepted, refused}
 use Rattle.text.specs.Text.{WroteUpTo}
 use Rattle.text.proofs.WroteLaws.{wrote_none}
-use Rattle.feed_format.specs.declared.Given.{Given}
 use Rattle.feed_rules.specs.Record.{FeedState, Effect, Keeper, unchanged, levels_by, levels_effect}
 use Rattle.feed_state.specs.declared.State.{State}
 use Rattle.feed_state.specs.declared.Taken.{Taken}
@@ -31,11 +31,11 @@ pub capped_id : {H : Type 0} (s : FeedState H) → s.blocks ≤ 1844674407370955
 capped_id s h k = sym (capped_offset s s.offset h (omega arith))
 
 pub quiet_kept : (s : State) (why : Refusal) (at : ℕ) (w : Lent) → s.blocks ≤ 18446744073709551615 → s.offset ≤ 18446744073709551615
-    → Quiet s (record { answer = Refused why; state = s; end = at }) w at (refused (unchanged (state_of s w)) why)
+    → Quiet s (record { answer = Err why; state = s; end = at }) w at (refused (unchanged (state_of s w)) why)
 quiet_kept s why at w h k = record { answered = refl; state = sym (capped_id (state_of s w) h k); end = refl; none = refl; kept = λ f. refl }
 
 pub quiet_moved : (s next : State) (w : Lent) (t : FeedState Buffered) (at : ℕ) → t.blocks ≤ 18446744073709551615 → next.offset ≡ min t.offset 18446744073709551615
-    → state_of next w ≡ at_offset t next.offset → Quiet s (record { answer = Done; state = next; end = at }) w at (accepted (record { text = []; state = t }))
+    → state_of next w ≡ at_offset t next.offset → Quiet s (record { answer = (Ok tt); state = next; end = at }) w at (accepted (record { text = []; state = t }))
 quiet_moved s next w t at h k e = record { answered = refl; state = e ∙ capped_offset t next.offset h k; end = refl; none = refl; kept = λ f. absurd (f refl) }
 
 pub quiet_takes : {s : State} {r : Taken} {w : Lent} {at : ℕ} {o : Outcome (Effect Buffered)} (l : List ℕ) (room : ℕ) → Quiet s r w at o → Takes s r w l at l o room
@@ -48,10 +48,10 @@ quiet_takes {s} {r} {w} {at} {o} l room q =
     }
 
 pub block_takes : {l t m : List ℕ} {at end e : ℕ} (s next : State) (w : Lent) (f : FeedState Buffered) (room : ℕ) → state_of next w ≡ capped f → e ≤ at + room
-    → WroteUpTo l at t m end e → Takes s (record { answer = Done; state = next; end = end }) w l at m (accepted (record { text = t; state = f })) room
+    → WroteUpTo l at t m end e → Takes s (record { answer = (Ok tt); state = next; end = end }) w l at m (accepted (record { text = t; state = f })) room
 block_takes s next w f room q h k =
     record { answered = refl; state = q; text = record { wrote = k.wrote; bound = omega (arith, k.bound) }; kept = λ g. absurd (g refl) }
 
-pub levels_given : {H : Type 0} {g : Given} (k : Keeper H) (s : FeedState H) (n : ℕ) (body : List ℕ) → s.given ≡ g → levels_effect k s n body ≡ levels_by k g s n body
+pub levels_given : {H : Type 0} {g : Option Parameters} (k : Keeper H) (s : FeedState H) (n : ℕ) (body : List ℕ) → s.given ≡ g → levels_effect k s n body ≡ levels_by k g s n body
 unfolding levels_effect
-levels_given k s n body e = ap (λ (g : Given). levels_by k g s n body) e
+levels_given k s n body e = ap (λ (g : Option Parameters). levels_by k g s n body) e

@@ -1,5 +1,5 @@
 -- What a record that was taken leaves.
---   state_of s w             what a state of the code and the four buffers stand for; entries count while a list is in force, the record while a block is open
+--   state_of s w             what a state of the code and the four buffers stand for
 --   capped s                a state as the code holds it: blocks and offset stop at the largest 64-bit number, which no input reaches
 --   answer_of o              number and place without the values
 --   Ample w                 each of the four buffers has room for the largest block
@@ -13,14 +13,14 @@ use Rattle.feed_rules.specs.Block.{list_in}
 use Rattle.feed_rules.specs.Record.{FeedState, Effect}
 use Rattle.feed_state.specs.declared.State.{State}
 use Rattle.feed_state.specs.declared.Taken.{Taken}
-use Rattle.feed_state.specs.Buffers.{held_in, Lent, Buffered}
+use Rattle.feed_state.specs.Buffers.{Lent, Buffered}
 
 abbrev pub state_of : State → Lent → FeedState Buffered
 state_of s w =
     record {
       given = s.given;
-      list = list_in s.listed s.entries s.dc;
-      block = record { held = held_in s.editing s.block; lent_are = w };
+      list = list_in s.list;
+      block = record { held = s.held; lent_are = w };
       blocks = s.blocks;
       offset = s.offset;
     }

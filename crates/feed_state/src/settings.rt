@@ -6,7 +6,7 @@ ghost use Rattle.feed_state.specs.Taken.{Silent};
 
 use crate::states::{behind, kept, moved};
 use crate::{State, Taken};
-use feed_format::{Given, Parameters};
+use feed_format::{List, Parameters};
 use refusal::Refusal;
 
 pub fn take_parameters(s: State, body: &[u8], at: usize) -> Taken
@@ -31,17 +31,11 @@ pub fn take_parameters(s: State, body: &[u8], at: usize) -> Taken
         qp_prime: body[2],
         mode: feed_format::mode_of(mode),
     };
-    let entries = s.entries;
-    let block = s.block;
     let next = State {
-        given: Given::These(p),
-        listed: s.listed,
-        entries,
-        dc: s.dc,
-        editing: false,
-        block,
-        blocks: s.blocks,
+        given: Some(p),
+        held: None,
         offset: behind(s.offset, 4),
+        ..s
     };
     moved(next, at)
 }
@@ -50,18 +44,15 @@ pub fn take_list(s: State, body: &[u8], at: usize) -> Taken
     requires { 65 ≤ length body.now }
     ensures { Silent s result at (λ (f : FeedState Buffered). list_effect in_buffers f body.now) }
 {
-    let given = s.given;
-    let entries = feed_format::entries_of(body);
-    let block = s.block;
-    let next = State {
-        given,
-        listed: true,
-        entries,
+    let list = List {
+        entries: feed_format::entries_of(body),
         dc: body[64],
-        editing: false,
-        block,
-        blocks: s.blocks,
+    };
+    let next = State {
+        list: Some(list),
+        held: None,
         offset: behind(s.offset, 65),
+        ..s
     };
     moved(next, at)
 }
@@ -69,18 +60,11 @@ pub fn take_list(s: State, body: &[u8], at: usize) -> Taken
 pub fn take_no_list(s: State, at: usize) -> Taken
     ensures { Silent s result at (no_list_effect in_buffers) }
 {
-    let given = s.given;
-    let entries = s.entries;
-    let block = s.block;
     let next = State {
-        given,
-        listed: false,
-        entries,
-        dc: s.dc,
-        editing: false,
-        block,
-        blocks: s.blocks,
+        list: None,
+        held: None,
         offset: behind(s.offset, 0),
+        ..s
     };
     moved(next, at)
 }

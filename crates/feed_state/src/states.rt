@@ -1,5 +1,5 @@
 // The state before the first record, and the states behind one: refused, or accepted with a block open after it or with none.
-ghost use Rattle.std.specs.Prelude.{◌≡◌, true, ◌+◌, min, T};
+ghost use Rattle.std.specs.Prelude.{◌≡◌, Some, ◌+◌, min, T};
 ghost use Rattle.h265.specs.Range.{is_size};
 ghost use Rattle.refusal.specs.Outcome.{refused};
 ghost use Rattle.feed_rules.specs.Record.{FeedState, unchanged, counted};
@@ -9,20 +9,16 @@ ghost use Rattle.feed_state.specs.Taken.{state_of, capped, Silent};
 
 use crate::{State, Taken};
 use edited_block::EditedBlock;
-use feed_format::Given;
-use refusal::{Answer, Refusal};
+use refusal::Refusal;
 
 // The state before the first record.
 pub fn start() -> State
     ensures { (w : Lent) → state_of result w ≡ beginning (closed w) }
 {
     State {
-        given: Given::Nothing,
-        listed: false,
-        entries: [0u8; 64],
-        dc: 0,
-        editing: false,
-        block: edited_block::zero_block(),
+        given: None,
+        list: None,
+        held: None,
         blocks: 0,
         offset: 0,
     }
@@ -32,30 +28,19 @@ pub fn kept(s: State, why: Refusal, at: usize) -> Taken
     ensures { Silent s result at (λ (f : FeedState Buffered). refused (unchanged f) why) }
 {
     Taken {
-        answer: Answer::Refused(why),
+        answer: Err(why),
         state: s,
         end: at,
     }
 }
 
 pub fn moved(next: State, at: usize) -> Taken
-    ensures { result ≡ record { answer = Answer.Done; state = next; end = at } }
+    ensures { result ≡ record { answer = Ok tt; state = next; end = at } }
 {
     Taken {
-        answer: Answer::Done,
+        answer: Ok(()),
         state: next,
         end: at,
-    }
-}
-
-// One block more; the counter stops before it would wrap.
-pub fn one_more(blocks: u64) -> u64
-    ensures { result ≡ min (blocks + 1) 18446744073709551615 }
-{
-    if blocks < u64::MAX {
-        blocks + 1
-    } else {
-        blocks
     }
 }
 
@@ -63,28 +48,18 @@ pub fn one_more(blocks: u64) -> u64
 pub(crate) fn behind(offset: u64, length: usize) -> u64
     ensures { result ≡ min (offset + 1 + length) 18446744073709551615 }
 {
-    if (length as u64) < u64::MAX - offset {
-        offset + 1 + length as u64
-    } else {
-        u64::MAX
-    }
+    offset.saturating_add(1).saturating_add(length as u64)
 }
 
 // The state with an open block, behind a record with a body of this length.
 pub fn with_open(s: State, block: EditedBlock, blocks: u64, length: usize) -> State
-    ensures { result ≡ record { given = s.given; listed = s.listed; entries = s.entries; dc = s.dc; editing = true; block = block; blocks = blocks; offset = min (s.offset + 1 + length) 18446744073709551615 } }
+    ensures { result ≡ record { given = s.given; list = s.list; held = Some block; blocks = blocks; offset = min (s.offset + 1 + length) 18446744073709551615 } }
 {
-    let given = s.given;
-    let entries = s.entries;
     State {
-        given,
-        listed: s.listed,
-        entries,
-        dc: s.dc,
-        editing: true,
-        block,
+        held: Some(block),
         blocks,
         offset: behind(s.offset, length),
+        ..s
     }
 }
 
@@ -93,17 +68,10 @@ pub fn with_closed(s: State, n: usize) -> State
     requires { T (is_size n) }
     ensures { (w : Lent) → state_of result w ≡ capped (counted (state_of s w) (closed_in (state_of s w).block) n) }
 {
-    let given = s.given;
-    let entries = s.entries;
-    let block = s.block;
     State {
-        given,
-        listed: s.listed,
-        entries,
-        dc: s.dc,
-        editing: false,
-        block,
-        blocks: one_more(s.blocks),
+        held: None,
+        blocks: s.blocks.saturating_add(1),
         offset: behind(s.offset, 4 * (n * n)),
+        ..s
     }
 }

@@ -7,6 +7,7 @@
 --   level_ask           what the search below asks
 --   level-wrote         an answer of 0: no condition holds, and both buffers are written
 --   level_edits_found_flat   a block without a list is one with a list of sixteens
+use Rattle.std.specs.Prelude.{Ok, Err}
 use mathlib.Core.Path.{◌≡◌, refl, sym, ap, ap₂, subst, fun_ext, ◌∙◌}
 use mathlib.Core.Bool.{Bool, true, false}
 use mathlib.Core.List.{List, [], ◌∷◌}
@@ -25,7 +26,6 @@ use Rattle.h265.specs.ScalingFactor.{ScalingList, factor_source, factor_by, scal
 use Rattle.h265.specs.ScalingFactor.ScalingList.{flat}
 use Rattle.h265.specs.Transform.{residual}
 use Rattle.h265.proofs.RangeLaws.{log2_size_bound, clip_coeff_between}
-use Rattle.refusal.specs.declared.Answer.TheVariants.{Done, Refused}
 use Rattle.refusal.specs.declared.Refusal.{Refusal}
 use Rattle.refusal.specs.declared.Refusal.TheVariants.{SizeInvalid, DepthInvalid, DstSizeInvalid, ListLengthInvalid, InputTooShort, OutputTooShort}
 use Rattle.refusal.specs.Condition.{size_refused, depth_refused, list_refused, block_refused}
@@ -99,13 +99,13 @@ module _ (list : ScalingList) (kind : Kind) (n : ℕ) (q : ℤ) (b : ℕ) (x : B
   abbrev answer_by : Found
   answer_by = level_edits_found list kind n q b x levels target wanted least most
 
-  pub level-refused : (e : Refusal) → answer (Refused e) ≡ level_edit_ladder (refused tt) (accepted tt) kind n b (entries_of list) (length levels) (length target) (length wanted) (length least) (length most)
-      → Finds (Refused e) least most answer_by
+  pub level-refused : (e : Refusal) → answer (Err e) ≡ level_edit_ladder (refused tt) (accepted tt) kind n b (entries_of list) (length levels) (length target) (length wanted) (length least) (length most)
+      → Finds (Err e) least most answer_by
   unfolding level_edits_found level_edit_ladder
   level-refused e h =
-      first_refused tt tt (left least most) written (λ w. Finds (Refused e) least most w) e (λ f k. record { answered = k; least = refl; most = refl }) checks h
+      first_refused tt tt (left least most) written (λ w. Finds (Err e) least most w) e (λ f k. record { answered = k; least = refl; most = refl }) checks h
 
-  pub level_passed : answer Done ≡ level_edit_ladder (refused tt) (accepted tt) kind n b (entries_of list) (length levels) (length target) (length wanted) (length least) (length most) → Passed checks
+  pub level_passed : answer (Ok tt) ≡ level_edit_ladder (refused tt) (accepted tt) kind n b (entries_of list) (length levels) (length target) (length wanted) (length least) (length most) → Passed checks
   unfolding level_edit_ladder
   level_passed h = (first_accepted tt tt tt checks h).0
 
@@ -119,7 +119,7 @@ module _ (list : ScalingList) (kind : Kind) (n : ℕ) (q : ℤ) (b : ℕ) (x : B
 
   module _ (p : Passed checks) {by : DequantParams} (e : by ≡ dequant_of (log2_size n) q b x) where
     pub level_done : {low high : List ℤ} → low ≡ overwrite (n * n) (least_level_by by list kind n b x levels target wanted) least
-        → high ≡ overwrite (n * n) (most_level_by by list kind n b x levels target wanted) most → Finds Done low high answer_by
+        → high ≡ overwrite (n * n) (most_level_by by list kind n b x levels target wanted) most → Finds (Ok tt) low high answer_by
     level_done l m =
         let long = block_room n (length levels) p.1.1.1.1.0 in
         rw (past p)

@@ -9,7 +9,6 @@ ghost use Rattle.level_edits.specs.Work.{least_scaling, most_scaling, least_leve
 
 use crate::places;
 use parameters::DequantParams;
-use scaling::FactorAnswer;
 use transform_1d::Kind;
 
 // m at an index of a block.
@@ -18,8 +17,8 @@ fn factor_at(list: &[u8], dc: u8, n: usize, index: usize) -> u8
     ensures { result ≡ scaling_factor (listed list.now dc) n index }
 {
     match scaling::scaling_coeff(list, dc, n, index) {
-        FactorAnswer::Factor(m) => m,
-        FactorAnswer::Refused(_) => 0,
+        Ok(m) => m,
+        Err(_) => 0,
     }
 }
 
@@ -29,11 +28,9 @@ fn scale(levels: &[i32], n: usize, by: DequantParams, list: &[u8], dc: u8, out: 
     ensures { out.new ≡ overwrite (n * n) (λ i. scaling_by by (listed list.now dc) n i (get_or levels.now i (pos 0))) out.old }
 {
     let count = n * n;
-    let mut i: usize = 0;
-    while i < count {
+    for i in 0..count {
         let x = places::scaled_value(levels[i], factor_at(list, dc, n, i), by);
         out[i] = x;
-        i += 1;
     }
 }
 
@@ -53,15 +50,13 @@ fn spread(
     ensures { (least.new ≡ overwrite (n * n) (λ i. least_scaling (scaling_by by (listed list.now dc) n i) range (get_or low.now i (pos 0)) (get_or high.now i (pos 0))) least.old) × (most.new ≡ overwrite (n * n) (λ i. most_scaling (scaling_by by (listed list.now dc) n i) range (get_or low.now i (pos 0)) (get_or high.now i (pos 0))) most.old) }
 {
     let count = n * n;
-    let mut i: usize = 0;
-    while i < count {
+    for i in 0..count {
         let m = factor_at(list, dc, n, i);
         let span = places::level_span(m, by, range, low[i], high[i]);
         let first = edit_blocks::least_of(range, span);
         let last = edit_blocks::most_of(range, span);
         least[i] = first;
         most[i] = last;
-        i += 1;
     }
 }
 

@@ -5,8 +5,8 @@ ghost use Rattle.h265.specs.ScalingFactor.ScalingList.{flat, listed};
 ghost use Rattle.edit_search.specs.Found.{Finds};
 ghost use Rattle.level_edits.specs.Levels.{level_edits_found};
 
-use parameters::{DequantAnswer, QpPrime};
-use refusal::Answer;
+use parameters::QpPrime;
+use refusal::Refusal;
 use transform_1d::Kind;
 
 mod block;
@@ -27,10 +27,10 @@ pub fn find_level_edits_scaled(
     wanted: &[u8],
     least: &mut [i32],
     most: &mut [i32],
-) -> Answer
+) -> Result<(), Refusal>
     ensures { Finds result least.new most.new (level_edits_found (listed list.now dc) kind n qp_prime.0 bit_depth extended_precision levels.now target.now wanted.now least.old most.old) }
 {
-    let checked = refuse::level_edit_refusal(
+    refuse::level_edit_refusal(
         kind,
         n,
         bit_depth,
@@ -40,30 +40,23 @@ pub fn find_level_edits_scaled(
         wanted.len(),
         least.len(),
         most.len(),
+    )?;
+    let by = parameters::dequant_params(n, qp_prime, bit_depth, extended_precision)?;
+    block::find_block(
+        kind,
+        n,
+        bit_depth,
+        extended_precision,
+        by,
+        list,
+        dc,
+        levels,
+        target,
+        wanted,
+        least,
+        most,
     );
-    if let Answer::Refused(why) = checked {
-        return Answer::Refused(why);
-    }
-    match parameters::dequant_params(n, qp_prime, bit_depth, extended_precision) {
-        DequantAnswer::Params(by) => {
-            block::find_block(
-                kind,
-                n,
-                bit_depth,
-                extended_precision,
-                by,
-                list,
-                dc,
-                levels,
-                target,
-                wanted,
-                least,
-                most,
-            );
-            Answer::Done
-        }
-        DequantAnswer::Refused(why) => Answer::Refused(why),
-    }
+    Ok(())
 }
 
 // The same without a list, where m is 16 throughout.
@@ -78,7 +71,7 @@ pub fn find_level_edits(
     wanted: &[u8],
     least: &mut [i32],
     most: &mut [i32],
-) -> Answer
+) -> Result<(), Refusal>
     ensures { Finds result least.new most.new (level_edits_found flat kind n qp_prime.0 bit_depth extended_precision levels.now target.now wanted.now least.old most.old) }
 {
     let sixteens = [16u8; 64];

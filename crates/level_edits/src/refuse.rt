@@ -3,7 +3,7 @@ ghost use Rattle.std.specs.Prelude.{◌≡◌};
 ghost use Rattle.refusal.specs.Outcome.{accepted, refused, answer};
 ghost use Rattle.level_edits.specs.Levels.{level_edit_ladder};
 
-use refusal::{Answer, Refusal};
+use refusal::Refusal;
 use transform_1d::Kind;
 
 // The lowest row that applies, by the lengths of the buffers.
@@ -17,36 +17,36 @@ pub(crate) fn level_edit_refusal(
     wanted: usize,
     least: usize,
     most: usize,
-) -> Answer
+) -> Result<(), Refusal>
     ensures { answer result ≡ level_edit_ladder (refused tt) (accepted tt) kind n bit_depth entries levels target wanted least most }
 {
     if refusal::size_refused(n) {
-        return Answer::Refused(Refusal::SizeInvalid);
+        return Err(Refusal::SizeInvalid);
     }
     if refusal::depth_refused(bit_depth) {
-        return Answer::Refused(Refusal::DepthInvalid);
+        return Err(Refusal::DepthInvalid);
     }
     if transform_1d::dst_refused(kind, n) {
-        return Answer::Refused(Refusal::DstSizeInvalid);
+        return Err(Refusal::DstSizeInvalid);
     }
     if entries != 64 {
-        return Answer::Refused(Refusal::ListLengthInvalid);
+        return Err(Refusal::ListLengthInvalid);
     }
     let cells = n * n;
     if levels < cells {
-        return Answer::Refused(Refusal::InputTooShort);
+        return Err(Refusal::InputTooShort);
     }
     if target < cells {
-        return Answer::Refused(Refusal::InputTooShort);
+        return Err(Refusal::InputTooShort);
     }
     if wanted < cells {
-        return Answer::Refused(Refusal::InputTooShort);
+        return Err(Refusal::InputTooShort);
     }
     if least < cells {
-        return Answer::Refused(Refusal::OutputTooShort);
+        return Err(Refusal::OutputTooShort);
     }
     if most < cells {
-        return Answer::Refused(Refusal::OutputTooShort);
+        return Err(Refusal::OutputTooShort);
     }
-    Answer::Done
+    Ok(())
 }

@@ -4,6 +4,7 @@
 --   block-missing, block_found_lem    what a call hands back, by what the search left
 --   copied                        levels that were found and then copied
 --   first_miss_bound               the search ends at n²
+use Rattle.std.specs.Prelude.{Ok, Err}
 use mathlib.Core.Path.{◌≡◌, refl, ap, ◌∙◌}
 use mathlib.Core.Bool.{false}
 use mathlib.Core.List.{List}
@@ -20,7 +21,6 @@ use Rattle.h265.specs.Range.{is_size}
 use Rattle.h265.specs.ScalingFactor.{ScalingList, scaling_factor}
 use Rattle.h265.specs.ScalingFactor.ScalingList.{listed}
 use Rattle.h265.proofs.RangeLaws.{size_cases}
-use Rattle.refusal.specs.declared.Answer.TheVariants.{Done, Refused}
 use Rattle.refusal.specs.declared.Refusal.{Refusal}
 use Rattle.refusal.specs.declared.Refusal.TheVariants.{LevelMissing}
 use Rattle.refusal.specs.Condition.{size_refused, list_refused}
@@ -54,11 +54,11 @@ column_fits n i t = size_cases (λ (k : ℕ). i % k < 256) (omega arith) (omega 
 
 -- ---- answers
 module _ (n first : ℕ) (at : ℕ → ℤ) (out : List ℤ) where
-  pub block-missing : first < n * n → {e : Refusal} → e ≡ LevelMissing (first / n) (first % n) → Writes (Refused e) out (block_found n first at out)
+  pub block-missing : first < n * n → {e : Refusal} → e ≡ LevelMissing (first / n) (first % n) → Writes (Err e) out (block_found n first at out)
   unfolding block_found
-  block-missing h q = rw (lt-ltb first (n * n) h) (record { answered = ap (λ (e : Refusal). answer (Refused e)) q; out = refl })
+  block-missing h q = rw (lt-ltb first (n * n) h) (record { answered = ap (λ (e : Refusal). answer (Err e)) q; out = refl })
 
-  pub block_found_lem : n * n ≤ first → {after : List ℤ} → after ≡ overwrite (n * n) at out → Writes Done after (block_found n first at out)
+  pub block_found_lem : n * n ≤ first → {after : List ℤ} → after ≡ overwrite (n * n) at out → Writes (Ok tt) after (block_found n first at out)
   unfolding block_found
   block_found_lem h q = rw (le-ltb first (n * n) h) (record { answered = refl; out = q })
 

@@ -5,6 +5,7 @@
 --   levels_found_lem           what was written below the refusals is what the definition says
 --   levels-refused         a call whose numbers are refused hands back that refusal and the buffer as lent
 --   sixteens, levels_found_flat   a block without a list is one with a list of sixteens
+use Rattle.std.specs.Prelude.{Result, Err}
 use mathlib.Core.Path.{◌≡◌, refl, sym, ap, ap₂, subst, fun_ext, ◌∙◌}
 use mathlib.Core.Bool.{Bool, true, false, not, cond}
 use mathlib.Core.List.{List}
@@ -24,8 +25,6 @@ use Rattle.h265.specs.Scaling.{bd_shift, scale_level}
 use Rattle.h265.specs.ScalingFactor.{ScalingList, repeated_position, factor_source, factor_by, scaling_factor}
 use Rattle.h265.specs.ScalingFactor.ScalingList.{flat, listed}
 use Rattle.h265.proofs.RangeLaws.{transform_range_depth, outside_range_false}
-use Rattle.refusal.specs.declared.Answer.{Answer}
-use Rattle.refusal.specs.declared.Answer.TheVariants.{Refused}
 use Rattle.refusal.specs.declared.Refusal.{Refusal}
 use Rattle.refusal.specs.declared.Refusal.TheVariants.{LevelMissing}
 use Rattle.refusal.specs.Condition.{size_refused}
@@ -143,10 +142,10 @@ module _ (list : ScalingList) (n : ℕ) (q : ℤ) (b : ℕ) (x : Bool) (k : Know
 -- ---- a call
 module _ (list : ScalingList) (n : ℕ) (q : ℤ) (b : ℕ) (x : Bool) (coeff out : List ℤ) where
   pub levels-refused : (e : Refusal) → refused no_transform_skip e ≡ block_params bits32 n q b x (entries_of list) (length coeff) (length out)
-      → Writes (Refused e) out (levels_found list n q b x coeff out)
+      → Writes (Err e) out (levels_found list n q b x coeff out)
   unfolding block_params levels_found scaling_ladder
   levels-refused e h =
-      first_refused no_transform_skip (transform_skip_of (log2_size n) q b x) _ _ (λ w. Writes (Refused e) out w) e
+      first_refused no_transform_skip (transform_skip_of (log2_size n) q b x) _ _ (λ w. Writes (Err e) out w) e
       (λ f k. record { answered = with_value tt e f k; out = refl }) (rungs bits32 n b x (entries_of list) (length coeff) (length out)) h
 
   module _ (p : TransformSkipParams) (r : Ready bits32 n q b x (entries_of list) (length coeff) (length out) p) where
@@ -157,7 +156,7 @@ module _ (list : ScalingList) (n : ℕ) (q : ℤ) (b : ℕ) (x : Bool) (coeff ou
     pub ready_invertible : Invertible p.dequant
     ready_invertible = subst Invertible (sym dequant_is) (dequant_of_invertible (log2_size n) q b x r.known)
 
-    pub levels_found_lem : {a : Answer} {after : List ℤ}
+    pub levels_found_lem : {a : (Result (Unit {0}) Refusal)} {after : List ℤ}
         → Writes a after (block_found n (first_miss p.dequant list n coeff) (nearest_at p.dequant list n coeff) out)
         → Writes a after (levels_found list n q b x coeff out)
     unfolding levels_found scaling_ladder

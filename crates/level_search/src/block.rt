@@ -13,8 +13,7 @@ ghost use Rattle.level_search.specs.Work.{first_miss, nearest_at, Invertible, Se
 
 use crate::nearest;
 use parameters::DequantParams;
-use refusal::{Answer, Refusal};
-use scaling::FactorAnswer;
+use refusal::Refusal;
 
 // m at an index of a block.
 fn factor_at(list: &[u8], dc: u8, n: usize, index: usize) -> u8
@@ -23,8 +22,8 @@ fn factor_at(list: &[u8], dc: u8, n: usize, index: usize) -> u8
     ensures { result ≡ scaling_factor (listed list.now dc) n index }
 {
     match scaling::scaling_coeff(list, dc, n, index) {
-        FactorAnswer::Factor(m) => m,
-        FactorAnswer::Refused(_) => 0,
+        Ok(m) => m,
+        Err(_) => 0,
     }
 }
 
@@ -44,15 +43,13 @@ fn search(
     ensures { Searched by (listed list.now dc) n coeff.now found.old found.new result }
 {
     let count = n * n;
-    let mut i: usize = 0;
-    while i < count {
+    for i in 0..count {
         let m = factor_at(list, dc, n, i);
         let level = nearest::nearest(coeff[i], m, by);
         if !nearest::scales_to(level, coeff[i], m, by) {
             return i;
         }
         found[i] = level;
-        i += 1;
     }
     count
 }
@@ -63,10 +60,8 @@ fn copy(found: &[i32; 1024], count: usize, levels: &mut [i32])
     requires count_in_bounds { count ≤ length levels.old }
     ensures { levels.new ≡ overwrite count (λ i. get_or found.now i (pos 0)) levels.old }
 {
-    let mut i: usize = 0;
-    while i < count {
+    for i in 0..count {
         levels[i] = found[i];
-        i += 1;
     }
 }
 
@@ -89,7 +84,7 @@ pub(crate) fn find_block(
     list: &[u8],
     dc: u8,
     levels: &mut [i32],
-) -> Answer
+) -> Result<(), Refusal>
     requires invertible { Invertible by }
     requires whole_list { WholeList (length list.now) n }
     requires room { Room (n * n) (length coeff.now) (length levels.old) }
@@ -99,8 +94,8 @@ pub(crate) fn find_block(
     let first = search(coeff, n, by, list, dc, &mut found);
     let count = n * n;
     if first < count {
-        return Answer::Refused(missing_at(n, first));
+        return Err(missing_at(n, first));
     }
     copy(&found, count, levels);
-    Answer::Done
+    Ok(())
 }

@@ -5,8 +5,8 @@ ghost use Rattle.h265.specs.ScalingFactor.ScalingList.{flat, listed};
 ghost use Rattle.refusal.specs.Written.{Writes};
 ghost use Rattle.level_search.specs.Found.{levels_found};
 
-use parameters::{QpPrime, TransformSkipAnswer};
-use refusal::Answer;
+use parameters::QpPrime;
+use refusal::Refusal;
 use scaling_blocks::refuse;
 
 mod block;
@@ -22,10 +22,10 @@ pub fn find_levels_scaled(
     list: &[u8],
     dc: u8,
     levels: &mut [i32],
-) -> Answer
+) -> Result<(), Refusal>
     ensures { Writes result levels.new (levels_found (listed list.now dc) n qp_prime.0 bit_depth extended_precision coeff.now levels.old) }
 {
-    let found = refuse::block_params(
+    let by = refuse::block_params(
         false,
         n,
         qp_prime,
@@ -34,14 +34,9 @@ pub fn find_levels_scaled(
         list.len(),
         coeff.len(),
         levels.len(),
-    );
-    match found {
-        TransformSkipAnswer::Params(by) => {
-            let dequant = by.dequant;
-            block::find_block(coeff, n, dequant, list, dc, levels)
-        }
-        TransformSkipAnswer::Refused(why) => Answer::Refused(why),
-    }
+    )?;
+    let dequant = by.dequant;
+    block::find_block(coeff, n, dequant, list, dc, levels)
 }
 
 // The levels of a block without a list, where m is 16 throughout.
@@ -52,7 +47,7 @@ pub fn find_levels(
     bit_depth: u8,
     extended_precision: bool,
     levels: &mut [i32],
-) -> Answer
+) -> Result<(), Refusal>
     ensures { Writes result levels.new (levels_found flat n qp_prime.0 bit_depth extended_precision coeff.now levels.old) }
 {
     let sixteens = [16u8; 64];

@@ -4,7 +4,7 @@
 #![tactic(auto)]
 
 use parameters::QpPrime;
-use refusal::Answer;
+use refusal::Refusal;
 use std::io::Read;
 
 #[derive(Clone, Copy)]
@@ -18,23 +18,17 @@ struct Case {
 }
 
 fn next_case(stdin: &mut impl Read) -> Case {
-    let listed = cases::next_byte(stdin) != 0;
-    let n = cases::next_word(stdin);
-    let qp = cases::next_wide(stdin);
-    let bit_depth = cases::next_byte(stdin);
-    let extended = cases::next_byte(stdin) != 0;
-    let dc = cases::next_byte(stdin);
     Case {
-        listed,
-        n,
-        qp,
-        bit_depth,
-        extended,
-        dc,
+        listed: cases::next::<u8>(stdin) != 0,
+        n: cases::next(stdin),
+        qp: cases::next(stdin),
+        bit_depth: cases::next(stdin),
+        extended: cases::next::<u8>(stdin) != 0,
+        dc: cases::next(stdin),
     }
 }
 
-fn call(case: Case, list: &[u8], coeff: &[i32], levels: &mut [i32]) -> Answer {
+fn call(case: Case, list: &[u8], coeff: &[i32], levels: &mut [i32]) -> Result<(), Refusal> {
     let n = case.n;
     let qp = QpPrime(case.qp);
     let depth = case.bit_depth;
@@ -49,7 +43,7 @@ fn call(case: Case, list: &[u8], coeff: &[i32], levels: &mut [i32]) -> Answer {
 
 fn show(rt: &impl Print, case: Case, list: &[u8], coeff: &[i32], levels: &mut [i32]) {
     cases::put_answer(rt, call(case, list, coeff, levels));
-    cases::put_wide(rt, levels);
+    cases::put_all(rt, levels);
 }
 
 // One case; answers whether there was one.
@@ -62,9 +56,9 @@ fn replay(rt: &impl Print, stdin: &mut impl Read) -> bool {
     let mut coeff = [0i32; 1024];
     let mut levels = [7i32; 1040];
     let entries = cases::next_length(stdin, 64);
-    cases::read_first_bytes(stdin, entries, &mut list);
+    cases::read_first(stdin, entries, &mut list);
     let count = cases::next_length(stdin, 1024);
-    cases::read_first_wide(stdin, count, &mut coeff);
+    cases::read_first(stdin, count, &mut coeff);
     let len = cases::next_length(stdin, 1040);
     show(
         rt,
@@ -79,8 +73,9 @@ fn replay(rt: &impl Print, stdin: &mut impl Read) -> bool {
 
 fn main(rt: HostRuntime) {
     let mut stdin = rt.stdin();
-    let mut turns = u64::MAX;
-    while turns > 0 && replay(&rt, &mut stdin) {
-        turns -= 1;
+    for _ in 0..u64::MAX {
+        if !replay(&rt, &mut stdin) {
+            break;
+        }
     }
 }

@@ -8,7 +8,6 @@ ghost use Rattle.block_rules.specs.Level.{list_of, looked_at};
 ghost use Rattle.level_work.specs.Work.{Scaled};
 
 use block_rules::Source;
-use scaling::{FactorAnswer, LevelAnswer};
 use scaling_values::ScaledLevel;
 
 pub mod refuse;
@@ -24,8 +23,8 @@ pub fn factor_of(source: Source, n: usize, index: usize) -> u8
     if listed {
         let found = scaling::scaling_coeff(&entries, dc, n, index);
         return match found {
-            FactorAnswer::Factor(m) => m,
-            FactorAnswer::Refused(_) => 0,
+            Ok(m) => m,
+            Err(_) => 0,
         };
     }
     16
@@ -47,8 +46,8 @@ pub fn coefficient_of(
     let qp_prime = source.qp_prime;
     let found = scaling::scale_level(level, m, n, qp_prime, bit_depth, extended_precision);
     match found {
-        LevelAnswer::Level(scaled) => scaled,
-        LevelAnswer::Refused(_) => ScaledLevel {
+        Ok(scaled) => scaled,
+        Err(_) => ScaledLevel {
             value: 0,
             level_limited: false,
             result_limited: false,
@@ -72,10 +71,6 @@ pub fn entries_of(list: &[u8]) -> [u8; 64]
     ensures { result ≡ list.now }
 {
     let mut entries = [0u8; 64];
-    let mut i = 0;
-    while i < 64 {
-        entries[i] = list[i];
-        i += 1;
-    }
+    entries.copy_from_slice(list);
     entries
 }

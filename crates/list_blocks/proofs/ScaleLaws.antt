@@ -4,6 +4,7 @@
 --   Ready, scale_ready              what holds once nothing was refused
 --   scale_inside                    the table has its 24 places, and the number is one
 --   scale_done                      what the library has written with the entries of the place
+use Rattle.std.specs.Prelude.{Result, Err}
 use mathlib.Core.Path.{◌≡◌, refl, sym, ap, ap₂, ◌∙◌}
 use mathlib.Core.Bool.{Bool, false}
 use mathlib.Core.List.{List, [], ◌∷◌, ◌++◌}
@@ -22,8 +23,6 @@ use Rattle.parameters.specs.declared.TransformSkipParams.{TransformSkipParams}
 use Rattle.parameters.specs.Answers.{no_transform_skip}
 use Rattle.parameters.specs.Parameters.{transform_skip_of}
 use Rattle.scaling_blocks.specs.Blocks.{scaling_ladder, block_params, CountWrites, left_as_lent}
-use Rattle.scaling_blocks.specs.declared.CountAnswer.{CountAnswer}
-use Rattle.scaling_blocks.specs.declared.CountAnswer.TheVariants.{Refused}
 use Rattle.scaling_blocks.proofs.BlockLaws.{rungs}
 use Rattle.list_places.specs.Stream.{Stream, numbered, missing, number_ladder, number_answer}
 use Rattle.list_places.specs.Table.{entries_at, stream_of, short}
@@ -53,10 +52,10 @@ all_rungs short d s i k out =
     rungs k.narrow k.size k.depth k.extended 64 (length k.levels) (length out) ++ (rung short OutputTooShort ∷ rung (missing d s i) ListMissing ∷ [])
 
 module _ (short : Bool) (d : ℕ) (s : Stream) (i : ℕ) (k : Block) (out : List ℤ) where
-  pub scale_refused : (e : Refusal) → refused tt e ≡ answered short d s i k out → CountWrites (Refused e) out (scale_answer short d s i k out)
+  pub scale_refused : (e : Refusal) → refused tt e ≡ answered short d s i k out → CountWrites (Err e) out (scale_answer short d s i k out)
   unfolding scaling_ladder number_answer number_ladder scale_answer
   scale_refused e h =
-      first_refused tt tt (left_as_lent out) (library_block k (list_of (numbered s i)) out) (λ w. CountWrites (Refused e) out w) e
+      first_refused tt tt (left_as_lent out) (library_block k (list_of (numbered s i)) out) (λ w. CountWrites (Err e) out w) e
       (λ f g. record { answered = with_value 0 e f g; out = refl }) (all_rungs short d s i k out) h
 
   pub record Ready : Type 0 where
@@ -79,7 +78,7 @@ module _ (table : List ℕ) (d i : ℕ) (k : Block) (out : List ℤ) where
       let n = number-inside table d i y.present in
       (table_room table y.room, n.0, n.1)
 
-  pub scale_done : (list : List ℕ) (dc : ℕ) (r : CountAnswer) (after : List ℤ) → accepted tt ≡ answered (short table) d (stream_of table d) i k out
+  pub scale_done : (list : List ℕ) (dc : ℕ) (r : Result ℕ Refusal) (after : List ℤ) → accepted tt ≡ answered (short table) d (stream_of table d) i k out
       → list ≡ entries_at table (12 * d + i)
       → dc ≡ get_or table (66 * (12 * d + i) + 1) 0
       → CountWrites r after (library_block k (listed list dc) out)

@@ -10,9 +10,9 @@ ghost use Rattle.list_places.specs.Table.{stream_of, short};
 ghost use Rattle.list_blocks.specs.Scale.{block, scale_answer};
 ghost use Rattle.list_blocks.specs.Scale.Work.{coefficients, residuals};
 
-use parameters::{QpPrime, TransformSkipAnswer};
-use refusal::Answer;
-use scaling_blocks::{CountAnswer, refuse};
+use parameters::QpPrime;
+use refusal::Refusal;
+use scaling_blocks::refuse;
 
 // All refusals of a block by number. A place has 64 entries, so row 5 never applies.
 fn block_refused(
@@ -26,10 +26,10 @@ fn block_refused(
     extended_precision: bool,
     levels: usize,
     places: usize,
-) -> Answer
+) -> Result<(), Refusal>
     ensures { answer result ≡ scaling_ladder (refused tt) (number_answer (short table.now) stream (stream_of table.now stream) number) narrow n bit_depth extended_precision 64 levels places }
 {
-    let found = refuse::block_params(
+    refuse::block_params(
         narrow,
         n,
         qp_prime,
@@ -38,10 +38,7 @@ fn block_refused(
         64,
         levels,
         places,
-    );
-    if let TransformSkipAnswer::Refused(why) = found {
-        return Answer::Refused(why);
-    }
+    )?;
     list_places::number_refused(table, stream, number)
 }
 
@@ -56,10 +53,10 @@ pub fn dequantize_by_number_i32(
     bit_depth: u8,
     extended_precision: bool,
     out: &mut [i32],
-) -> CountAnswer
+) -> Result<u16, Refusal>
     ensures { CountWrites result out.new (scale_answer (short table.now) stream (stream_of table.now stream) number (block coefficients bits32 n qp_prime.0 bit_depth extended_precision levels.now) out.old) }
 {
-    let checked = block_refused(
+    block_refused(
         false,
         table,
         stream,
@@ -70,10 +67,7 @@ pub fn dequantize_by_number_i32(
         extended_precision,
         levels.len(),
         out.len(),
-    );
-    if let Answer::Refused(why) = checked {
-        return CountAnswer::Refused(why);
-    }
+    )?;
     scaling_wide::dequantize_scaled_into_scalar_i32(
         levels,
         n,
@@ -97,10 +91,10 @@ pub fn dequantize_by_number_i16(
     bit_depth: u8,
     extended_precision: bool,
     out: &mut [i16],
-) -> CountAnswer
+) -> Result<u16, Refusal>
     ensures { CountWrites result out.new (scale_answer (short table.now) stream (stream_of table.now stream) number (block coefficients bits16 n qp_prime.0 bit_depth extended_precision levels.now) out.old) }
 {
-    let checked = block_refused(
+    block_refused(
         true,
         table,
         stream,
@@ -111,10 +105,7 @@ pub fn dequantize_by_number_i16(
         extended_precision,
         levels.len(),
         out.len(),
-    );
-    if let Answer::Refused(why) = checked {
-        return CountAnswer::Refused(why);
-    }
+    )?;
     scaling_narrow::dequantize_scaled_into_scalar_i16(
         levels,
         n,
@@ -138,10 +129,10 @@ pub fn dequantize_transform_skip_by_number_i32(
     bit_depth: u8,
     extended_precision: bool,
     out: &mut [i32],
-) -> CountAnswer
+) -> Result<u16, Refusal>
     ensures { CountWrites result out.new (scale_answer (short table.now) stream (stream_of table.now stream) number (block residuals bits32 n qp_prime.0 bit_depth extended_precision levels.now) out.old) }
 {
-    let checked = block_refused(
+    block_refused(
         false,
         table,
         stream,
@@ -152,10 +143,7 @@ pub fn dequantize_transform_skip_by_number_i32(
         extended_precision,
         levels.len(),
         out.len(),
-    );
-    if let Answer::Refused(why) = checked {
-        return CountAnswer::Refused(why);
-    }
+    )?;
     scaling_wide::dequantize_transform_skip_scaled_into_scalar_i32(
         levels,
         n,
@@ -179,10 +167,10 @@ pub fn dequantize_transform_skip_by_number_i16(
     bit_depth: u8,
     extended_precision: bool,
     out: &mut [i16],
-) -> CountAnswer
+) -> Result<u16, Refusal>
     ensures { CountWrites result out.new (scale_answer (short table.now) stream (stream_of table.now stream) number (block residuals bits16 n qp_prime.0 bit_depth extended_precision levels.now) out.old) }
 {
-    let checked = block_refused(
+    block_refused(
         true,
         table,
         stream,
@@ -193,10 +181,7 @@ pub fn dequantize_transform_skip_by_number_i16(
         extended_precision,
         levels.len(),
         out.len(),
-    );
-    if let Answer::Refused(why) = checked {
-        return CountAnswer::Refused(why);
-    }
+    )?;
     scaling_narrow::dequantize_transform_skip_scaled_into_scalar_i16(
         levels,
         n,

@@ -9,7 +9,7 @@ ghost use Rattle.refusal.specs.Outcome.{answer};
 ghost use Rattle.list_places.specs.Stream.{missing, lowest_free, number_answer};
 ghost use Rattle.list_places.specs.Table.{entries_at, stream_of, short};
 
-use refusal::{Answer, Refusal};
+use refusal::Refusal;
 
 // The first byte of a number's place.
 pub fn start_of(stream: usize, number: usize) -> usize
@@ -34,16 +34,16 @@ pub fn is_missing(table: &[u8], stream: usize, number: usize) -> bool
 }
 
 // Rows 7 and 18 of a call that reads a number.
-pub fn number_refused(table: &[u8], stream: usize, number: usize) -> Answer
+pub fn number_refused(table: &[u8], stream: usize, number: usize) -> Result<(), Refusal>
     ensures { answer result ≡ number_answer (short table.now) stream (stream_of table.now stream) number }
 {
     if table.len() < 1584 {
-        return Answer::Refused(Refusal::OutputTooShort);
+        return Err(Refusal::OutputTooShort);
     }
     if is_missing(table, stream, number) {
-        return Answer::Refused(Refusal::ListMissing);
+        return Err(Refusal::ListMissing);
     }
-    Answer::Done
+    Ok(())
 }
 
 // The lowest free number of a stream, and 12 where it has none.
@@ -51,14 +51,12 @@ pub fn lowest_free(table: &[u8], stream: usize) -> usize
     requires { (1584 ≤ length table.now) × (stream < 2) }
     ensures { result ≡ lowest_free (stream_of table.now stream) }
 {
-    let mut i: usize = 0;
-    while i < 12 {
+    for i in 0..12 {
         if table[start_of(stream, i)] == 0 {
             return i;
         }
-        i += 1;
     }
-    i
+    12
 }
 
 // A list and its DC, put at a place that starts at `at`.
@@ -68,10 +66,8 @@ pub fn put_place(table: &mut [u8], at: usize, list: &[u8], dc: u8)
 {
     table[at] = 1;
     table[at + 1] = dc;
-    let mut i: usize = 0;
-    while i < 64 {
+    for i in 0..64 {
         table[at + 2 + i] = list[i];
-        i += 1;
     }
 }
 
@@ -80,10 +76,8 @@ pub fn entries_out(table: &[u8], at: usize, out: &mut [u8])
     requires { (at + 66 ≤ length table.now) × (64 ≤ length out.old) }
     ensures { out.new ≡ overwrite 64 (λ j. get_or table.now (at + 2 + j) 0) out.old }
 {
-    let mut i: usize = 0;
-    while i < 64 {
+    for i in 0..64 {
         out[i] = table[at + 2 + i];
-        i += 1;
     }
 }
 
@@ -93,9 +87,7 @@ pub fn entries<'a>(table: &'a [u8], stream: usize, number: usize) -> &'a [u8]
     ensures { result.now ≡ entries_at table.now (12 * stream + number) }
 {
     let at = start_of(stream, number);
-    let first = at + 2;
-    let end = at + 66;
-    &table[first..end]
+    &table[at + 2..at + 66]
 }
 
 // The DC of a number.

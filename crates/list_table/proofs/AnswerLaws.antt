@@ -2,6 +2,7 @@
 --   store_length, -short, -stream, -full, -done   a store
 --   drop-short, -missing, -done                   a drop
 --   find_short, -narrow, -missing, -done          a look at a number
+use Rattle.std.specs.Prelude.{Ok, Err}
 use mathlib.Core.Path.{◌≡◌, refl, sym, ap, ◌∙◌}
 use mathlib.Core.Bool.{true, false, not}
 use mathlib.Core.List.{List, ◌∷◌}
@@ -12,11 +13,8 @@ use lib.ListN.{length, get_or, set}
 use lib.Seq.{paste}
 use Rattle.integers.specs.Lists.{overwrite}
 use Rattle.integers.proofs.ListsLaws.{tabulate-get_or, overwrite_cong}
-use Rattle.refusal.specs.declared.Answer.TheVariants.{Done, Refused}
 use Rattle.refusal.specs.declared.Refusal.TheVariants.{ListLengthInvalid, OutputTooShort, StreamFull, ListMissing}
 use Rattle.refusal.specs.Condition.{list_refused}
-use Rattle.list_table.specs.declared.StoreAnswer.TheVariants.{Stored, Refused as NotStored}
-use Rattle.list_table.specs.declared.ListAnswer.TheVariants.{Dc, Refused as NotFound}
 use Rattle.list_places.specs.Stream.{Place, stream_refused, missing, full, lowest_free, number_ladder}
 use Rattle.list_places.specs.Stream.Place.{held}
 use Rattle.list_places.specs.Table.{entries_at, stream_of, short}
@@ -34,17 +32,17 @@ list_other list h = ap not (ne_eqb (length list) 64 h)
 
 -- ---- a store
 module _ (table : List ℕ) (d : ℕ) (list : List ℕ) (dc : ℕ) where
-  pub store_length : (length list ≡ 64 → ⊥) → Stores (NotStored ListLengthInvalid) table table d list dc
+  pub store_length : (length list ≡ 64 → ⊥) → Stores (Err ListLengthInvalid) table table d list dc
   unfolding store_answer stored_table store_ladder
   store_length h = record { answered = rw (list_other list h); table_is = rw (list_other list h) }
 
   module _ (whole : length list ≡ 64) where
-    pub store_short : length table < 1584 → Stores (NotStored OutputTooShort) table table d list dc
+    pub store_short : length table < 1584 → Stores (Err OutputTooShort) table table d list dc
     unfolding store_answer stored_table store_ladder
     store_short h = record { answered = rw (list_whole list whole, table_short table h); table_is = rw (list_whole list whole, table_short table h) }
 
     module _ (room : 1584 ≤ length table) where
-      pub store_stream : 1 < d → Stores (NotStored ListMissing) table table d list dc
+      pub store_stream : 1 < d → Stores (Err ListMissing) table table d list dc
       unfolding store_answer stored_table store_ladder stream_refused
       store_stream h =
           record {
@@ -52,7 +50,7 @@ module _ (table : List ℕ) (d : ℕ) (list : List ℕ) (dc : ℕ) where
             table_is = rw (list_whole list whole, table_long table room, lt-ltb 1 d h);
           }
 
-      pub store_full : (i : ℕ) → d ≤ 1 → i ≡ lowest_free (stream_of table d) → 12 ≤ i → Stores (NotStored StreamFull) table table d list dc
+      pub store_full : (i : ℕ) → d ≤ 1 → i ≡ lowest_free (stream_of table d) → 12 ≤ i → Stores (Err StreamFull) table table d list dc
       unfolding store_answer stored_table store_ladder stream_refused full
       store_full i h e l =
           let f : leb 12 (lowest_free (stream_of table d)) ≡ true = ap (leb 12) (sym e) ∙ le-leb 12 i l in
@@ -62,7 +60,7 @@ module _ (table : List ℕ) (d : ℕ) (list : List ℕ) (dc : ℕ) where
           }
 
       pub store_done : (i at : ℕ) (after : List ℕ) → d ≤ 1 → i ≡ lowest_free (stream_of table d) → i < 12 → at ≡ 66 * (12 * d + i)
-          → after ≡ paste table at (1 ∷ dc ∷ list) 66 → Stores (Stored i) after table d list dc
+          → after ≡ paste table at (1 ∷ dc ∷ list) 66 → Stores (Ok i) after table d list dc
       unfolding store_answer stored_table store_ladder stream_refused full
       store_done i at after h e l a p =
           let f : leb 12 (lowest_free (stream_of table d)) ≡ false = ap (leb 12) (sym e) ∙ lt-leb 12 i l in
@@ -73,32 +71,32 @@ module _ (table : List ℕ) (d : ℕ) (list : List ℕ) (dc : ℕ) where
 
 -- ---- a drop
 module _ (table : List ℕ) (d i : ℕ) where
-  pub drop-short : length table < 1584 → Drops (Refused OutputTooShort) table table d i
+  pub drop-short : length table < 1584 → Drops (Err OutputTooShort) table table d i
   unfolding dropped_table number_ladder
   drop-short h = record { answered = number_short table d i h; table_is = rw (table_short table h) }
 
   module _ (room : 1584 ≤ length table) where
-    pub drop-missing : missing d (stream_of table d) i ≡ true → Drops (Refused ListMissing) table table d i
+    pub drop-missing : missing d (stream_of table d) i ≡ true → Drops (Err ListMissing) table table d i
     unfolding dropped_table number_ladder
     drop-missing h = record { answered = number-missing table d i room h; table_is = rw (table_long table room, h) }
 
-    pub drop_done : (at : ℕ) → missing d (stream_of table d) i ≡ false → at ≡ 66 * (12 * d + i) → Drops Done (set table at 0) table d i
+    pub drop_done : (at : ℕ) → missing d (stream_of table d) i ≡ false → at ≡ 66 * (12 * d + i) → Drops (Ok tt) (set table at 0) table d i
     unfolding dropped_table number_ladder
     drop_done at h a = record { answered = number-held table d i room h; table_is = rw (table_long table room, h, a) }
 
 -- ---- a look at a number
 module _ (table : List ℕ) (d i : ℕ) (out : List ℕ) where
-  pub find_short : length table < 1584 → Finds (NotFound OutputTooShort) out (find_answer (short table) d (stream_of table d) i out)
+  pub find_short : length table < 1584 → Finds (Err OutputTooShort) out (find_answer (short table) d (stream_of table d) i out)
   unfolding find_answer number_ladder
   find_short h = rw (table_short table h) (record { answered = refl; list_is = refl })
 
   module _ (room : 1584 ≤ length table) where
-    pub find_narrow : length out < 64 → Finds (NotFound OutputTooShort) out (find_answer (short table) d (stream_of table d) i out)
+    pub find_narrow : length out < 64 → Finds (Err OutputTooShort) out (find_answer (short table) d (stream_of table d) i out)
     unfolding find_answer number_ladder
     find_narrow h = rw (table_long table room, lt-ltb (length out) 64 h) (record { answered = refl; list_is = refl })
 
     module _ (wide : 64 ≤ length out) where
-      pub find_missing : missing d (stream_of table d) i ≡ true → Finds (NotFound ListMissing) out (find_answer (short table) d (stream_of table d) i out)
+      pub find_missing : missing d (stream_of table d) i ≡ true → Finds (Err ListMissing) out (find_answer (short table) d (stream_of table d) i out)
       unfolding find_answer number_ladder
       find_missing h = rw (table_long table room, le-ltb (length out) 64 wide, h) (record { answered = refl; list_is = refl })
 
@@ -108,7 +106,7 @@ module _ (table : List ℕ) (d i : ℕ) (out : List ℕ) where
           rw (table_long table room, le-ltb (length out) 64 wide, h) (ap (λ (p : Place). found_at p out) (held_place table d i h))
 
       pub find_done : (at : ℕ) (after : List ℕ) → missing d (stream_of table d) i ≡ false → at ≡ 66 * (12 * d + i)
-          → after ≡ overwrite 64 (λ j. get_or table (at + 2 + j) 0) out → Finds (Dc (get_or table (at + 1) 0)) after (find_answer (short table) d (stream_of table d) i out)
+          → after ≡ overwrite 64 (λ j. get_or table (at + 2 + j) 0) out → Finds (Ok (get_or table (at + 1) 0)) after (find_answer (short table) d (stream_of table d) i out)
       unfolding entries_at
       find_done at after h a p =
           rw (found_is h, p, a)

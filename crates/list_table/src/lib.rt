@@ -6,71 +6,62 @@ ghost use Rattle.list_places.specs.Table.{stream_of, short};
 ghost use Rattle.list_table.specs.Calls.{find_answer};
 ghost use Rattle.list_table.specs.Answers.{Stores, Drops, Finds};
 
-use refusal::{Answer, Refusal};
-
-// The number under which a list was stored.
-#[derive(Clone, Copy)]
-pub enum StoreAnswer {
-    Stored(usize),
-    Refused(Refusal),
-}
-
-// The DC of a list that was handed out.
-#[derive(Clone, Copy)]
-pub enum ListAnswer {
-    Dc(u8),
-    Refused(Refusal),
-}
+use refusal::Refusal;
 
 // Stores a list and its DC under the lowest free number of a stream.
-pub fn store_list(table: &mut [u8], stream: usize, list: &[u8], dc: u8) -> StoreAnswer
+pub fn store_list(table: &mut [u8], stream: usize, list: &[u8], dc: u8) -> Result<usize, Refusal>
     ensures { Stores result table.new table.old stream list.now dc }
 {
     if list.len() != 64 {
-        return StoreAnswer::Refused(Refusal::ListLengthInvalid);
+        return Err(Refusal::ListLengthInvalid);
     }
     if table.len() < 1584 {
-        return StoreAnswer::Refused(Refusal::OutputTooShort);
+        return Err(Refusal::OutputTooShort);
     }
     if 1 < stream {
-        return StoreAnswer::Refused(Refusal::ListMissing);
+        return Err(Refusal::ListMissing);
     }
     let number = list_places::lowest_free(table, stream);
     if 12 <= number {
-        return StoreAnswer::Refused(Refusal::StreamFull);
+        return Err(Refusal::StreamFull);
     }
     list_places::put_place(table, list_places::start_of(stream, number), list, dc);
-    StoreAnswer::Stored(number)
+    Ok(number)
 }
 
 // Frees a number of a stream for use again.
-pub fn drop_list(table: &mut [u8], stream: usize, number: usize) -> Answer
+pub fn drop_list(table: &mut [u8], stream: usize, number: usize) -> Result<(), Refusal>
     ensures { Drops result table.new table.old stream number }
 {
     if table.len() < 1584 {
-        return Answer::Refused(Refusal::OutputTooShort);
+        return Err(Refusal::OutputTooShort);
     }
     if list_places::is_missing(table, stream, number) {
-        return Answer::Refused(Refusal::ListMissing);
+        return Err(Refusal::ListMissing);
     }
     table[list_places::start_of(stream, number)] = 0;
-    Answer::Done
+    Ok(())
 }
 
 // The list and the DC of a number.
-pub fn list_at(table: &[u8], stream: usize, number: usize, list_out: &mut [u8]) -> ListAnswer
+pub fn list_at(
+    table: &[u8],
+    stream: usize,
+    number: usize,
+    list_out: &mut [u8],
+) -> Result<u8, Refusal>
     ensures { Finds result list_out.new (find_answer (short table.now) stream (stream_of table.now stream) number list_out.old) }
 {
     if table.len() < 1584 {
-        return ListAnswer::Refused(Refusal::OutputTooShort);
+        return Err(Refusal::OutputTooShort);
     }
     if list_out.len() < 64 {
-        return ListAnswer::Refused(Refusal::OutputTooShort);
+        return Err(Refusal::OutputTooShort);
     }
     if list_places::is_missing(table, stream, number) {
-        return ListAnswer::Refused(Refusal::ListMissing);
+        return Err(Refusal::ListMissing);
     }
     let at = list_places::start_of(stream, number);
     list_places::entries_out(table, at, list_out);
-    ListAnswer::Dc(table[at + 1])
+    Ok(table[at + 1])
 }

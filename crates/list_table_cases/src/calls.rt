@@ -2,7 +2,6 @@
 ghost use Rattle.std.specs.Prelude.{◌≤◌};
 
 use crate::lines;
-use list_table::{ListAnswer, StoreAnswer};
 use parameters::QpPrime;
 
 // What is lent too short, where anything is.
@@ -25,12 +24,12 @@ pub struct Asked {
 
 fn store_part(rt: &impl Print, table: &mut [u8], stream: usize, list: &[u8], dc: u8) {
     match list_table::store_list(table, stream, list, dc) {
-        StoreAnswer::Stored(number) => {
+        Ok(number) => {
             lines::put(rt, 0);
             lines::put(rt, 0);
             lines::put(rt, number as u64);
         }
-        StoreAnswer::Refused(why) => lines::put_refusal(rt, why),
+        Err(why) => lines::put_refusal(rt, why),
     }
 }
 
@@ -58,12 +57,12 @@ pub fn drop(rt: &impl Print, table: &mut [u8], stream: usize, number: usize) {
 
 fn look_into(rt: &impl Print, table: &[u8], stream: usize, number: usize, list: &mut [u8]) {
     match list_table::list_at(table, stream, number, list) {
-        ListAnswer::Dc(dc) => {
+        Ok(dc) => {
             lines::put(rt, 0);
             lines::put(rt, 0);
             lines::put_byte(rt, dc);
         }
-        ListAnswer::Refused(why) => lines::put_refusal(rt, why),
+        Err(why) => lines::put_refusal(rt, why),
     }
     lines::put_bytes(rt, list);
 }

@@ -1,10 +1,9 @@
 // Numbers, answers and lent elements as text.
-use refusal::{Answer, Refusal};
-use scaling_blocks::CountAnswer;
+use refusal::Refusal;
 
 pub fn put(rt: &impl Print, n: u64) {
     streams::write_all(rt, b" ");
-    streams::print_decimal(rt, n);
+    streams::print(rt, n);
 }
 
 pub fn end(rt: &impl Print) {
@@ -20,7 +19,7 @@ fn put_signed(rt: &impl Print, z: i32) {
     if z < 0 {
         streams::write_all(rt, b"-");
     }
-    streams::print_decimal(rt, integers::magnitude(z) as u64);
+    streams::print(rt, integers::magnitude(z) as u64);
 }
 
 fn put_short(rt: &impl Print, z: i16) {
@@ -57,29 +56,29 @@ pub fn put_narrow(rt: &impl Print, xs: &[i16], count: usize) {
 }
 
 pub fn put_refusal(rt: &impl Print, why: Refusal) {
-    put(rt, refusal::number(why) as u64);
-    put(rt, refusal::place(why) as u64);
+    put(rt, why.number() as u64);
+    put(rt, why.place() as u64);
 }
 
-pub fn put_answer(rt: &impl Print, answer: Answer) {
+pub fn put_answer(rt: &impl Print, answer: Result<(), Refusal>) {
     match answer {
-        Answer::Done => {
+        Ok(()) => {
             put(rt, 0);
             put(rt, 0);
         }
-        Answer::Refused(why) => put_refusal(rt, why),
+        Err(why) => put_refusal(rt, why),
     }
 }
 
 // The answer, and how many coefficients were limited.
-pub fn put_count(rt: &impl Print, answer: CountAnswer) {
+pub fn put_count(rt: &impl Print, answer: Result<u16, Refusal>) {
     match answer {
-        CountAnswer::Limited(limited) => {
+        Ok(limited) => {
             put(rt, 0);
             put(rt, 0);
             put(rt, limited as u64);
         }
-        CountAnswer::Refused(why) => {
+        Err(why) => {
             put_refusal(rt, why);
             put(rt, 0);
         }

@@ -8,12 +8,18 @@
 ghost use Rattle.std.specs.Prelude.{◌≤◌};
 
 use c_api::{Answered, CountAnswered};
+use cases::Number;
+use function::Function;
+use std::fmt::Display;
 use std::io::Read;
+
+mod function; // the functions by their numbers
+mod inverted;
+mod scaled;
 
 // `byte` is DC or m, `qp` is QP or QP', `count` the column count or an index.
 #[derive(Clone, Copy)]
 struct Case {
-    function: u8,
     bit_depth: u8,
     extended_precision: bool,
     byte: u8,
@@ -23,19 +29,34 @@ struct Case {
     level: i32,
 }
 
+// What a function answered, as far as the text has it.
+trait Told: Drop {
+    fn put(&self, rt: &impl Print);
+}
+
+impl Told for Answered {
+    fn put(&self, rt: &impl Print) {
+        put_answer(rt, self.number, self.row, self.column);
+    }
+}
+
+impl Told for CountAnswered {
+    fn put(&self, rt: &impl Print) {
+        put_answer(rt, self.number, self.row, self.column);
+        cases::put(rt, self.limited);
+    }
+}
+
 fn put_answer(rt: &impl Print, number: u32, row: u8, column: u8) {
-    cases::put(rt, number as u64);
-    cases::put(rt, row as u64);
-    cases::put(rt, column as u64);
+    cases::put(rt, number);
+    cases::put(rt, row);
+    cases::put(rt, column);
 }
 
 // Whether a value is the next recorded one.
 fn put_next(rt: &impl Print, stdin: &mut impl Read, z: i64) {
-    cases::put_same(rt, cases::is_next_long(stdin, z));
-}
-
-fn put_next_wide(rt: &impl Print, stdin: &mut impl Read, z: i32) {
-    cases::put_same(rt, cases::is_next_wide(stdin, z));
+    let recorded: i32 = cases::next(stdin);
+    cases::put_same(rt, recorded as i64 == z);
 }
 
 fn run_range(rt: &impl Print, stdin: &mut impl Read, case: Case) {
@@ -55,11 +76,9 @@ fn run_dequant(rt: &impl Print, stdin: &mut impl Read, case: Case) {
         case.extended_precision,
     );
     put_answer(rt, r.number, r.row, r.column);
-    put_next(rt, stdin, r.factor);
-    put_next(rt, stdin, r.add);
-    put_next(rt, stdin, r.shift as i64);
-    put_next(rt, stdin, r.clip_min);
-    put_next(rt, stdin, r.clip_max);
+    for z in [r.factor, r.add, r.shift as i64, r.clip_min, r.clip_max] {
+        put_next(rt, stdin, z);
+    }
 }
 
 fn run_transform_skip(rt: &impl Print, stdin: &mut impl Read, case: Case) {
@@ -70,27 +89,22 @@ fn run_transform_skip(rt: &impl Print, stdin: &mut impl Read, case: Case) {
         case.extended_precision,
     );
     put_answer(rt, r.number, r.row, r.column);
-    put_next(rt, stdin, r.factor);
-    put_next(rt, stdin, r.add);
-    put_next(rt, stdin, r.shift as i64);
-    put_next(rt, stdin, r.clip_min);
-    put_next(rt, stdin, r.clip_max);
-    put_next_wide(rt, stdin, r.tr_add);
-    put_next_wide(rt, stdin, r.tr_shift);
+    let own = [r.tr_add as i64, r.tr_shift as i64];
+    for z in [r.factor, r.add, r.shift as i64, r.clip_min, r.clip_max] {
+        put_next(rt, stdin, z);
+    }
+    for z in own {
+        put_next(rt, stdin, z);
+    }
 }
 
-fn run_factor(rt: &impl Print, stdin: &mut impl Read, case: Case, list: &[u8]) {
-    let r = c_api::residual_scaling_coeff(list, case.byte, case.n, case.count);
+fn run_factor(rt: &impl Print, stdin: &mut impl Read, case: Case) {
+    let mut list = [0u8; 64];
+    let entries = length_read(stdin, 64);
+    cases::read_first(stdin, entries, &mut list);
+    let r = c_api::residual_scaling_coeff(&list[..entries], case.byte, case.n, case.count);
     put_answer(rt, r.number, r.row, r.column);
     put_next(rt, stdin, r.value as i64);
-}
-
-fn put_limited(rt: &impl Print, limited: bool) {
-    if limited {
-        cases::put(rt, 1);
-    } else {
-        cases::put(rt, 0);
-    }
 }
 
 fn run_level(rt: &impl Print, stdin: &mut impl Read, case: Case) {
@@ -103,239 +117,64 @@ fn run_level(rt: &impl Print, stdin: &mut impl Read, case: Case) {
         case.extended_precision,
     );
     put_answer(rt, r.number, r.row, r.column);
-    put_limited(rt, r.level_limited);
-    put_limited(rt, r.result_limited);
-    put_next_wide(rt, stdin, r.value);
+    cases::put_flag(rt, r.level_limited);
+    cases::put_flag(rt, r.result_limited);
+    put_next(rt, stdin, r.value as i64);
 }
 
-// A function of levels with 32-bit output.
-fn scale_wide(case: Case, list: &[u8], levels: &[i32], out: &mut [i32]) -> CountAnswered {
-    let n = case.n;
-    let qp = case.qp;
-    let depth = case.bit_depth;
-    let extended = case.extended_precision;
-    let function = case.function;
-    match function {
-        5 => c_api::residual_dequantize_into_scalar_i32(levels, n, qp, depth, extended, out),
-        6 => c_api::residual_dequantize_scaled_into_scalar_i32(
-            levels, n, qp, depth, extended, list, case.byte, out,
-        ),
-        7 => c_api::residual_dequantize_transform_skip_into_scalar_i32(
-            levels, n, qp, depth, extended, out,
-        ),
-        _ => c_api::residual_dequantize_transform_skip_scaled_into_scalar_i32(
-            levels, n, qp, depth, extended, list, case.byte, out,
-        ),
-    }
-}
-
-// A transform with 32-bit output.
-fn invert_wide(case: Case, coeff: &[i32], out: &mut [i32]) -> Answered {
-    let n = case.n;
-    let nx = case.count;
-    let depth = case.bit_depth;
-    let function = case.function;
-    match function {
-        13 => c_api::residual_inv_transform_into_scalar(coeff, n, depth, nx, out),
-        14 => c_api::residual_inv_transform_into_scalar_extended(coeff, n, depth, nx, out),
-        15 => c_api::residual_inv_transform_dst_into_scalar(coeff, depth, out),
-        _ => c_api::residual_inv_transform_dst_into_scalar_extended(coeff, depth, out),
-    }
-}
-
-// A transform with 16-bit output.
-fn invert_narrow(case: Case, coeff: &[i16], out: &mut [i16]) -> Answered {
-    let n = case.n;
-    let nx = case.count;
-    let depth = case.bit_depth;
-    if case.function == 17 {
-        return c_api::residual_inv_transform_into_scalar16(coeff, n, depth, nx, out);
-    }
-    c_api::residual_inv_transform_dst_into_scalar16(coeff, depth, out)
-}
-
-// A function of levels with 16-bit output.
-fn scale_narrow(case: Case, list: &[u8], levels: &[i32], out: &mut [i16]) -> CountAnswered {
-    let n = case.n;
-    let qp = case.qp;
-    let depth = case.bit_depth;
-    let extended = case.extended_precision;
-    let function = case.function;
-    match function {
-        9 => c_api::residual_dequantize_into_scalar_i16(levels, n, qp, depth, extended, out),
-        10 => c_api::residual_dequantize_scaled_into_scalar_i16(
-            levels, n, qp, depth, extended, list, case.byte, out,
-        ),
-        11 => c_api::residual_dequantize_transform_skip_into_scalar_i16(
-            levels, n, qp, depth, extended, out,
-        ),
-        _ => c_api::residual_dequantize_transform_skip_scaled_into_scalar_i16(
-            levels, n, qp, depth, extended, list, case.byte, out,
-        ),
-    }
-}
-
-// The output is lent with the mark 77 in every place, as the recorder lent it to the Rust.
-fn scaled(
-    rt: &impl Print,
-    stdin: &mut impl Read,
-    case: Case,
-    list: &[u8],
-    levels: &[i32],
-    out: &mut [i32],
-) {
-    let r = scale_wide(case, list, levels, out);
-    put_answer(rt, r.number, r.row, r.column);
-    cases::put(rt, r.limited as u64);
-    cases::put_same(rt, cases::are_next_wide(stdin, out));
-}
-
-fn inverted(rt: &impl Print, stdin: &mut impl Read, case: Case, coeff: &[i32], out: &mut [i32]) {
-    let r = invert_wide(case, coeff, out);
-    put_answer(rt, r.number, r.row, r.column);
-    cases::put_same(rt, cases::are_next_wide(stdin, out));
-}
-
-fn wide(
-    rt: &impl Print,
-    stdin: &mut impl Read,
-    case: Case,
-    list: &[u8],
-    input: &[i32],
-    out: &mut [i32],
-) {
-    if case.function < 13 {
-        scaled(rt, stdin, case, list, input, out);
-    } else {
-        inverted(rt, stdin, case, input, out);
-    }
-}
-
-fn narrow(
-    rt: &impl Print,
-    stdin: &mut impl Read,
-    case: Case,
-    list: &[u8],
-    levels: &[i32],
-    out: &mut [i16],
-) {
-    let r = scale_narrow(case, list, levels, out);
-    put_answer(rt, r.number, r.row, r.column);
-    cases::put(rt, r.limited as u64);
-    cases::put_same(rt, cases::are_next_narrow(stdin, out));
-}
-
-fn short(rt: &impl Print, stdin: &mut impl Read, case: Case, coeff: &[i16], out: &mut [i16]) {
-    let r = invert_narrow(case, coeff, out);
-    put_answer(rt, r.number, r.row, r.column);
-    cases::put_same(rt, cases::are_next_narrow(stdin, out));
-}
-
-// How long a list or a block is; none is longer.
-fn list_length(stdin: &mut impl Read) -> usize
-    ensures { result ≤ 64 }
+// A length of two bytes; none is longer than `most`.
+fn length_read(stdin: &mut impl Read, most: usize) -> usize
+    ensures { result ≤ most }
 {
-    let n = cases::next_short(stdin);
-    if n <= 64 {
-        return n;
-    }
-    64
+    (cases::next::<u16>(stdin) as usize).min(most)
 }
 
-fn block_length(stdin: &mut impl Read) -> usize
-    ensures { result ≤ 1040 }
+// A call on a block with its list. The output has the mark 77 in every place, as the recorder lent it to the Rust.
+fn run_listed<O, A, F>(rt: &impl Print, stdin: &mut impl Read, out: &mut [O], call: F)
+where
+    O: Number + Display,
+    A: Told,
+    F: FnOnce(&[u8], &[i32], &mut [O]) -> A,
+    requires { F.IsAlwaysCallable call }
 {
-    let n = cases::next_short(stdin);
-    if n <= 1040 {
-        return n;
-    }
-    1040
-}
-
-// The first elements.
-fn read_list(stdin: &mut impl Read, count: usize, list: &mut [u8]) {
-    if count <= list.len() {
-        streams::read_full(stdin, &mut list[0..count]);
-    }
-}
-
-fn read_wide(stdin: &mut impl Read, count: usize, block: &mut [i32]) {
-    if count <= block.len() {
-        cases::read_wide(stdin, &mut block[0..count]);
-    }
-}
-
-fn read_narrow(stdin: &mut impl Read, count: usize, block: &mut [i16]) {
-    if count <= block.len() {
-        cases::read_narrow(stdin, &mut block[0..count]);
-    }
-}
-
-fn run_wide(rt: &impl Print, stdin: &mut impl Read, case: Case) {
     let mut list = [0u8; 64];
     let mut input = [0i32; 1040];
-    let mut out = [77i32; 1040];
-    let entries = list_length(stdin);
-    let count = block_length(stdin);
-    let len = block_length(stdin);
-    read_list(stdin, entries, &mut list);
-    read_wide(stdin, count, &mut input);
-    wide(
-        rt,
-        stdin,
-        case,
-        &list[0..entries],
-        &input[0..count],
-        &mut out[0..len],
-    );
+    let entries = length_read(stdin, 64);
+    let count = length_read(stdin, 1040);
+    let len = length_read(stdin, out.len());
+    cases::read_first(stdin, entries, &mut list);
+    cases::read_first(stdin, count, &mut input);
+    let answer = call(&list[..entries], &input[..count], &mut out[..len]);
+    answer.put(rt);
+    cases::put_same(rt, cases::are_next(stdin, &out[..len]));
 }
 
-fn run_narrow(rt: &impl Print, stdin: &mut impl Read, case: Case) {
-    let mut list = [0u8; 64];
-    let mut levels = [0i32; 1040];
+// A transform 16 bits wide, which has no list.
+fn run_short<F>(rt: &impl Print, stdin: &mut impl Read, call: F)
+where
+    F: FnOnce(&[i16], &mut [i16]) -> Answered,
+    requires { F.IsAlwaysCallable call }
+{
+    let mut input = [0i16; 1040];
     let mut out = [77i16; 1040];
-    let entries = list_length(stdin);
-    let count = block_length(stdin);
-    let len = block_length(stdin);
-    read_list(stdin, entries, &mut list);
-    read_wide(stdin, count, &mut levels);
-    narrow(
-        rt,
-        stdin,
-        case,
-        &list[0..entries],
-        &levels[0..count],
-        &mut out[0..len],
-    );
+    let count = length_read(stdin, 1040);
+    let len = length_read(stdin, 1040);
+    cases::read_first(stdin, count, &mut input);
+    let answer = call(&input[..count], &mut out[..len]);
+    answer.put(rt);
+    cases::put_same(rt, cases::are_next(stdin, &out[..len]));
 }
 
-fn run_short(rt: &impl Print, stdin: &mut impl Read, case: Case) {
-    let mut coeff = [0i16; 1040];
-    let mut out = [77i16; 1040];
-    let count = block_length(stdin);
-    let len = block_length(stdin);
-    read_narrow(stdin, count, &mut coeff);
-    short(rt, stdin, case, &coeff[0..count], &mut out[0..len]);
-}
-
-fn list_factor(rt: &impl Print, stdin: &mut impl Read, case: Case) {
-    let mut list = [0u8; 64];
-    let entries = list_length(stdin);
-    read_list(stdin, entries, &mut list);
-    run_factor(rt, stdin, case, &list[0..entries]);
-}
-
-fn run(rt: &impl Print, stdin: &mut impl Read, case: Case) {
-    let function = case.function;
+fn run(rt: &impl Print, stdin: &mut impl Read, function: Function, case: Case) {
     match function {
-        0 => run_range(rt, stdin, case),
-        1 => run_dequant(rt, stdin, case),
-        2 => run_transform_skip(rt, stdin, case),
-        3 => list_factor(rt, stdin, case),
-        4 => run_level(rt, stdin, case),
-        9..=12 => run_narrow(rt, stdin, case),
-        17 | 18 => run_short(rt, stdin, case),
-        _ => run_wide(rt, stdin, case),
+        Function::Range => run_range(rt, stdin, case),
+        Function::Dequant => run_dequant(rt, stdin, case),
+        Function::TransformSkip => run_transform_skip(rt, stdin, case),
+        Function::Factor => run_factor(rt, stdin, case),
+        Function::Level => run_level(rt, stdin, case),
+        Function::Scale32(what) => scaled::run_32(rt, stdin, case, what),
+        Function::Scale16(what) => scaled::run_16(rt, stdin, case, what),
+        Function::Invert(what) => inverted::run(rt, stdin, case, what),
     }
 }
 
@@ -344,36 +183,28 @@ fn replay(rt: &impl Print, stdin: &mut impl Read) -> bool {
     if !cases::copy_text(rt, stdin) {
         return false;
     }
-    let function = cases::next_byte(stdin);
-    let bit_depth = cases::next_byte(stdin);
-    let extended_precision = cases::next_byte(stdin) != 0;
-    let byte = cases::next_byte(stdin);
-    let n = cases::next_short(stdin);
-    let count = cases::next_short(stdin);
-    let qp = cases::next_wide(stdin);
-    let level = cases::next_wide(stdin);
-    run(
-        rt,
-        stdin,
-        Case {
-            function,
-            bit_depth,
-            extended_precision,
-            byte,
-            n,
-            count,
-            qp,
-            level,
-        },
-    );
+    let Ok(function) = Function::try_from(cases::next::<u8>(stdin)) else {
+        return false;
+    };
+    let case = Case {
+        bit_depth: cases::next(stdin),
+        extended_precision: cases::next::<u8>(stdin) != 0,
+        byte: cases::next(stdin),
+        n: cases::next::<u16>(stdin) as usize,
+        count: cases::next::<u16>(stdin) as usize,
+        qp: cases::next(stdin),
+        level: cases::next(stdin),
+    };
+    run(rt, stdin, function, case);
     cases::put_end(rt);
     true
 }
 
 fn main(rt: HostRuntime) {
     let mut stdin = rt.stdin();
-    let mut turns = u64::MAX;
-    while turns > 0 && replay(&rt, &mut stdin) {
-        turns -= 1;
+    for _ in 0..u64::MAX {
+        if !replay(&rt, &mut stdin) {
+            break;
+        }
     }
 }

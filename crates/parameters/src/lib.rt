@@ -4,7 +4,8 @@
 ghost use Rattle.std.specs.Prelude.{◌≡◌, ◌≤◌, T, pos, nat_abs};
 ghost use Rattle.h265.specs.Range.{is_size, log2_size};
 ghost use Rattle.h265.specs.Quantization.{qp_bd_offset, clip_qp_prime, qp_prime, scale_of_qp};
-ghost use Rattle.parameters.specs.Answers.{number_outcome, qp_prime_outcome, dequant_outcome, transform_skip_outcome};
+ghost use Rattle.refusal.specs.Outcome.{outcome};
+ghost use Rattle.parameters.specs.Answers.{no_qp_prime, no_dequant, no_transform_skip};
 ghost use Rattle.parameters.specs.Parameters.{max_log2_transform_dynamic_range, qp_bd_offset_of, qp_prime_of, dequant_of, dequant_params, ts_add, transform_skip_of, transform_skip_params, KnownSize};
 
 use refusal::Refusal;
@@ -30,30 +31,6 @@ pub struct TransformSkipParams {
     pub dequant: DequantParams,
     pub tr_add: i32,
     pub tr_shift: i32,
-}
-
-#[derive(Clone, Copy)]
-pub enum NumberAnswer {
-    Value(u32),
-    Refused(Refusal),
-}
-
-#[derive(Clone, Copy)]
-pub enum QpPrimeAnswer {
-    Value(QpPrime),
-    Refused(Refusal),
-}
-
-#[derive(Clone, Copy)]
-pub enum DequantAnswer {
-    Params(DequantParams),
-    Refused(Refusal),
-}
-
-#[derive(Clone, Copy)]
-pub enum TransformSkipAnswer {
-    Params(TransformSkipParams),
-    Refused(Refusal),
 }
 
 const LEVEL_SCALE: [i64; 6] = [40, 45, 51, 57, 64, 72];
@@ -165,33 +142,37 @@ fn skip_params_of(
 }
 
 // R: coefficients lie in -2^R .. 2^R - 1.
-pub fn max_log2_transform_dynamic_range(bit_depth: u8, extended_precision: bool) -> NumberAnswer
-    ensures { number_outcome result ≡ max_log2_transform_dynamic_range bit_depth extended_precision }
+pub fn max_log2_transform_dynamic_range(
+    bit_depth: u8,
+    extended_precision: bool,
+) -> Result<u32, Refusal>
+    ensures { outcome 0 result ≡ max_log2_transform_dynamic_range bit_depth extended_precision }
 {
     if refusal::depth_refused(bit_depth) {
-        return NumberAnswer::Refused(Refusal::DepthInvalid);
+        return Err(Refusal::DepthInvalid);
     }
-    NumberAnswer::Value(coefficients::transform_range(bit_depth, extended_precision))
+    Ok(coefficients::transform_range(bit_depth, extended_precision))
 }
 
 // What QP' is above QP.
-pub fn qp_bd_offset(bit_depth: u8) -> NumberAnswer
-    ensures { number_outcome result ≡ qp_bd_offset_of bit_depth }
+pub fn qp_bd_offset(bit_depth: u8) -> Result<u32, Refusal>
+    ensures { outcome 0 result ≡ qp_bd_offset_of bit_depth }
 {
     if refusal::depth_refused(bit_depth) {
-        return NumberAnswer::Refused(Refusal::DepthInvalid);
+        return Err(Refusal::DepthInvalid);
     }
-    NumberAnswer::Value(offset_of(bit_depth))
+    Ok(offset_of(bit_depth))
 }
 
 // QP' of any 32-bit QP; docs/DIFFERENCES.md says where the ported function overflows.
-pub fn qp_prime(qp: Qp, bit_depth: u8) -> QpPrimeAnswer
-    ensures { qp_prime_outcome result ≡ qp_prime_of qp.0 bit_depth }
+pub fn qp_prime(qp: Qp, bit_depth: u8) -> Result<QpPrime, Refusal>
+    ensures { outcome no_qp_prime result ≡ qp_prime_of qp.0 bit_depth }
 {
     if refusal::depth_refused(bit_depth) {
-        return QpPrimeAnswer::Refused(Refusal::DepthInvalid);
+        Err(Refusal::DepthInvalid)
+    } else {
+        Ok(QpPrime(qp_prime_of(qp.0, bit_depth)))
     }
-    QpPrimeAnswer::Value(QpPrime(qp_prime_of(qp.0, bit_depth)))
 }
 
 // The numbers by which a block of a size is scaled.
@@ -200,17 +181,17 @@ pub fn dequant_params(
     qp_prime: QpPrime,
     bit_depth: u8,
     extended_precision: bool,
-) -> DequantAnswer
-    ensures { dequant_outcome result ≡ dequant_params n qp_prime.0 bit_depth extended_precision }
+) -> Result<DequantParams, Refusal>
+    ensures { outcome no_dequant result ≡ dequant_params n qp_prime.0 bit_depth extended_precision }
 {
     if refusal::size_refused(n) {
-        return DequantAnswer::Refused(Refusal::SizeInvalid);
+        return Err(Refusal::SizeInvalid);
     }
     if refusal::depth_refused(bit_depth) {
-        return DequantAnswer::Refused(Refusal::DepthInvalid);
+        return Err(Refusal::DepthInvalid);
     }
     let log2n = log2_of_size(n);
-    DequantAnswer::Params(params_of(log2n, qp_prime.0, bit_depth, extended_precision))
+    Ok(params_of(log2n, qp_prime.0, bit_depth, extended_precision))
 }
 
 // The same, with the shift of transform skip and its rounding.
@@ -219,15 +200,15 @@ pub fn transform_skip_params(
     qp_prime: QpPrime,
     bit_depth: u8,
     extended_precision: bool,
-) -> TransformSkipAnswer
-    ensures { transform_skip_outcome result ≡ transform_skip_params n qp_prime.0 bit_depth extended_precision }
+) -> Result<TransformSkipParams, Refusal>
+    ensures { outcome no_transform_skip result ≡ transform_skip_params n qp_prime.0 bit_depth extended_precision }
 {
     if refusal::size_refused(n) {
-        return TransformSkipAnswer::Refused(Refusal::SizeInvalid);
+        return Err(Refusal::SizeInvalid);
     }
     if refusal::depth_refused(bit_depth) {
-        return TransformSkipAnswer::Refused(Refusal::DepthInvalid);
+        return Err(Refusal::DepthInvalid);
     }
     let log2n = log2_of_size(n);
-    TransformSkipAnswer::Params(skip_params_of(log2n, qp_prime.0, bit_depth, extended_precision))
+    Ok(skip_params_of(log2n, qp_prime.0, bit_depth, extended_precision))
 }

@@ -3,10 +3,8 @@
 // values. tests/parameters_cases.py writes cases and text.
 #![tactic(auto)]
 
-use parameters::{
-    DequantAnswer, DequantParams, NumberAnswer, Qp, QpPrime, QpPrimeAnswer, TransformSkipAnswer,
-};
-use refusal::Answer;
+use parameters::{DequantParams, Qp, QpPrime};
+use refusal::Refusal;
 use std::io::Read;
 
 // Every value here fits 32 bits.
@@ -21,31 +19,31 @@ fn put_long(rt: &impl Print, z: i64) {
         streams::write_all(rt, b" above");
         return;
     }
-    cases::put_signed(rt, z as i32);
+    cases::put(rt, z as i32);
 }
 
-fn put_number(rt: &impl Print, answer: NumberAnswer) {
+fn put_number(rt: &impl Print, answer: Result<u32, Refusal>) {
     match answer {
-        NumberAnswer::Value(value) => {
-            cases::put_answer(rt, Answer::Done);
+        Ok(value) => {
+            cases::put_answer(rt, Ok(()));
             cases::put(rt, value as u64);
         }
-        NumberAnswer::Refused(why) => cases::put_refusal(rt, why),
+        Err(why) => cases::put_refusal(rt, why),
     }
 }
 
 fn qp_prime(rt: &impl Print, qp: i32, bit_depth: u8) {
     match parameters::qp_prime(Qp(qp), bit_depth) {
-        QpPrimeAnswer::Value(value) => {
-            cases::put_answer(rt, Answer::Done);
-            cases::put_signed(rt, value.0);
+        Ok(value) => {
+            cases::put_answer(rt, Ok(()));
+            cases::put(rt, value.0);
         }
-        QpPrimeAnswer::Refused(why) => cases::put_refusal(rt, why),
+        Err(why) => cases::put_refusal(rt, why),
     }
 }
 
 fn put_params(rt: &impl Print, params: DequantParams) {
-    cases::put_answer(rt, Answer::Done);
+    cases::put_answer(rt, Ok(()));
     put_long(rt, params.factor);
     put_long(rt, params.add);
     cases::put(rt, params.shift as u64);
@@ -55,19 +53,19 @@ fn put_params(rt: &impl Print, params: DequantParams) {
 
 fn dequant(rt: &impl Print, n: usize, qp: i32, bit_depth: u8, extended: bool) {
     match parameters::dequant_params(n, QpPrime(qp), bit_depth, extended) {
-        DequantAnswer::Params(params) => put_params(rt, params),
-        DequantAnswer::Refused(why) => cases::put_refusal(rt, why),
+        Ok(params) => put_params(rt, params),
+        Err(why) => cases::put_refusal(rt, why),
     }
 }
 
 fn skip(rt: &impl Print, n: usize, qp: i32, bit_depth: u8, extended: bool) {
     match parameters::transform_skip_params(n, QpPrime(qp), bit_depth, extended) {
-        TransformSkipAnswer::Params(params) => {
+        Ok(params) => {
             put_params(rt, params.dequant);
-            cases::put_signed(rt, params.tr_add);
-            cases::put_signed(rt, params.tr_shift);
+            cases::put(rt, params.tr_add);
+            cases::put(rt, params.tr_shift);
         }
-        TransformSkipAnswer::Refused(why) => cases::put_refusal(rt, why),
+        Err(why) => cases::put_refusal(rt, why),
     }
 }
 
@@ -76,11 +74,11 @@ fn replay(rt: &impl Print, stdin: &mut impl Read) -> bool {
     if !cases::copy_text(rt, stdin) {
         return false;
     }
-    let which = cases::next_byte(stdin);
-    let n = cases::next_word(stdin);
-    let qp = cases::next_wide(stdin);
-    let bit_depth = cases::next_byte(stdin);
-    let extended = cases::next_byte(stdin) != 0;
+    let which = cases::next::<u8>(stdin);
+    let n = cases::next::<usize>(stdin);
+    let qp = cases::next::<i32>(stdin);
+    let bit_depth = cases::next::<u8>(stdin);
+    let extended = cases::next::<u8>(stdin) != 0;
     match which {
         0 => put_number(
             rt,

@@ -1,11 +1,11 @@
 // Writes a table: for every depth, flag and size the range R, the shift s of scaling, the shift t of transform skip and the largest QP'.
 #![tactic(auto)]
 
-use parameters::{NumberAnswer, Qp, QpPrime, QpPrimeAnswer, TransformSkipAnswer};
+use parameters::{Qp, QpPrime};
 
 fn put_number(rt: &impl Print, n: u64) {
     streams::write_all(rt, b"\t");
-    streams::print_decimal(rt, n);
+    streams::print(rt, n);
 }
 
 fn put_signed(rt: &impl Print, z: i32) {
@@ -13,35 +13,35 @@ fn put_signed(rt: &impl Print, z: i32) {
     if z < 0 {
         streams::write_all(rt, b"-");
     }
-    streams::print_decimal(rt, integers::magnitude(z) as u64);
+    streams::print(rt, integers::magnitude(z) as u64);
 }
 
 fn put_range(rt: &impl Print, bit_depth: u8, extended_precision: bool) {
     match parameters::max_log2_transform_dynamic_range(bit_depth, extended_precision) {
-        NumberAnswer::Value(range) => put_number(rt, range as u64),
-        NumberAnswer::Refused(refusal) => put_number(rt, refusal::number(refusal) as u64),
+        Ok(range) => put_number(rt, range as u64),
+        Err(refusal) => put_number(rt, refusal.number() as u64),
     }
 }
 
 fn put_shifts(rt: &impl Print, n: usize, bit_depth: u8, extended_precision: bool) {
     match parameters::transform_skip_params(n, QpPrime(0), bit_depth, extended_precision) {
-        TransformSkipAnswer::Params(params) => {
+        Ok(params) => {
             put_number(rt, params.dequant.shift as u64);
             put_signed(rt, params.tr_shift);
         }
-        TransformSkipAnswer::Refused(refusal) => put_number(rt, refusal::number(refusal) as u64),
+        Err(refusal) => put_number(rt, refusal.number() as u64),
     }
 }
 
 fn put_largest_qp(rt: &impl Print, bit_depth: u8) {
     match parameters::qp_prime(Qp(51), bit_depth) {
-        QpPrimeAnswer::Value(largest) => put_signed(rt, largest.0),
-        QpPrimeAnswer::Refused(refusal) => put_number(rt, refusal::number(refusal) as u64),
+        Ok(largest) => put_signed(rt, largest.0),
+        Err(refusal) => put_number(rt, refusal.number() as u64),
     }
 }
 
 fn put_line(rt: &impl Print, n: usize, bit_depth: u8, extended_precision: bool) {
-    streams::print_decimal(rt, bit_depth as u64);
+    streams::print(rt, bit_depth as u64);
     put_number(rt, extended_precision as u64);
     put_number(rt, n as u64);
     put_range(rt, bit_depth, extended_precision);

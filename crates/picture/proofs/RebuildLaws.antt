@@ -4,6 +4,7 @@
 --   rebuilt_size .. rebuilt_sample_lem, rebuilt_done   what each step answers
 --   checked-inside                what the rows of the block rely on
 --   above_none                    no sample is above the largest
+use Rattle.std.specs.Prelude.{Ok, Err}
 use mathlib.Core.Path.{◌≡◌, sym, ap}
 use mathlib.Core.Bool.{true, false}
 use mathlib.Core.List.{List}
@@ -15,7 +16,6 @@ use lib.Dec.{ltb}
 use lib.IntN.{ℤ}
 use lib.ListN.{length, get_or}
 use Rattle.integers.proofs.SearchLaws.{first_where_first}
-use Rattle.refusal.specs.declared.Answer.TheVariants.{Done, Refused}
 use Rattle.refusal.specs.declared.Refusal.{Refusal}
 use Rattle.refusal.specs.declared.Refusal.TheVariants.{SizeInvalid, DepthInvalid, InputTooShort, SampleOutside, PictureInvalid}
 use Rattle.refusal.specs.Condition.{size_refused, depth_refused, block_refused}
@@ -25,10 +25,10 @@ use Rattle.picture.specs.Samples.{sample_max, first_above, rebuilt_plane}
 use Rattle.picture.specs.Rebuild.{Rebuilt, Rebuilds, rebuilt, left, put, Below, Inside}
 use Rattle.planes.proofs.PictureLaws.{picture_accepted, block-accepted}
 
-pub rebuilds_left : {w : Rebuilt} {plane : List ℕ} (e : Refusal) → w ≡ left plane e → Rebuilds (Refused e) plane w
+pub rebuilds_left : {w : Rebuilt} {plane : List ℕ} (e : Refusal) → w ≡ left plane e → Rebuilds (Err e) plane w
 rebuilds_left e h = record { answered = sym (ap (λ (v : Rebuilt). v.answer) h); plane = sym (ap (λ (v : Rebuilt). v.plane) h) }
 
-pub rebuilds_put : {w : Rebuilt} {plane : List ℕ} → w ≡ put plane → Rebuilds Done plane w
+pub rebuilds_put : {w : Rebuilt} {plane : List ℕ} → w ≡ put plane → Rebuilds (Ok tt) plane w
 rebuilds_put h = record { answered = sym (ap (λ (v : Rebuilt). v.answer) h); plane = sym (ap (λ (v : Rebuilt). v.plane) h) }
 
 pub record Checked (n b residuals predictions width height stride x y places : ℕ) : Type 0 where

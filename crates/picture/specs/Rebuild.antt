@@ -7,9 +7,8 @@
 --   Below top k xs         the first k samples are at most top
 --   Placed                 n elements from `at` on are f 0, f 1, .., all others as before
 --   Inside                 buffers, block and plane have the sizes that the ladder leaves
-use Rattle.std.specs.Prelude.{◌≡◌, cond, List, ℕ, ◌+◌, ◌-◌, ◌*◌, ◌≤◌, ◌<◌, T, ltb, ℤ, length, get_or}
+use Rattle.std.specs.Prelude.{◌≡◌, cond, List, ℕ, ◌+◌, ◌-◌, ◌*◌, ◌≤◌, ◌<◌, T, ltb, ℤ, length, get_or, Result}
 use Rattle.h265.specs.Range.{is_size}
-use Rattle.refusal.specs.declared.Answer.{Answer}
 use Rattle.refusal.specs.declared.Refusal.{Refusal}
 use Rattle.refusal.specs.declared.Refusal.TheVariants.{SizeInvalid, DepthInvalid, InputTooShort, SampleOutside, PictureInvalid}
 use Rattle.refusal.specs.Condition.{size_refused, depth_refused, block_refused}
@@ -39,7 +38,7 @@ rebuilt n b residual prediction width height stride x y plane =
     (cond (ltb first (n * n)) (left plane (SampleOutside first))
     (put (rebuilt_plane n b residual prediction stride x y plane))))))))
 
-pub record Rebuilds (r : Answer) (after : List ℕ) (w : Rebuilt) : Type 0 where
+pub record Rebuilds (r : Result (Unit {0}) Refusal) (after : List ℕ) (w : Rebuilt) : Type 0 where
   pub answered : answer r ≡ w.answer
   pub plane : after ≡ w.plane
 

@@ -4,7 +4,7 @@ ghost use Rattle.picture.specs.Rebuild.{rebuilt, Rebuilds, Below, Placed, Inside
 ghost use Rattle.picture.specs.Samples.{sample_max, rebuilt_sample, rebuilt_at, rebuilt_plane};
 
 use crate::refuse;
-use refusal::{Answer, Refusal};
+use refusal::Refusal;
 
 // 2^depth - 1.
 fn sample_max(bit_depth: u8) -> u16
@@ -43,10 +43,8 @@ fn rebuild_row(
     requires below { Below top (from + n) prediction.now }
     ensures { Placed at n (λ c. rebuilt_at top residual.now prediction.now (from + c)) plane.old plane.new }
 {
-    let mut c: usize = 0;
-    while c < n {
+    for c in 0..n {
         plane[at + c] = rebuilt_sample(top, prediction[from + c], residual[from + c]);
-        c += 1;
     }
 }
 
@@ -66,8 +64,7 @@ fn rebuild_rows(
     ensures { plane.new ≡ rebuilt_plane n bit_depth residual.now prediction.now stride x y plane.old }
 {
     let top = sample_max(bit_depth);
-    let mut k: usize = 0;
-    while k < n {
+    for k in 0..n {
         rebuild_row(
             n,
             top,
@@ -77,7 +74,6 @@ fn rebuild_rows(
             (y + k) * stride + x,
             plane,
         );
-        k += 1;
     }
 }
 
@@ -93,31 +89,31 @@ pub fn rebuild_block(
     x: usize,
     y: usize,
     plane: &mut [u16],
-) -> Answer
+) -> Result<(), Refusal>
     ensures { Rebuilds result plane.new (rebuilt n bit_depth residual.now prediction.now width height stride x y plane.old) }
 {
     if refusal::size_refused(n) {
-        return Answer::Refused(Refusal::SizeInvalid);
+        return Err(Refusal::SizeInvalid);
     }
     if refusal::depth_refused(bit_depth) {
-        return Answer::Refused(Refusal::DepthInvalid);
+        return Err(Refusal::DepthInvalid);
     }
     if residual.len() < n * n {
-        return Answer::Refused(Refusal::InputTooShort);
+        return Err(Refusal::InputTooShort);
     }
     if prediction.len() < n * n {
-        return Answer::Refused(Refusal::InputTooShort);
+        return Err(Refusal::InputTooShort);
     }
     if planes::picture_refused(width, height, stride, plane.len()) {
-        return Answer::Refused(Refusal::PictureInvalid);
+        return Err(Refusal::PictureInvalid);
     }
     if planes::block_outside(n, width, height, x, y) {
-        return Answer::Refused(Refusal::PictureInvalid);
+        return Err(Refusal::PictureInvalid);
     }
     let first = refuse::first_above(sample_max(bit_depth), n * n, prediction);
     if first < n * n {
-        return Answer::Refused(Refusal::SampleOutside(first));
+        return Err(Refusal::SampleOutside(first));
     }
     rebuild_rows(n, bit_depth, residual, prediction, stride, x, y, plane);
-    Answer::Done
+    Ok(())
 }

@@ -9,10 +9,8 @@ fn all_below(top: u16, count: usize, samples: &[u16]) -> bool
     ensures { result ≡ true → Below top count samples.now }
 {
     let mut bits: u16 = 0;
-    let mut i: usize = 0;
-    while i < count {
-        bits = bits | samples[i];
-        i += 1;
+    for i in 0..count {
+        bits |= samples[i];
     }
     bits <= top
 }
@@ -22,14 +20,12 @@ fn search_above(top: u16, count: usize, samples: &[u16]) -> usize
     requires { count ≤ length samples.now }
     ensures { result ≡ first_above top count samples.now }
 {
-    let mut i: usize = 0;
-    while i < count {
+    for i in 0..count {
         if top < samples[i] {
             return i;
         }
-        i += 1;
     }
-    i
+    count
 }
 
 // Row 12: the first of `count` samples that is above the largest, and `count` where there is none.

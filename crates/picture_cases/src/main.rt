@@ -4,13 +4,34 @@
 // The text goes on with the answer, and the plane afterwards or the checksum. tests/picture_cases.py writes cases and text.
 #![tactic(auto)]
 
-use checksum::ChecksumAnswer;
-use refusal::Answer;
 use std::io::Read;
+
+// The function that a case is of, by its number.
+#[derive(Clone, Copy)]
+enum Function {
+    Rebuild,
+    Checksum,
+}
+
+// A number that a case gives no function.
+#[derive(Clone, Copy)]
+struct UnknownFunction;
+
+impl TryFrom<u8> for Function {
+    type Error = UnknownFunction;
+
+    fn try_from(number: u8) -> Result<Function, UnknownFunction> {
+        match number {
+            0 => Ok(Function::Rebuild),
+            1 => Ok(Function::Checksum),
+            _ => Err(UnknownFunction),
+        }
+    }
+}
 
 #[derive(Clone, Copy)]
 struct Case {
-    which: u8,
+    function: Function,
     n: usize,
     bit_depth: u8,
     width: usize,
@@ -20,34 +41,24 @@ struct Case {
     y: usize,
 }
 
-fn next_case(stdin: &mut impl Read) -> Case {
-    let which = cases::next_byte(stdin);
-    let n = cases::next_word(stdin);
-    let bit_depth = cases::next_byte(stdin);
-    let width = cases::next_word(stdin);
-    let height = cases::next_word(stdin);
-    let stride = cases::next_word(stdin);
-    let x = cases::next_word(stdin);
-    let y = cases::next_word(stdin);
+fn next_case(stdin: &mut impl Read, function: Function) -> Case {
     Case {
-        which,
-        n,
-        bit_depth,
-        width,
-        height,
-        stride,
-        x,
-        y,
+        function,
+        n: cases::next(stdin),
+        bit_depth: cases::next(stdin),
+        width: cases::next(stdin),
+        height: cases::next(stdin),
+        stride: cases::next(stdin),
+        x: cases::next(stdin),
+        y: cases::next(stdin),
     }
 }
 
 fn fill(first: u16, step: u16, plane: &mut [u16]) {
-    let mut i = 0;
     let mut sample = first;
-    while i < plane.len() {
-        plane[i] = sample;
-        sample = std::num::wrapping_add_u16(sample, step);
-        i += 1;
+    for x in plane.iter_mut() {
+        *x = sample;
+        sample = sample.wrapping_add(step);
     }
 }
 
@@ -63,33 +74,32 @@ fn rebuild(rt: &impl Print, case: Case, residual: &[i32], prediction: &[u16], pl
             n, depth, residual, prediction, width, height, stride, case.x, case.y, plane,
         ),
     );
-    cases::put_samples(rt, plane);
+    cases::put_all(rt, plane);
 }
 
 fn checksum(rt: &impl Print, case: Case, plane: &[u16]) {
     match checksum::picture_checksum(case.width, case.height, case.stride, case.bit_depth, plane) {
-        ChecksumAnswer::Sum(sum) => {
-            cases::put_answer(rt, Answer::Done);
+        Ok(sum) => {
+            cases::put_answer(rt, Ok(()));
             cases::put(rt, sum as u64);
         }
-        ChecksumAnswer::Refused(why) => cases::put_refusal(rt, why),
+        Err(why) => cases::put_refusal(rt, why),
     }
 }
 
 fn call(rt: &impl Print, case: Case, residual: &[i32], prediction: &[u16], plane: &mut [u16]) {
-    if case.which == 0 {
-        rebuild(rt, case, residual, prediction, plane);
-    } else {
-        checksum(rt, case, plane);
+    match case.function {
+        Function::Rebuild => rebuild(rt, case, residual, prediction, plane),
+        Function::Checksum => checksum(rt, case, plane),
     }
 }
 
 fn make(stdin: &mut impl Read, plane: &mut [u16]) {
-    let first = cases::next_sample(stdin);
-    let step = cases::next_sample(stdin);
+    let first = cases::next::<u16>(stdin);
+    let step = cases::next::<u16>(stdin);
     fill(first, step, plane);
     let count = cases::next_length(stdin, 1024);
-    cases::read_first_samples(stdin, count, plane);
+    cases::read_first(stdin, count, plane);
 }
 
 fn on_plane(
@@ -110,13 +120,16 @@ fn replay(rt: &impl Print, stdin: &mut impl Read) -> bool {
     if !cases::copy_text(rt, stdin) {
         return false;
     }
-    let case = next_case(stdin);
+    let Ok(function) = Function::try_from(cases::next::<u8>(stdin)) else {
+        return false;
+    };
+    let case = next_case(stdin, function);
     let mut residual = [0i32; 1024];
     let mut prediction = [0u16; 1024];
     let residuals = cases::next_length(stdin, 1024);
-    cases::read_first_wide(stdin, residuals, &mut residual);
+    cases::read_first(stdin, residuals, &mut residual);
     let predictions = cases::next_length(stdin, 1024);
-    cases::read_first_samples(stdin, predictions, &mut prediction);
+    cases::read_first(stdin, predictions, &mut prediction);
     on_plane(
         rt,
         stdin,
@@ -130,8 +143,9 @@ fn replay(rt: &impl Print, stdin: &mut impl Read) -> bool {
 
 fn main(rt: HostRuntime) {
     let mut stdin = rt.stdin();
-    let mut turns = u64::MAX;
-    while turns > 0 && replay(&rt, &mut stdin) {
-        turns -= 1;
+    for _ in 0..u64::MAX {
+        if !replay(&rt, &mut stdin) {
+            break;
+        }
     }
 }

@@ -3,8 +3,7 @@
 --   left out e        refused with e: the buffer as lent
 --   wrote out         accepted: the buffer as it was written
 --   Writes r after w  a call's answer r and its buffer `after` are what w says
-use Rattle.std.specs.Prelude.{◌≡◌, List, ℤ}
-use Rattle.refusal.specs.declared.Answer.{Answer}
+use Rattle.std.specs.Prelude.{◌≡◌, List, ℤ, Result}
 use Rattle.refusal.specs.declared.Refusal.{Refusal}
 use Rattle.refusal.specs.Outcome.{Outcome, accepted, refused, answer}
 
@@ -18,6 +17,6 @@ left out e = record { answer = refused tt e; out = out }
 abbrev pub wrote : List ℤ → Written
 wrote out = record { answer = accepted tt; out = out }
 
-pub record Writes (r : Answer) (after : List ℤ) (w : Written) : Type 0 where
+pub record Writes (r : Result (Unit {0}) Refusal) (after : List ℤ) (w : Written) : Type 0 where
   pub answered : answer r ≡ w.answer
   pub out : after ≡ w.out

@@ -1,11 +1,11 @@
-// Why a call was refused: a variant for each row of the table of refusals, with the place where the row names one.
+// Why a call was refused: a variant for each row of the table of refusals, with the place where the row names one. It is the error of every call.
 #![tactic(auto)]
 
 ghost use Rattle.std.specs.Prelude.{◌≡◌};
 ghost use Rattle.refusal.specs.Condition.{size_refused, depth_refused, width_refused, rotation_refused};
 ghost use Rattle.refusal.specs.Refusal.{parts, number, place, row, column};
 
-#[derive(Clone, Copy)]
+#[derive(Clone, Copy, Debug, PartialEq, Eq)]
 pub enum Refusal {
     SizeInvalid,
     DepthInvalid,
@@ -34,13 +34,6 @@ pub enum Refusal {
     RotationSizeInvalid,
 }
 
-// The answer of a call that hands nothing back but what it wrote.
-#[derive(Clone, Copy)]
-pub enum Answer {
-    Done,
-    Refused(Refusal),
-}
-
 // A refusal's number in the table, and the place that it names: one number (an index or an offset), or the row and column of a
 // coefficient; 0 where it names none.
 #[derive(Clone, Copy)]
@@ -51,70 +44,72 @@ pub struct RefusalParts {
     column: u8,
 }
 
-// The table of refusals.
-#[rattlefmt::skip]
-pub fn parts(refusal: Refusal) -> RefusalParts
-    ensures { result ≡ parts refusal }
-{
-    match refusal {
-        Refusal::SizeInvalid => RefusalParts { number: 1, place: 0, row: 0, column: 0 },
-        Refusal::DepthInvalid => RefusalParts { number: 2, place: 0, row: 0, column: 0 },
-        Refusal::WidthTooNarrow => RefusalParts { number: 3, place: 0, row: 0, column: 0 },
-        Refusal::DstSizeInvalid => RefusalParts { number: 4, place: 0, row: 0, column: 0 },
-        Refusal::ListLengthInvalid => RefusalParts { number: 5, place: 0, row: 0, column: 0 },
-        Refusal::InputTooShort => RefusalParts { number: 6, place: 0, row: 0, column: 0 },
-        Refusal::OutputTooShort => RefusalParts { number: 7, place: 0, row: 0, column: 0 },
-        Refusal::PlaceOutside => RefusalParts { number: 8, place: 0, row: 0, column: 0 },
-        Refusal::CoefficientAbove(row, column) => RefusalParts { number: 9, place: 0, row: row, column: column },
-        Refusal::WayMismatched => RefusalParts { number: 10, place: 0, row: 0, column: 0 },
-        Refusal::LevelMissing(row, column) => RefusalParts { number: 11, place: 0, row: row, column: column },
-        Refusal::SampleOutside(at) => RefusalParts { number: 12, place: at, row: 0, column: 0 },
-        Refusal::PictureInvalid => RefusalParts { number: 13, place: 0, row: 0, column: 0 },
-        Refusal::BitsEnded(at) => RefusalParts { number: 14, place: at, row: 0, column: 0 },
-        Refusal::ReferenceMissing(at) => RefusalParts { number: 15, place: at, row: 0, column: 0 },
-        Refusal::ListValueInvalid(at) => RefusalParts { number: 16, place: at, row: 0, column: 0 },
-        Refusal::StreamFull => RefusalParts { number: 17, place: 0, row: 0, column: 0 },
-        Refusal::ListMissing => RefusalParts { number: 18, place: 0, row: 0, column: 0 },
-        Refusal::CoefficientBelow(row, column) => RefusalParts { number: 19, place: 0, row: row, column: column },
-        Refusal::KindUnknown => RefusalParts { number: 20, place: 0, row: 0, column: 0 },
-        Refusal::BodyTooShort => RefusalParts { number: 21, place: 0, row: 0, column: 0 },
-        Refusal::LevelsBeforeParameters => RefusalParts { number: 22, place: 0, row: 0, column: 0 },
-        Refusal::ParameterInvalid => RefusalParts { number: 23, place: 0, row: 0, column: 0 },
-        Refusal::BlockMissing => RefusalParts { number: 24, place: 0, row: 0, column: 0 },
-        Refusal::RotationSizeInvalid => RefusalParts { number: 25, place: 0, row: 0, column: 0 },
+impl Refusal {
+    // The table of refusals.
+    #[rattlefmt::skip]
+    pub fn parts(self) -> RefusalParts
+        ensures { result ≡ parts self }
+    {
+        match self {
+            Refusal::SizeInvalid => RefusalParts { number: 1, place: 0, row: 0, column: 0 },
+            Refusal::DepthInvalid => RefusalParts { number: 2, place: 0, row: 0, column: 0 },
+            Refusal::WidthTooNarrow => RefusalParts { number: 3, place: 0, row: 0, column: 0 },
+            Refusal::DstSizeInvalid => RefusalParts { number: 4, place: 0, row: 0, column: 0 },
+            Refusal::ListLengthInvalid => RefusalParts { number: 5, place: 0, row: 0, column: 0 },
+            Refusal::InputTooShort => RefusalParts { number: 6, place: 0, row: 0, column: 0 },
+            Refusal::OutputTooShort => RefusalParts { number: 7, place: 0, row: 0, column: 0 },
+            Refusal::PlaceOutside => RefusalParts { number: 8, place: 0, row: 0, column: 0 },
+            Refusal::CoefficientAbove(row, column) => RefusalParts { number: 9, place: 0, row: row, column: column },
+            Refusal::WayMismatched => RefusalParts { number: 10, place: 0, row: 0, column: 0 },
+            Refusal::LevelMissing(row, column) => RefusalParts { number: 11, place: 0, row: row, column: column },
+            Refusal::SampleOutside(at) => RefusalParts { number: 12, place: at, row: 0, column: 0 },
+            Refusal::PictureInvalid => RefusalParts { number: 13, place: 0, row: 0, column: 0 },
+            Refusal::BitsEnded(at) => RefusalParts { number: 14, place: at, row: 0, column: 0 },
+            Refusal::ReferenceMissing(at) => RefusalParts { number: 15, place: at, row: 0, column: 0 },
+            Refusal::ListValueInvalid(at) => RefusalParts { number: 16, place: at, row: 0, column: 0 },
+            Refusal::StreamFull => RefusalParts { number: 17, place: 0, row: 0, column: 0 },
+            Refusal::ListMissing => RefusalParts { number: 18, place: 0, row: 0, column: 0 },
+            Refusal::CoefficientBelow(row, column) => RefusalParts { number: 19, place: 0, row: row, column: column },
+            Refusal::KindUnknown => RefusalParts { number: 20, place: 0, row: 0, column: 0 },
+            Refusal::BodyTooShort => RefusalParts { number: 21, place: 0, row: 0, column: 0 },
+            Refusal::LevelsBeforeParameters => RefusalParts { number: 22, place: 0, row: 0, column: 0 },
+            Refusal::ParameterInvalid => RefusalParts { number: 23, place: 0, row: 0, column: 0 },
+            Refusal::BlockMissing => RefusalParts { number: 24, place: 0, row: 0, column: 0 },
+            Refusal::RotationSizeInvalid => RefusalParts { number: 25, place: 0, row: 0, column: 0 },
+        }
     }
-}
 
-// The refusal's number in the table.
-pub fn number(refusal: Refusal) -> u8
-    ensures { result ≡ number refusal }
-{
-    let of = parts(refusal);
-    of.number
-}
+    // The refusal's number in the table.
+    pub fn number(self) -> u8
+        ensures { result ≡ number self }
+    {
+        let of = self.parts();
+        of.number
+    }
 
-// The place that the refusal names by one number, and 0 where it names none.
-pub fn place(refusal: Refusal) -> usize
-    ensures { result ≡ place refusal }
-{
-    let of = parts(refusal);
-    of.place
-}
+    // The place that the refusal names by one number, and 0 where it names none.
+    pub fn place(self) -> usize
+        ensures { result ≡ place self }
+    {
+        let of = self.parts();
+        of.place
+    }
 
-// The row of the coefficient that the refusal names, and 0 where it names none.
-pub fn row(refusal: Refusal) -> u8
-    ensures { result ≡ row refusal }
-{
-    let of = parts(refusal);
-    of.row
-}
+    // The row of the coefficient that the refusal names, and 0 where it names none.
+    pub fn row(self) -> u8
+        ensures { result ≡ row self }
+    {
+        let of = self.parts();
+        of.row
+    }
 
-// Its column.
-pub fn column(refusal: Refusal) -> u8
-    ensures { result ≡ column refusal }
-{
-    let of = parts(refusal);
-    of.column
+    // Its column.
+    pub fn column(self) -> u8
+        ensures { result ≡ column self }
+    {
+        let of = self.parts();
+        of.column
+    }
 }
 
 // Row 1: the size is none of 4, 8, 16, 32.

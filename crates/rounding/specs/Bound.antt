@@ -7,13 +7,7 @@ use Rattle.refusal.specs.Condition.{size_refused, depth_refused}
 use Rattle.refusal.specs.Outcome.{Outcome, accepted, refused}
 use Rattle.transform_1d.specs.declared.Kind.{Kind}
 use Rattle.transform_1d.specs.Kinds.{dst_refused}
-use Rattle.rounding.specs.declared.BoundAnswer.{BoundAnswer}
-use Rattle.rounding.specs.declared.BoundAnswer.TheVariants.{Bound, Refused}
 use Rattle.rounding.specs.Exact.{rounding_bound}
-
-abbrev pub bound_outcome : BoundAnswer → Outcome ℕ
-bound_outcome (Bound v) = accepted v
-bound_outcome (Refused e) = refused 0 e
 
 unfoldable pub rounding_bound_of : Kind → ℕ → ℕ → Bool → Outcome ℕ
 rounding_bound_of kind n b x =

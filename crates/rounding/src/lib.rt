@@ -3,17 +3,12 @@
 
 ghost use Rattle.std.specs.Prelude.{◌≡◌, ◌≤◌, T};
 ghost use Rattle.h265.specs.Range.{is_size};
+ghost use Rattle.refusal.specs.Outcome.{outcome};
 ghost use Rattle.rounding.specs.Exact.{dct_sum, entry_sum, shift_of, rounding_bound};
-ghost use Rattle.rounding.specs.Bound.{bound_outcome, rounding_bound_of};
+ghost use Rattle.rounding.specs.Bound.{rounding_bound_of};
 
 use refusal::Refusal;
 use transform_1d::Kind;
-
-#[derive(Clone, Copy)]
-pub enum BoundAnswer {
-    Bound(u32),
-    Refused(Refusal),
-}
 
 // The largest sum of absolute entries over one output of the n-point DCT.
 fn dct_sum(n: usize) -> u32
@@ -56,17 +51,22 @@ fn bound_of(kind: Kind, n: usize, bit_depth: u8, extended_precision: bool) -> u3
 }
 
 // By how much 2^(7 + s2) times a residual may differ from the exact product, where no stage-one value was limited.
-pub fn rounding_bound(kind: Kind, n: usize, bit_depth: u8, extended_precision: bool) -> BoundAnswer
-    ensures { bound_outcome result ≡ rounding_bound_of kind n bit_depth extended_precision }
+pub fn rounding_bound(
+    kind: Kind,
+    n: usize,
+    bit_depth: u8,
+    extended_precision: bool,
+) -> Result<u32, Refusal>
+    ensures { outcome 0 result ≡ rounding_bound_of kind n bit_depth extended_precision }
 {
     if refusal::size_refused(n) {
-        return BoundAnswer::Refused(Refusal::SizeInvalid);
+        return Err(Refusal::SizeInvalid);
     }
     if refusal::depth_refused(bit_depth) {
-        return BoundAnswer::Refused(Refusal::DepthInvalid);
+        return Err(Refusal::DepthInvalid);
     }
     if transform_1d::dst_refused(kind, n) {
-        return BoundAnswer::Refused(Refusal::DstSizeInvalid);
+        return Err(Refusal::DstSizeInvalid);
     }
-    BoundAnswer::Bound(bound_of(kind, n, bit_depth, extended_precision))
+    Ok(bound_of(kind, n, bit_depth, extended_precision))
 }

@@ -2,8 +2,7 @@
 // text goes on with the answer and the bound. tests/rounding_cases.py writes cases and text.
 #![tactic(auto)]
 
-use refusal::Answer;
-use rounding::BoundAnswer;
+use refusal::Refusal;
 use std::io::Read;
 use transform_1d::Kind;
 
@@ -11,13 +10,13 @@ fn kind_of(byte: u8) -> Kind {
     if byte == 0 { Kind::Dct } else { Kind::Dst }
 }
 
-fn show(rt: &impl Print, answer: BoundAnswer) {
+fn show(rt: &impl Print, answer: Result<u32, Refusal>) {
     match answer {
-        BoundAnswer::Bound(value) => {
-            cases::put_answer(rt, Answer::Done);
+        Ok(value) => {
+            cases::put_answer(rt, Ok(()));
             cases::put(rt, value as u64);
         }
-        BoundAnswer::Refused(why) => cases::put_refusal(rt, why),
+        Err(why) => cases::put_refusal(rt, why),
     }
 }
 
@@ -26,10 +25,10 @@ fn replay(rt: &impl Print, stdin: &mut impl Read) -> bool {
     if !cases::copy_text(rt, stdin) {
         return false;
     }
-    let kind = kind_of(cases::next_byte(stdin));
-    let n = cases::next_word(stdin);
-    let bit_depth = cases::next_byte(stdin);
-    let extended = cases::next_byte(stdin) != 0;
+    let kind = kind_of(cases::next::<u8>(stdin));
+    let n = cases::next::<usize>(stdin);
+    let bit_depth = cases::next::<u8>(stdin);
+    let extended = cases::next::<u8>(stdin) != 0;
     show(rt, rounding::rounding_bound(kind, n, bit_depth, extended));
     cases::put_end(rt);
     true

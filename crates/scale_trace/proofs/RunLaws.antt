@@ -4,6 +4,7 @@
 --   traces_full                       what was made of a record over buffers of 1,024 elements is its effect
 --   listing_refused, listing_passed   after a record, by its answer
 --   listing_follows                   the listing with the open block in buffers is that with its history
+use Rattle.std.specs.Prelude.{Option, Result, Ok, Err, is_ok}
 use mathlib.Core.Path.{◌≡◌, refl, sym, ap, ◌∙◌, subst}
 use mathlib.Core.Bool.{true, false, cond, true≢false}
 use mathlib.Core.List.{List, []}
@@ -16,20 +17,20 @@ use Rattle.h265.specs.ScalingFactor.{ScalingList}
 use Rattle.refusal.specs.Outcome.{Outcome}
 use Rattle.text.proofs.WroteLaws.{Left}
 use Rattle.feed_lines.specs.Lines.{refused_text}
+use Rattle.feed_format.specs.declared.Parameters.{Parameters}
 use Rattle.feed_format.specs.declared.Kind.{Kind}
-use Rattle.feed_format.specs.declared.Kind.TheVariants.{Parameters, List as ListKind, NoList, Levels, Edit, Reading, Unknown}
-use Rattle.feed_format.specs.declared.Given.{Given}
+use Rattle.feed_format.specs.declared.Kind.TheVariants.{Parameters as ParametersKind, List as ListKind, NoList, Levels, Edit, Reading, Unknown}
 use Rattle.feed_state.specs.declared.State.{State}
 use Rattle.feed_format.specs.Format.{kind_of, is_unknown}
 use Rattle.feed_rules.specs.Record.{FeedState, Effect, record_effect}
 use Rattle.feed_state.specs.Buffers.{Lent, Buffered, in_buffers}
 use Rattle.feed_state.specs.Taken.{answer_of, Ample}
 use Rattle.feed_rules.proofs.EffectLaws.{Moved, effect_moved}
+use Rattle.feed.specs.declared.StepError.{StepError}
+use Rattle.feed.specs.declared.StepError.TheVariants.{Refused, NoRoom}
 use Rattle.feed.specs.declared.Stepped.{Stepped}
-use Rattle.feed.specs.declared.StepAnswer.{StepAnswer}
-use Rattle.feed.specs.declared.StepAnswer.TheVariants.{Done, Refused, NoRoom}
 use Rattle.feed_rules.specs.Feed.{History, in_history}
-use Rattle.feed.specs.Answers.{step_answer, is_done}
+use Rattle.feed.specs.Answers.{step_answer}
 use Rattle.feed_history.specs.Stepping.{Stepping}
 use Rattle.feed_history.specs.Stepping.Room.{enough}
 use Rattle.feed_history.proofs.FollowLaws.{Follows, Same, record_follows, walks_agree, follows_start}
@@ -39,14 +40,13 @@ use Rattle.scale_trace_rules.specs.Trace.{levels_lines, record_lines, trace_effe
 use Rattle.scale_trace.specs.Work.{tracing, refusal_of, TracesAt}
 use Rattle.scale_trace.proofs.StepLaws.{number_in, done_is}
 
-refusal_is : (a : StepAnswer) (o : Outcome (Unit {0})) (at : ℕ) → step_answer a ≡ enough o → is_done a ≡ false → refusal_of a at ≡ refused_text o.number at
-refusal_is Done o at e d = absurd (subst T d tt)
-refusal_is (Refused why) o at e d = ap (λ (n : ℕ). refused_text n at) (ap number_in e)
-refusal_is NoRoom o at e d = let z : ◌≡◌ {A = ℕ} 0 1 = cc in absurd (omega arith)
+refusal_is : (error : StepError) (o : Outcome (Unit {0})) (at : ℕ) → step_answer (Err error) ≡ enough o → refusal_of error at ≡ refused_text o.number at
+refusal_is (Refused why) o at e = ap (λ (n : ℕ). refused_text n at) (ap number_in e)
+refusal_is NoRoom o at e = let z : ◌≡◌ {A = ℕ} 0 1 = cc in absurd (omega arith)
 
 -- ---- the walk
 lines_none : (kind : Kind) → is_unknown kind ≡ true → lines_room kind ≡ 0
-lines_none Parameters e = refl
+lines_none ParametersKind e = refl
 lines_none ListKind e = refl
 lines_none NoList e = refl
 lines_none (Levels n) e = absurd (true≢false (sym e))
@@ -65,7 +65,7 @@ listing_moved s k body = let m = effect_moved in_buffers s k body in record { bl
 abbrev pub listing_walk : Walk
 listing_walk = record { effect = trace_effect in_buffers; last = λ (s : FeedState Buffered). []; asks = list_room; asks_none = listing_none; moves = listing_moved }
 
-pub record Answered (a : StepAnswer) (o : Outcome (Effect Buffered)) : Type 0 where
+pub record Answered (a : Result (Unit {0}) StepError) (o : Outcome (Effect Buffered)) : Type 0 where
   pub is : step_answer a ≡ enough (answer_of o)
 
 pub traces_full : {s : State} {r : Stepped} {w : Lent} {l m : List ℕ} {at : ℕ} (f : FeedState Buffered) (k : ℕ) (body : List ℕ) → Ample f.block.lent_are
@@ -74,20 +74,21 @@ pub traces_full : {s : State} {r : Stepped} {w : Lent} {l m : List ℕ} {at : �
 traces_full {s} {r} {w} {l} {m} {at} f k body a t =
     subst (λ (q : Stepping). TracesAt s r w l at m q (list_room k)) (enough_room (trace_effect in_buffers) list_room f k body (list_room k) (omega arith) a) t
 
-module _ {v b b' : Lent} {input l out out' : List ℕ} {s s' : State} {end end' : ℕ} {a : StepAnswer}
+module _ {v b b' : Lent} {input l out out' : List ℕ} {s s' : State} {end end' : ℕ} {a : Result (Unit {0}) StepError}
     (g : Going listing_walk v input l out s b end) (t : Turn listing_walk (Answered a) input s b s' b' out end out' end') where
-  pub listing_refused : is_done a ≡ false → Left l 0 (walk_text listing_walk v input) out' end' (refusal_of a s.offset)
-  listing_refused d = rw (refusal_is a _ s.offset t.answered.is d) (going_refused g t (sym (done_is a _ t.answered.is) ∙ d))
+  pub listing_refused : (error : StepError) → a ≡ Err error → Left l 0 (walk_text listing_walk v input) out' end' (refusal_of error s.offset)
+  listing_refused error e =
+      rw (refusal_is error _ s.offset (ap step_answer (sym e) ∙ t.answered.is)) (going_refused g t (sym (done_is a _ t.answered.is) ∙ ap is_ok e))
 
-  pub listing_passed : is_done a ≡ true → Passed g t
-  listing_passed d = passed g t (eqb-true _ 0 (sym (done_is a _ t.answered.is) ∙ d))
+  pub listing_passed : a ≡ Ok tt → Passed g t
+  listing_passed e = passed g t (eqb-true _ 0 (sym (done_is a _ t.answered.is) ∙ ap is_ok e))
 
 -- ---- the history
 lines_same : {s : FeedState Buffered} {t : FeedState History} → Follows s t → (kind : Kind) → record_lines kind s ≡ record_lines kind t
-lines_same f Parameters = refl
+lines_same f ParametersKind = refl
 lines_same f ListKind = refl
 lines_same f NoList = refl
-lines_same {s} {t} f (Levels n) = ap (λ (g : Given). levels_lines g s.list n) f.given ∙ ap (λ (list : ScalingList). levels_lines t.given list n) f.list
+lines_same {s} {t} f (Levels n) = ap (λ (g : Option Parameters). levels_lines g s.list n) f.given ∙ ap (λ (list : ScalingList). levels_lines t.given list n) f.list
 lines_same f Edit = refl
 lines_same f Reading = refl
 lines_same f Unknown = refl

@@ -1,10 +1,11 @@
 -- Laws of one record: what the feed's own step says of it, and the lines that it adds.
 --   kind_side                 a kind of levels has one of the four sizes
 --   kind_lines                the lines of a kind, by its size
---   done_is                   an answer is `Done` where its number is 0
+--   done_is                   an answer is `Ok` where its number is 0
 --   Fed, fed                  the feed's step, with room for every text, says answer and state of the listing's
 --   traced_refused, -accepted a record that is refused, and one that is not
 --   traced_steps              what was taken at the start of a buffer is a step
+use Rattle.std.specs.Prelude.{Option, Some, None, Result, Ok, Err, is_ok}
 use mathlib.Core.Path.{◌≡◌, refl, sym, ap, subst, ◌∙◌}
 use mathlib.Core.Bool.{Bool, true, false, cond}
 use mathlib.Core.List.{List, []}
@@ -19,20 +20,19 @@ use Rattle.refusal.specs.Outcome.{Outcome}
 use Rattle.refusal.proofs.RefusalLaws.{number_least}
 use Rattle.text.specs.Text.{WroteUpTo}
 use Rattle.text.proofs.WroteLaws.{wrote_none, counts}
+use Rattle.feed_format.specs.declared.Parameters.{Parameters}
 use Rattle.feed_format.specs.declared.Kind.{Kind}
-use Rattle.feed_format.specs.declared.Kind.TheVariants.{Parameters, List as ListKind, NoList, Levels, Edit, Reading, Unknown}
-use Rattle.feed_format.specs.declared.Given.{Given}
-use Rattle.feed_format.specs.declared.Given.TheVariants.{Nothing, These}
+use Rattle.feed_format.specs.declared.Kind.TheVariants.{Parameters as ParametersKind, List as ListKind, NoList, Levels, Edit, Reading, Unknown}
 use Rattle.feed_state.specs.declared.State.{State}
 use Rattle.feed_format.specs.Format.{kind_of, record_room, size_known}
 use Rattle.feed_format.proofs.FormatLaws.{kind_size, room_most}
 use Rattle.feed_rules.specs.Record.{FeedState, Effect, record_effect}
 use Rattle.feed_state.specs.Buffers.{Lent, Buffered, in_buffers}
 use Rattle.feed_state.specs.Taken.{state_of, capped, answer_of}
+use Rattle.feed.specs.declared.StepError.{StepError}
+use Rattle.feed.specs.declared.StepError.TheVariants.{Refused, NoRoom}
 use Rattle.feed.specs.declared.Stepped.{Stepped}
-use Rattle.feed.specs.declared.StepAnswer.{StepAnswer}
-use Rattle.feed.specs.declared.StepAnswer.TheVariants.{Done, Refused, NoRoom}
-use Rattle.feed.specs.Answers.{step_answer, is_done, Steps}
+use Rattle.feed.specs.Answers.{step_answer, Steps}
 use Rattle.feed_history.specs.Stepping.{Room, Stepping, too_short, stepping_by, stepping}
 use Rattle.feed_history.specs.Stepping.Room.{too_little, enough}
 use Rattle.scale_trace_rules.specs.Block.{lines_from, block_lines}
@@ -45,7 +45,7 @@ pub kind_side : {n : ℕ} (k : ℕ) → n ≡ size_of (kind_of k) → 0 < n → 
 kind_side k e h = rw e (by_kind (kind_of k) (kind_size k) (rw e at h))
   where
     by_kind : (kind : Kind) → T (size_known kind) → 0 < size_of kind → T (is_size (size_of kind))
-    by_kind Parameters t h = absurd (omega arith)
+    by_kind ParametersKind t h = absurd (omega arith)
     by_kind ListKind t h = absurd (omega arith)
     by_kind NoList t h = absurd (omega arith)
     by_kind (Levels n) t h = t
@@ -53,13 +53,13 @@ kind_side k e h = rw e (by_kind (kind_of k) (kind_size k) (rw e at h))
     by_kind Reading t h = absurd (omega arith)
     by_kind Unknown t h = absurd (omega arith)
 
-lines_none : (g : Given) (list : ScalingList) → levels_lines g list 0 ≡ []
+lines_none : (g : Option Parameters) (list : ScalingList) → levels_lines g list 0 ≡ []
 unfolding block_lines lines_from
-lines_none Nothing list = refl
-lines_none (These p) list = refl
+lines_none None list = refl
+lines_none (Some p) list = refl
 
 kind_lines : {H : Type 0} (kind : Kind) (s : FeedState H) → record_lines kind s ≡ levels_lines s.given s.list (size_of kind)
-kind_lines Parameters s = sym (lines_none s.given s.list)
+kind_lines ParametersKind s = sym (lines_none s.given s.list)
 kind_lines ListKind s = sym (lines_none s.given s.list)
 kind_lines NoList s = sym (lines_none s.given s.list)
 kind_lines (Levels n) s = refl
@@ -72,15 +72,15 @@ abbrev pub number_in : Room (Outcome (Unit {0})) → ℕ
 number_in too_little = 0
 number_in (enough q) = q.number
 
-pub done_is : (a : StepAnswer) (o : Outcome (Unit {0})) → step_answer a ≡ enough o → is_done a ≡ eqb o.number 0
-done_is Done o e = sym (eq-eqb o.number 0 (sym (ap number_in e)))
-done_is (Refused why) o e = sym (ne_eqb o.number 0 (λ z. omega (arith, number_least why, ap number_in e)))
-done_is NoRoom o e = let z : ◌≡◌ {A = ℕ} 0 1 = cc in absurd (omega arith)
+pub done_is : (a : Result (Unit {0}) StepError) (o : Outcome (Unit {0})) → step_answer a ≡ enough o → is_ok a ≡ eqb o.number 0
+done_is (Ok tt) o e = sym (eq-eqb o.number 0 (sym (ap number_in e)))
+done_is (Err (Refused why)) o e = sym (ne_eqb o.number 0 (λ z. omega (arith, number_least why, ap number_in e)))
+done_is (Err NoRoom) o e = let z : ◌≡◌ {A = ℕ} 0 1 = cc in absurd (omega arith)
 
-undone : (a : StepAnswer) → step_answer a ≡ too_little → is_done a ≡ false
-undone Done e = let z : ◌≡◌ {A = ℕ} 0 1 = cc in absurd (omega arith)
-undone (Refused why) e = refl
-undone NoRoom e = refl
+undone : (a : Result (Unit {0}) StepError) → step_answer a ≡ too_little → is_ok a ≡ false
+undone (Ok tt) e = let z : ◌≡◌ {A = ℕ} 0 1 = cc in absurd (omega arith)
+undone (Err (Refused why)) e = refl
+undone (Err NoRoom) e = refl
 
 -- ---- what the feed's step says
 abbrev roomy : (FeedState Buffered → ℕ → List ℕ → Outcome (Effect Buffered)) → FeedState Buffered → ℕ → List ℕ → Bool → Stepping
@@ -97,8 +97,8 @@ roomy_is effect asks f k body room h = rw (le-ltb room (asks k) h) refl
 pub record Fed (s : State) (r : Stepped) (w : Lent) (f : FeedState Buffered) (k : ℕ) (t : Stepping) : Type 0 where
   pub answered : step_answer r.answer ≡ t.answer
   pub state : state_of r.state w ≡ capped t.state
-  pub kept : is_done r.answer ≡ false → r.state ≡ s
-  pub text : t.text ≡ cond (is_done r.answer) (record_lines (kind_of k) f) []
+  pub kept : is_ok r.answer ≡ false → r.state ≡ s
+  pub text : t.text ≡ cond (is_ok r.answer) (record_lines (kind_of k) f) []
 
 fed_by : {s : State} {r : Stepped} {w : Lent} {l m : List ℕ} (f : FeedState Buffered) (k : ℕ) (body : List ℕ) (short : Bool)
     → Steps s r w l m (roomy (record_effect in_buffers) f k body short) → Fed s r w f k (roomy (trace_effect in_buffers) f k body short)
@@ -114,12 +114,12 @@ fed {l = l} f k body room h e t =
 
 -- ---- the lines of a record
 module _ {s : State} {r : Stepped} {w : Lent} {f : FeedState Buffered} {k : ℕ} {t : Stepping} (h : Fed s r w f k t) where
-  pub traced_refused : {l : List ℕ} {at room : ℕ} → is_done r.answer ≡ false → TracesAt s (record { answer = r.answer; state = r.state; end = at }) w l at l t room
+  pub traced_refused : {l : List ℕ} {at room : ℕ} → is_ok r.answer ≡ false → TracesAt s (record { answer = r.answer; state = r.state; end = at }) w l at l t room
   traced_refused {l} {at} d =
       let none : t.text ≡ [] = rw d at h.text in
       record { answered = h.answered; state = h.state; text = rw none (record { wrote = wrote_none l at; bound = omega arith }); kept = h.kept }
 
-  pub traced_accepted : {l m : List ℕ} {at end n : ℕ} → is_done r.answer ≡ true → n ≡ size_of (kind_of k) → WroteUpTo l at (levels_lines f.given f.list n) m end (at + 20 * (n * n))
+  pub traced_accepted : {l m : List ℕ} {at end n : ℕ} → is_ok r.answer ≡ true → n ≡ size_of (kind_of k) → WroteUpTo l at (levels_lines f.given f.list n) m end (at + 20 * (n * n))
       → TracesAt s (record { answer = r.answer; state = r.state; end = end }) w l at m t (list_room k)
   traced_accepted {l} {m} {at} {end} d en v =
       let lines : t.text ≡ record_lines (kind_of k) f = rw d at h.text in

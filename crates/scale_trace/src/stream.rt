@@ -5,38 +5,22 @@ ghost use Rattle.text.specs.Text.{Wrote, WroteUpTo, Counts};
 ghost use Rattle.feed_rules.specs.Block.{list_in};
 ghost use Rattle.feed_state.specs.Buffers.{lent};
 ghost use Rattle.feed_state.specs.Taken.{state_of};
-ghost use Rattle.feed.specs.Answers.{is_done, Steps};
+ghost use Rattle.feed.specs.Answers.{Steps};
 ghost use Rattle.scale_trace_rules.specs.Trace.{levels_lines, list_room, trace_text, listing_room};
 ghost use Rattle.scale_trace.specs.Work.{tracing, Lists, refusal_of, TracesAt};
 
-use feed::{Ran, StepAnswer, Stepped};
-use feed_format::Given;
+use feed::{StepError, Stepped};
 use feed_state::State;
-
-fn is_done(answer: StepAnswer) -> bool
-    ensures { result ≡ is_done answer }
-{
-    match answer {
-        StepAnswer::Done => true,
-        StepAnswer::Refused(_) => false,
-        StepAnswer::NoRoom => false,
-    }
-}
 
 // The lines of a block, by the parameters; a block of size 0 has none.
 fn put_levels(state: State, n: usize, out: &mut [u8], at: usize) -> usize
     requires t { 0 < n → T (is_size n) }
     requires n_in_bounds { at + 20 * (n * n) ≤ length out.old }
-    ensures { WroteUpTo out.old at (levels_lines state.given (list_in state.listed state.entries state.dc) n) out.new result (at + 20 * (n * n)) }
+    ensures { WroteUpTo out.old at (levels_lines state.given (list_in state.list) n) out.new result (at + 20 * (n * n)) }
 {
-    let entries = state.entries;
-    let given = state.given;
-    match given {
-        Given::Nothing => at,
-        Given::These(p) => {
-            let mode = p.mode;
-            scale_trace_block::put_lines(state.listed, &entries, state.dc, mode, n, out, at)
-        }
+    match state.given {
+        None => at,
+        Some(p) => scale_trace_block::put_lines(state.list, p.mode, n, out, at),
     }
 }
 
@@ -57,21 +41,11 @@ fn take_record(
 {
     let mut text = [0u8; 12320];
     let stepped = feed::step(state, kind, body, levels, coeff, inter, residual, &mut text);
-    let answer = stepped.answer;
-    let next = stepped.state;
-    if !is_done(answer) {
-        return Stepped {
-            answer,
-            state: next,
-            end: at,
-        };
+    if stepped.answer.is_err() {
+        return Stepped { end: at, ..stepped };
     }
     let end = put_levels(state, scale_trace_block::size_of(kind), out, at);
-    Stepped {
-        answer,
-        state: next,
-        end,
-    }
+    Stepped { end, ..stepped }
 }
 
 // One record: its kind, and as much of its body as there is; answer, state and the buffers of the open block are those of the feed's
@@ -92,7 +66,7 @@ pub fn step(
 {
     if out.len() < scale_trace_block::list_room(kind) {
         return Stepped {
-            answer: StepAnswer::NoRoom,
+            answer: Err(StepError::NoRoom),
             state,
             end: 0,
         };
@@ -101,19 +75,16 @@ pub fn step(
 }
 
 // The line of a refusal.
-fn put_refusal(answer: StepAnswer, offset: u64, out: &mut [u8], at: usize) -> usize
+fn put_refusal(error: StepError, offset: u64, out: &mut [u8], at: usize) -> usize
     requires { at + 40 ≤ length out.old }
-    ensures { WroteUpTo out.old at (refusal_of answer offset) out.new result (at + 40) }
+    ensures { WroteUpTo out.old at (refusal_of error offset) out.new result (at + 40) }
 {
-    match answer {
-        StepAnswer::Done => at,
-        StepAnswer::Refused(why) => {
+    match error {
+        StepError::Refused(why) => {
             let line = feed_lines::refusal_line(why, offset);
-            let bytes = line.bytes;
-            let end = line.end;
-            text::put_bytes(&bytes[..end], out, at)
+            text::put_bytes(&line.bytes[..line.end], out, at)
         }
-        StepAnswer::NoRoom => at,
+        StepError::NoRoom => at,
     }
 }
 
@@ -132,7 +103,7 @@ fn run_within(input: &[u8], out: &mut [u8]) -> usize
         let at = state.offset as usize;
         let kind = input[at];
         let from = at + 1;
-        let stop = feed_format::least(from + feed_format::record_length(kind), input.len());
+        let stop = (from + feed_format::record_length(kind)).min(input.len());
         let taken = take_record(
             state,
             kind,
@@ -144,25 +115,22 @@ fn run_within(input: &[u8], out: &mut [u8]) -> usize
             out,
             end,
         );
-        let answer = taken.answer;
-        let reached = taken.end;
-        if !is_done(answer) {
-            return put_refusal(answer, state.offset, out, reached);
+        if let Err(why) = taken.answer {
+            return put_refusal(why, state.offset, out, taken.end);
         }
-        let next = taken.state;
-        state = next;
-        end = reached;
+        state = taken.state;
+        end = taken.end;
     }
     end
 }
 
-// The listing of a whole feed at the start of `out`: the lines of its blocks, then the line of a refusal. With fewer bytes than
-// `listing_room` says, `NoRoom` is answered and the buffer is as lent.
-pub fn run(input: &[u8], out: &mut [u8]) -> Ran
+// The listing of a whole feed at the start of `out`: the lines of its blocks, then the line of a refusal; the answer is where it ends. With fewer bytes than
+// `listing_room` says the answer is `None`, and the buffer is as lent.
+pub fn run(input: &[u8], out: &mut [u8]) -> Option<usize>
     ensures { Lists result out.old out.new input.now }
 {
     if out.len() < scale_trace_block::listing_room(input) {
-        return Ran::NoRoom;
+        return None;
     }
-    Ran::Text(run_within(input, out))
+    Some(run_within(input, out))
 }

@@ -1,12 +1,13 @@
 // The lines of a block: index, m, reason and position.
-ghost use Rattle.std.specs.Prelude.{[], ◌∷◌, ◌++◌, ◌+◌, ◌*◌, ◌<◌, ◌≤◌, length};
+ghost use Rattle.std.specs.Prelude.{[], ◌∷◌, ◌++◌, ◌+◌, ◌*◌, ◌<◌, ◌≤◌, T, length};
+ghost use Rattle.h265.specs.Range.{is_size};
 ghost use Rattle.text.specs.Text.{space, unsigned_text, WroteUpTo};
 ghost use Rattle.feed_rules.specs.Block.{list_in};
 ghost use Rattle.scale_trace_rules.specs.Block.{reason_text, position_text, rule_text, line_text, block_lines};
-ghost use Rattle.scale_trace_block.specs.Work.{source_is, position_of, LinePrecondition, LinesPrecondition};
+ghost use Rattle.scale_trace_block.specs.Work.{source_is, position_of};
 
 use crate::{Source, rule};
-use feed_format::Mode;
+use feed_format::{List, Mode};
 
 fn put_reason(source: Source, out: &mut [u8], at: usize) -> usize
     requires { at + 6 ≤ length out.old }
@@ -60,44 +61,34 @@ fn put_rule(source: Source, out: &mut [u8], at: usize) -> usize
 
 // The line of one index: at most 20 bytes.
 fn put_line(
-    listed: bool,
-    entries: &[u8],
-    dc: u8,
+    list: Option<List>,
     mode: Mode,
     n: usize,
     index: usize,
     out: &mut [u8],
     at: usize,
 ) -> usize
-    requires line_precondition { LinePrecondition n index (length entries.now) }
+    requires index_in_block { T (is_size n) × (index < n * n) }
     requires at_in_bounds { at + 20 ≤ length out.old }
-    ensures { WroteUpTo out.old at (line_text (list_in listed entries.now dc) mode n index) out.new result (at + 20) }
+    ensures { WroteUpTo out.old at (line_text (list_in list) mode n index) out.new result (at + 20) }
 {
-    let source = rule::source_of(listed, mode, n, index);
-    let m = rule::factor_of(listed, entries, dc, mode, n, index);
+    let source = rule::source_of(list, mode, n, index);
+    let m = rule::factor_of(list, mode, n, index);
     let first = put_number(index, out, at);
     let second = put_number(m as usize, out, first);
     put_rule(source, out, second)
 }
 
 // The lines of a block, in row order; a block of size 0 has none.
-pub fn put_lines(
-    listed: bool,
-    entries: &[u8],
-    dc: u8,
-    mode: Mode,
-    n: usize,
-    out: &mut [u8],
-    at: usize,
-) -> usize
-    requires lines_precondition { LinesPrecondition n (length entries.now) }
+pub fn put_lines(list: Option<List>, mode: Mode, n: usize, out: &mut [u8], at: usize) -> usize
+    requires known_size { 0 < n → T (is_size n) }
     requires n_in_bounds { at + 20 * (n * n) ≤ length out.old }
-    ensures { WroteUpTo out.old at (block_lines (list_in listed entries.now dc) mode n) out.new result (at + 20 * (n * n)) }
+    ensures { WroteUpTo out.old at (block_lines (list_in list) mode n) out.new result (at + 20 * (n * n)) }
 {
     let mut end = at;
     let mut i = 0;
     while i < n * n {
-        end = put_line(listed, entries, dc, mode, n, i, out, end);
+        end = put_line(list, mode, n, i, out, end);
         i += 1;
     }
     end

@@ -33,15 +33,15 @@ pub fn list_room(kind: u8) -> usize
 pub fn listing_room(input: &[u8]) -> usize
     ensures { result ≡ min (listing_room input.now) 18446744073709551615 }
 {
-    let mut room = 0;
+    let mut room: usize = 0;
     let mut at = 0;
     while at < input.len() {
         let kind = input[at];
         if feed_format::is_unknown(feed_format::kind_of(kind)) {
-            return feed_format::capped_sum(room, 40);
+            return room.saturating_add(40);
         }
-        room = feed_format::capped_sum(room, list_room(kind));
-        at = feed_format::least(at + 1 + feed_format::record_length(kind), input.len());
+        room = room.saturating_add(list_room(kind));
+        at = (at + 1 + feed_format::record_length(kind)).min(input.len());
     }
-    feed_format::capped_sum(room, 40)
+    room.saturating_add(40)
 }

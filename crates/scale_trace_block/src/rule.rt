@@ -1,22 +1,21 @@
 // m at an index of a block, and the rule that supplies it.
-ghost use Rattle.std.specs.Prelude.{◌≡◌, ◌*◌, ◌<◌, T, length};
+ghost use Rattle.std.specs.Prelude.{◌≡◌, ◌*◌, ◌<◌, T};
 ghost use Rattle.h265.specs.Range.{is_size};
 ghost use Rattle.feed_rules.specs.Block.{list_in};
 ghost use Rattle.scale_trace_rules.specs.Block.{block_factor};
-ghost use Rattle.scale_trace_block.specs.Work.{LinePrecondition, SourceAt};
+ghost use Rattle.scale_trace_block.specs.Work.{SourceAt};
 
 use crate::Source;
-use feed_format::Mode;
-use scaling::FactorAnswer;
+use feed_format::{List, Mode};
 
 // The rule at an index.
-pub(crate) fn source_of(listed: bool, mode: Mode, n: usize, index: usize) -> Source
+pub(crate) fn source_of(list: Option<List>, mode: Mode, n: usize, index: usize) -> Source
     requires { T (is_size n) × (index < n * n) }
-    ensures { SourceAt listed mode n index result }
+    ensures { SourceAt (list_in list) mode n index result }
 {
-    if !listed {
+    let Some(_) = list else {
         return Source::None;
-    }
+    };
     if feed_format::list_ignored(mode, n) {
         return Source::Skip;
     }
@@ -36,25 +35,18 @@ pub(crate) fn source_of(listed: bool, mode: Mode, n: usize, index: usize) -> Sou
 }
 
 // m as scaling has it.
-pub(crate) fn factor_of(
-    listed: bool,
-    entries: &[u8],
-    dc: u8,
-    mode: Mode,
-    n: usize,
-    index: usize,
-) -> u8
-    requires { LinePrecondition n index (length entries.now) }
-    ensures { result ≡ block_factor (list_in listed entries.now dc) mode n index }
+pub(crate) fn factor_of(list: Option<List>, mode: Mode, n: usize, index: usize) -> u8
+    requires { T (is_size n) × (index < n * n) }
+    ensures { result ≡ block_factor (list_in list) mode n index }
 {
-    if !listed {
+    let Some(list) = list else {
         return 16;
-    }
+    };
     if feed_format::list_ignored(mode, n) {
         return 16;
     }
-    match scaling::scaling_coeff(entries, dc, n, index) {
-        FactorAnswer::Factor(m) => m,
-        FactorAnswer::Refused(_) => 0,
+    match scaling::scaling_coeff(&list.entries, list.dc, n, index) {
+        Ok(m) => m,
+        Err(_) => 0,
     }
 }

@@ -5,38 +5,25 @@
 ghost use Rattle.std.specs.Prelude.{◌≤◌, length};
 ghost use Rattle.text.specs.Text.{Counts};
 
-use feed::{Line, State, StepAnswer};
+use feed::{Line, State, StepError};
 use std::io::Read;
 
-#[derive(Clone, Copy)]
-struct Progress {
-    going: bool,
-    state: State,
-}
-
-fn stopped(state: State) -> Progress {
-    Progress {
-        going: false,
-        state,
-    }
-}
-
-fn read_failed(rt: &impl Eprint, state: State) -> Progress {
+fn read_failed(rt: &impl Eprint) -> Option<State> {
     let _ = eprintln!(rt;
         "scale_trace_main: a read of standard input failed, so this text is not whole"
     );
-    stopped(state)
+    None
 }
 
 // What follows a write: nothing more where it failed.
-fn after_write(rt: &impl Eprint, done: bool, going: bool, state: State) -> Progress {
+fn after_write(rt: &impl Eprint, done: bool, next: Option<State>) -> Option<State> {
     if !done {
         let _ = eprintln!(rt;
             "scale_trace_main: a write to standard output failed, so this text is not whole"
         );
-        return stopped(state);
+        return None;
     }
-    Progress { going, state }
+    next
 }
 
 // Reads n bytes to the start of the buffer, or fewer where the input ends or a read fails.
@@ -50,9 +37,7 @@ fn read_body(stdin: &mut impl Read, n: usize, body: &mut [u8]) -> usize
 fn write_line(rt: &impl Print, line: Line) -> bool
     requires { Counts line.end line.bytes }
 {
-    let bytes = line.bytes;
-    let end = line.end;
-    streams::write_all(rt, &bytes[..end])
+    streams::write_all(rt, &line.bytes[..line.end])
 }
 
 // Whether one more read says that the input has ended.
@@ -64,7 +49,7 @@ fn has_ended(stdin: &mut impl Read) -> bool {
     }
 }
 
-// One record: reads it and writes its lines; the four buffers are those of the feed's open block. A body is cut short where the input
+// One record: reads it, writes its lines and answers the state after it, where more may come; the four buffers are those of the feed's open block. A body is cut short where the input
 // has ended; where one more read does not say so, a read failed.
 fn turn<R: Print + Eprint>(
     rt: &R,
@@ -74,23 +59,22 @@ fn turn<R: Print + Eprint>(
     coeff: &mut [i32],
     inter: &mut [i32],
     residual: &mut [i32],
-) -> Progress {
+) -> Option<State> {
     let mut byte = [0u8; 1];
     let mut body = [0u8; 4096];
     let mut out = [0u8; 20480];
-    let got = match stdin.read(&mut byte) {
-        Ok(got) => got,
-        Err(_) => return read_failed(rt, state),
+    let Ok(got) = stdin.read(&mut byte) else {
+        return read_failed(rt);
     };
     if got == 0 {
-        return stopped(state);
+        return None;
     }
     let kind = byte[0];
     let n = feed::record_length(kind);
     let there = read_body(stdin, n, &mut body);
     if there < n {
         if !has_ended(stdin) {
-            return read_failed(rt, state);
+            return read_failed(rt);
         }
     }
     let stepped = scale_trace::step(
@@ -103,20 +87,16 @@ fn turn<R: Print + Eprint>(
         residual,
         &mut out,
     );
-    let next = stepped.state;
-    let end = stepped.end;
-    let answer = stepped.answer;
-    match answer {
-        StepAnswer::Done => after_write(rt, streams::write_all(rt, &out[..end]), true, next),
-        StepAnswer::Refused(why) => {
-            after_write(
-                rt,
-                write_line(rt, feed::refusal_line(why, next.offset)),
-                false,
-                next,
-            )
+    match stepped.answer {
+        Ok(()) => {
+            let done = streams::write_all(rt, &out[..stepped.end]);
+            after_write(rt, done, Some(stepped.state))
         }
-        StepAnswer::NoRoom => stopped(next),
+        Err(StepError::Refused(why)) => {
+            let line = feed::refusal_line(why, stepped.state.offset);
+            after_write(rt, write_line(rt, line), None)
+        }
+        Err(StepError::NoRoom) => None,
     }
 }
 
@@ -127,10 +107,8 @@ fn main(rt: HostRuntime) {
     let mut inter = [0i32; 1024];
     let mut residual = [0i32; 1024];
     let mut state = feed::start();
-    let mut going = true;
-    let mut turns = u64::MAX;
-    while turns > 0 && going {
-        let taken = turn(
+    for _ in 0..u64::MAX {
+        let Some(next) = turn(
             &rt,
             &mut stdin,
             state,
@@ -138,10 +116,9 @@ fn main(rt: HostRuntime) {
             &mut coeff,
             &mut inter,
             &mut residual,
-        );
-        let next = taken.state;
+        ) else {
+            return;
+        };
         state = next;
-        going = taken.going;
-        turns -= 1;
     }
 }

@@ -8,13 +8,12 @@
 --   list_room k                     the same by the byte
 --   trace_text bytes                the listing of a whole feed: its lines, then that of a refusal
 --   listing_room bytes              the bytes that the listing of a feed may take, the line of a refusal included
-use Rattle.std.specs.Prelude.{cond, List, [], ℕ, ◌+◌, ◌*◌, eqb, length}
+use Rattle.std.specs.Prelude.{cond, List, [], ℕ, ◌+◌, ◌*◌, eqb, length, Option, Some, None}
 use Rattle.h265.specs.ScalingFactor.{ScalingList}
 use Rattle.refusal.specs.Outcome.{Outcome}
+use Rattle.feed_format.specs.declared.Parameters.{Parameters}
 use Rattle.feed_format.specs.declared.Kind.{Kind}
-use Rattle.feed_format.specs.declared.Kind.TheVariants.{Parameters, List as ListKind, NoList, Levels, Edit, Reading, Unknown}
-use Rattle.feed_format.specs.declared.Given.{Given}
-use Rattle.feed_format.specs.declared.Given.TheVariants.{Nothing, These}
+use Rattle.feed_format.specs.declared.Kind.TheVariants.{Parameters as ParametersKind, List as ListKind, NoList, Levels, Edit, Reading, Unknown}
 use Rattle.feed_format.specs.Format.{kind_of}
 use Rattle.feed_format.specs.Room.{room_from}
 use Rattle.feed_rules.specs.Record.{FeedState, Effect, Keeper, record_effect}
@@ -24,14 +23,14 @@ use Rattle.scale_trace_rules.specs.Block.{block_lines}
 
 -- ---- one block
 -- no block is accepted before the parameters
-abbrev pub levels_lines : Given → ScalingList → ℕ → List ℕ
-levels_lines Nothing list n = []
-levels_lines (These p) list n = block_lines list p.mode n
+abbrev pub levels_lines : Option Parameters → ScalingList → ℕ → List ℕ
+levels_lines None list n = []
+levels_lines (Some p) list n = block_lines list p.mode n
 
 -- ---- one record
 -- an edit leaves m as it was, and a reading repeats a block that was listed
 abbrev pub record_lines : {H : Type 0} → Kind → FeedState H → List ℕ
-record_lines Parameters s = []
+record_lines ParametersKind s = []
 record_lines ListKind s = []
 record_lines NoList s = []
 record_lines (Levels n) s = levels_lines s.given s.list n
@@ -51,7 +50,7 @@ trace_effect {H} g s k body =
     }
 
 abbrev pub size_of : Kind → ℕ
-size_of Parameters = 0
+size_of ParametersKind = 0
 size_of ListKind = 0
 size_of NoList = 0
 size_of (Levels n) = n
@@ -60,7 +59,7 @@ size_of Reading = 0
 size_of Unknown = 0
 
 abbrev pub lines_room : Kind → ℕ
-lines_room Parameters = 0
+lines_room ParametersKind = 0
 lines_room ListKind = 0
 lines_room NoList = 0
 lines_room (Levels n) = 20 * (n * n)

@@ -2,11 +2,10 @@
 ghost use Rattle.std.specs.Prelude.{◌≡◌, ◌+◌, ◌-◌, ◌*◌, ◌/◌, ◌%◌, ◌^◌, ◌<◌, ◌≤◌, length};
 ghost use Rattle.h265.specs.ScalingFactor.{scaling_factor};
 ghost use Rattle.h265.specs.ScalingFactor.ScalingList.{listed};
-ghost use Rattle.scaling.specs.Answers.{factor_outcome};
+ghost use Rattle.refusal.specs.Outcome.{outcome};
 ghost use Rattle.scaling.specs.Factor.{scaling_coeff};
 ghost use Rattle.scaling_values.specs.Factor.{WholeList};
 
-use crate::FactorAnswer;
 use refusal::Refusal;
 
 // The position in the list of an index of a block of size 2^log2n, where an entry stands for several indices.
@@ -42,17 +41,17 @@ fn factor_at(list: &[u8], dc: u8, n: usize, index: usize) -> u8
 }
 
 // m at an index of a block, for every list, size and index.
-pub fn scaling_coeff(list: &[u8], dc: u8, n: usize, index: usize) -> FactorAnswer
-    ensures { factor_outcome result ≡ scaling_coeff list.now dc n index }
+pub fn scaling_coeff(list: &[u8], dc: u8, n: usize, index: usize) -> Result<u8, Refusal>
+    ensures { outcome 0 result ≡ scaling_coeff list.now dc n index }
 {
     if refusal::size_refused(n) {
-        return FactorAnswer::Refused(Refusal::SizeInvalid);
+        return Err(Refusal::SizeInvalid);
     }
     if list.len() != 64 {
-        return FactorAnswer::Refused(Refusal::ListLengthInvalid);
+        return Err(Refusal::ListLengthInvalid);
     }
     if n * n <= index {
-        return FactorAnswer::Refused(Refusal::PlaceOutside);
+        return Err(Refusal::PlaceOutside);
     }
-    FactorAnswer::Factor(factor_at(list, dc, n, index))
+    Ok(factor_at(list, dc, n, index))
 }

@@ -1,11 +1,12 @@
 // One level of a block.
 ghost use Rattle.std.specs.Prelude.{◌≡◌};
-ghost use Rattle.scaling.specs.Answers.{level_outcome};
+ghost use Rattle.refusal.specs.Outcome.{outcome};
 ghost use Rattle.scaling.specs.Level.{scaled_level};
+ghost use Rattle.scaling.specs.Answers.{no_level};
 
-use crate::LevelAnswer;
-use parameters::{DequantAnswer, QpPrime};
-use scaling_values::level;
+use parameters::QpPrime;
+use refusal::Refusal;
+use scaling_values::{ScaledLevel, level};
 
 // One level of a block, for every level, m and QP'.
 pub fn scale_level(
@@ -15,12 +16,9 @@ pub fn scale_level(
     qp_prime: QpPrime,
     bit_depth: u8,
     extended_precision: bool,
-) -> LevelAnswer
-    ensures { level_outcome result ≡ scaled_level level m n qp_prime.0 bit_depth extended_precision }
+) -> Result<ScaledLevel, Refusal>
+    ensures { outcome no_level result ≡ scaled_level level m n qp_prime.0 bit_depth extended_precision }
 {
-    let found = parameters::dequant_params(n, qp_prime, bit_depth, extended_precision);
-    match found {
-        DequantAnswer::Params(by) => LevelAnswer::Level(level::scaled_listed(level, m, by)),
-        DequantAnswer::Refused(why) => LevelAnswer::Refused(why),
-    }
+    let by = parameters::dequant_params(n, qp_prime, bit_depth, extended_precision)?;
+    Ok(level::scaled_listed(level, m, by))
 }

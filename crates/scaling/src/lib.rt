@@ -1,7 +1,6 @@
 // Scaling of one value: m, one level, and the record that points at a scaling list.
 #![tactic(auto)]
 
-use refusal::Refusal;
 pub use scaling_values::ScaledLevel;
 
 mod factor;
@@ -11,18 +10,6 @@ mod matrix;
 pub use factor::scaling_coeff;
 pub use level::scale_level;
 pub use matrix::coeff;
-
-#[derive(Clone, Copy)]
-pub enum FactorAnswer {
-    Factor(u8),
-    Refused(Refusal),
-}
-
-#[derive(Clone, Copy)]
-pub enum LevelAnswer {
-    Level(ScaledLevel),
-    Refused(Refusal),
-}
 
 // A scaling matrix: it points at the caller's list.
 #[derive(Clone, Copy)]

@@ -1,16 +1,17 @@
 -- Laws of a call on a block, of every width and with or without a list: what its numbers answer, what is known below the
 -- refusals, and what the working functions' lists are in clause 8.6's terms.
---   refused_params, passed_params, passed_is, never_refused   what the ladder without its numbers says of the one with them
+--   refused_params, passed_params   what the ladder without its numbers says of the one with them
 --   block_refused_lem        a call whose numbers are refused hands back that refusal and the output as lent
 --   Ready, block_ready   what holds once the numbers are there
---   ladder_ready         the same by the ladder without its numbers
 --   ready_regular, ready_listed   the numbers are regular, and listable where R = 15
---   narrow_ends, narrow_listable, narrow_shift   of a 16-bit output: the range's ends fit 16 bits, R = 15, and t > 0
---   block_residuals, block-coefficients   a block with a list by one flag
+--   narrow_ends, narrow_shift   of a 16-bit output: the range's ends fit 16 bits, and t > 0
+--   ready_ends, ready_rounds, ready_read   the same of either output, and of what is read of it
 --   flat_writes, listed_writes, flat_skips, listed_skips   what was written and counted is what the definition says
+use Rattle.std.specs.Prelude.{Ok, Err}
 use mathlib.Core.Path.{◌≡◌, refl, sym, ap, subst, ◌∙◌}
 use mathlib.Core.Bool.{Bool, true, false, ◌&&◌}
-use mathlib.Core.List.{List, [], ◌∷◌}
+use mathlib.Core.List.{List, [], ◌∷◌, map}
+use Rattle.std.proofs.lemmas.List.{length-map}
 use Prim.Native.Nat.{ℕ, ◌+◌, ◌*◌, ◌≤◌}
 use native.Mathlib.Omega.{arith}
 use lib.Dec.{lit<}
@@ -34,17 +35,14 @@ use Rattle.refusal.specs.declared.Refusal.TheVariants.{SizeInvalid, DepthInvalid
 use Rattle.refusal.specs.Condition.{size_refused, depth_refused, width_refused, list_refused, block_refused}
 use Rattle.refusal.specs.Outcome.{Outcome, accepted, refused}
 use Rattle.refusal.proofs.ConditionLaws.{size_accepted, width_accepted, block_room, list_whole}
-use Rattle.refusal.proofs.RefusalLaws.{number_least}
 use Rattle.parameters.specs.declared.TransformSkipParams.{TransformSkipParams}
 use Rattle.parameters.specs.Answers.{no_transform_skip}
 use Rattle.parameters.specs.Parameters.{dequant_of, transform_skip_of, transform_skip_params, KnownSize}
 use Rattle.parameters.proofs.ParametersLaws.{known_accepted}
-use Rattle.scaling_blocks.specs.Blocks.{scaling_ladder, block_answer, not_refused, block_params, block_written, dequantized, transform_skipped, listed_block_at, entries_of, CountWritten, CountWrites, left_as_lent, counted}
-use Rattle.scaling_blocks.specs.declared.CountAnswer.TheVariants.{Limited, Refused}
+use Rattle.scaling_blocks.specs.Blocks.{scaling_ladder, block_answer, not_refused, block_params, block_written, dequantized, transform_skipped, output_width, entries_of, CountWritten, CountWrites, left_as_lent, counted}
 use Rattle.scaling_values.specs.Factor.{WholeList}
 use Rattle.scaling_values.specs.Level.{Ends}
 use Rattle.scaling_values.specs.Flat.{Regular}
-use Rattle.scaling_values.specs.Listed.{Listable}
 use Rattle.scaling_values.specs.Long.{Listed}
 use Rattle.scaling_values.specs.Skip.{Skippable}
 use Rattle.scaling_values.specs.Work.{flat_at, listed_at, flat_limited_at, listed_limited_at, flat_residual_at, listed_residual_at, Counted, Room}
@@ -53,7 +51,7 @@ use Rattle.refusal.proofs.LadderLaws.Rung.{rung}
 use Rattle.scaling_values.proofs.FlatLaws.{dequant_of_regular}
 use Rattle.scaling_values.proofs.LongLaws.{dequant_of-listed}
 use Rattle.scaling_values.proofs.CountLaws.{count_cong}
-use Rattle.scaling_values.proofs.LevelLaws.{dequant_of_manageable, flat_level_eq, listed_level_eq, listed_limited_eq}
+use Rattle.scaling_values.proofs.LevelLaws.{manageable_ends, dequant_of_manageable, flat_level_eq, listed_level_eq, listed_limited_eq}
 
 abbrev pub rungs : Bool → ℕ → ℕ → Bool → ℕ → ℕ → ℕ → List Rung
 rungs narrow n b x entries levels places =
@@ -77,7 +75,7 @@ module _ (narrow : Bool) (n : ℕ) (q : ℤ) (b : ℕ) (x : Bool) (entries level
       first_refused tt tt (refused no_transform_skip) (accepted (transform_skip_of (log2_size n) q b x)) (λ w. refused no_transform_skip e ≡ w) e
       (λ f k. with_value no_transform_skip e f k) (rungs narrow n b x entries levels places) h
 
-  pub passed_is : not_refused ≡ block_answer narrow n b x entries levels places → accepted (transform_skip_of (log2_size n) q b x) ≡ block_params narrow n q b x entries levels places
+  passed_is : not_refused ≡ block_answer narrow n b x entries levels places → accepted (transform_skip_of (log2_size n) q b x) ≡ block_params narrow n q b x entries levels places
   unfolding block_params scaling_ladder
   passed_is h =
       sym (first_passed (refused no_transform_skip) (accepted (transform_skip_of (log2_size n) q b x)) (rungs narrow n b x entries levels places) (first_accepted tt tt tt (rungs narrow n b x entries levels places) h).0)
@@ -92,19 +90,13 @@ module _ (narrow : Bool) (n : ℕ) (q : ℤ) (b : ℕ) (x : Bool) (entries level
       let s = (first_accepted tt tt tt (rungs narrow n b x entries levels places) h).0 in
       params_is s.0 s.1.0 ∙ passed_is h
 
-  -- a call that is not refused has its numbers
-  pub never_refused : (e : Refusal) → not_refused ≡ block_answer narrow n b x entries levels places
-      → refused no_transform_skip e ≡ transform_skip_params n q b x → ⊥
-  never_refused e h k =
-      omega (arith, number_least e, ap (λ (o : Outcome TransformSkipParams). o.number) (k ∙ passed_params h ∙ sym (passed_is h)))
-
 -- ---- refused
 pub block_refused_lem : (narrow : Bool) (list : ScalingList) (n : ℕ) (q : ℤ) (b : ℕ) (x : Bool) (levels out : List ℤ) (at : ℕ → ℤ) (e : Refusal)
     → refused no_transform_skip e ≡ block_params narrow n q b x (entries_of list) (length levels) (length out)
-    → CountWrites (Refused e) out (block_written narrow list n q b x levels out at)
+    → CountWrites (Err e) out (block_written narrow list n q b x levels out at)
 unfolding block_params block_written scaling_ladder
 block_refused_lem narrow list n q b x levels out at e h =
-    first_refused no_transform_skip (transform_skip_of (log2_size n) q b x) _ _ (λ w. CountWrites (Refused e) out w) e
+    first_refused no_transform_skip (transform_skip_of (log2_size n) q b x) _ _ (λ w. CountWrites (Err e) out w) e
     (λ f k. record { answered = with_value 0 e f k; out = refl }) (rungs narrow n b x (entries_of list) (length levels) (length out)) h
 
 -- ---- accepted
@@ -147,12 +139,6 @@ block_ready narrow n q b x entries levels places p h =
       square = size_square n size;
     }
 
--- the same by the ladder without its numbers
-pub ladder_ready : (narrow : Bool) (n : ℕ) (q : ℤ) (b : ℕ) (x : Bool) (entries levels places : ℕ)
-    → not_refused ≡ block_answer narrow n b x entries levels places → Ready narrow n q b x entries levels places (transform_skip_of (log2_size n) q b x)
-ladder_ready narrow n q b x entries levels places h =
-    block_ready narrow n q b x entries levels places (transform_skip_of (log2_size n) q b x) (passed_is narrow n q b x entries levels places h)
-
 pub ready_regular : {narrow : Bool} {n : ℕ} {q : ℤ} {b : ℕ} {x : Bool} {entries levels places : ℕ} {p : TransformSkipParams}
     → Ready narrow n q b x entries levels places p → Regular p.dequant
 unfolding transform_skip_of
@@ -166,10 +152,6 @@ ready_listed {n = n} {q} {b} {x} r =
     subst (λ (s : TransformSkipParams). Listed s.dequant) (sym r.is) (dequant_of-listed (log2_size n) q b x r.known)
 
 -- ---- 16-bit output
-plain_most : (l : ℕ) (q : ℤ) (b : ℕ) → (dequant_of l q b false).clip_max ≡ pos 32767
-unfolding dequant_of transform_range coeff_max
-plain_most l q b = refl
-
 plain_ends : (l : ℕ) (q : ℤ) (b : ℕ) → Ends w16 (dequant_of l q b false)
 unfolding dequant_of transform_range coeff_min coeff_max
 plain_ends l q b = record { least = record { sfits = lit< tt }; most = record { sfits = lit< tt } }
@@ -180,27 +162,36 @@ plain_shift l b h k =
     le_out (pos 1) (pos 15 -ℤ pos (b + l)) (omega (arith, parts_add (pos 15) (neg_ℤ (pos (b + l))), parts_neg (pos (b + l))))
 
 module _ (n : ℕ) (q : ℤ) (b : ℕ) (x : Bool) (entries levels places : ℕ) (p : TransformSkipParams) (r : Ready true n q b x entries levels places p) where
-  pub narrow_ends : Ends w16 p.dequant
+  narrow_ends : Ends w16 p.dequant
   unfolding transform_skip_of
   narrow_ends =
       let w = width_accepted b x r.passed.1.1.0 in
       subst (λ (s : TransformSkipParams). Ends w16 s.dequant) (sym r.is)
       (subst (λ (y : Bool). Ends w16 (dequant_of (log2_size n) q b y)) (sym w.1) (plain_ends (log2_size n) q b))
 
-  pub narrow_listable : Listable p.dequant
-  unfolding transform_skip_of
-  narrow_listable =
-      let w = width_accepted b x r.passed.1.1.0 in
-      (ready_listed r).short
-      (subst (λ (s : TransformSkipParams). s.dequant.clip_max ≡ pos 32767) (sym r.is)
-      (subst (λ (y : Bool). (dequant_of (log2_size n) q b y).clip_max ≡ pos 32767) (sym w.1) (plain_most (log2_size n) q b)))
-
-  pub narrow_shift : pos 1 ≤ℤ p.tr_shift
+  narrow_shift : pos 1 ≤ℤ p.tr_shift
   unfolding transform_skip_of
   narrow_shift =
       let w = width_accepted b x r.passed.1.1.0 in
       subst (λ (s : TransformSkipParams). pos 1 ≤ℤ s.tr_shift) (sym r.is)
       (subst (λ (y : Bool). pos 1 ≤ℤ ts_shift (transform_range b y) b (log2_size n)) (sym w.1) (plain_shift (log2_size n) b r.known.most w.0))
+
+-- ---- either output
+pub ready_ends : (narrow : Bool) {n : ℕ} {q : ℤ} {b : ℕ} {x : Bool} {entries levels places : ℕ} {p : TransformSkipParams}
+    → Ready narrow n q b x entries levels places p → Ends (output_width narrow) p.dequant
+ready_ends true {n} {q} {b} {x} {entries} {levels} {places} {p} r = narrow_ends n q b x entries levels places p r
+ready_ends false r = manageable_ends r.skippable.scaling
+
+pub ready_rounds : {narrow : Bool} {n : ℕ} {q : ℤ} {b : ℕ} {x : Bool} {entries levels places : ℕ} {p : TransformSkipParams}
+    → Ready narrow n q b x entries levels places p → narrow ≡ true → pos 1 ≤ℤ p.tr_shift
+ready_rounds {narrow} {n} {q} {b} {x} {entries} {levels} {places} {p} r e =
+    narrow_shift n q b x entries levels places p (subst (λ (y : Bool). Ready y n q b x entries levels places p) e r)
+
+-- the places of an output are those of what is read of it
+pub ready_read : {narrow : Bool} {n : ℕ} {q : ℤ} {b : ℕ} {x : Bool} {entries levels : ℕ} {p : TransformSkipParams} {A : Type 0} (f : A → ℤ) (out : List A)
+    → Ready narrow n q b x entries levels (length out) p → Ready narrow n q b x entries levels (length (map f out)) p
+ready_read {narrow} {n} {q} {b} {x} {entries} {levels} {p} f out r =
+    subst (λ (k : ℕ). Ready narrow n q b x entries levels k p) (sym (length-map out f)) r
 
 -- ---- what was written
 flat_at_lem : (n : ℕ) (q : ℤ) (b : ℕ) (x : Bool) (levels : List ℤ) (i : ℕ) → flat_at (dequant_of (log2_size n) q b x) levels i ≡ scaled_at flat n b x q levels i
@@ -224,10 +215,10 @@ module _ (narrow : Bool) (n : ℕ) (q : ℤ) (b : ℕ) (x : Bool) (levels out af
   written : (list : ScalingList) (by : TransformSkipParams → ℕ → ℤ) (told : TransformSkipParams → ℕ → Bool) (at : ℕ → ℤ) → Ready narrow n q b x (entries_of list) (length levels) (length out) p
       → Counted (by p) (told p) (n * n) out after m → ((i : ℕ) → by (transform_skip_of (log2_size n) q b x) i ≡ at i)
       → ((i : ℕ) → told (transform_skip_of (log2_size n) q b x) i ≡ limited_at list n b x q levels i)
-      → CountWrites (Limited m) after (block_written narrow list n q b x levels out at)
+      → CountWrites (Ok m) after (block_written narrow list n q b x levels out at)
   unfolding block_written scaling_ladder limited_count
   written list by told at r c k l =
-      subst (λ (w : CountWritten). CountWrites (Limited m) after w)
+      subst (λ (w : CountWritten). CountWrites (Ok m) after w)
       (sym (first_passed (left_as_lent out) (counted (limited_count list n b x q levels) (overwrite (n * n) at out)) (rungs narrow n b x (entries_of list) (length levels) (length out)) r.passed))
       (record {
         answered =
@@ -238,13 +229,13 @@ module _ (narrow : Bool) (n : ℕ) (q : ℤ) (b : ℕ) (x : Bool) (levels out af
       })
 
   pub flat_writes : Ready narrow n q b x 64 (length levels) (length out) p → Counted (flat_at p.dequant levels) (flat_limited_at p.dequant levels) (n * n) out after m
-      → CountWrites (Limited m) after (dequantized narrow flat n q b x levels out)
+      → CountWrites (Ok m) after (dequantized narrow flat n q b x levels out)
   unfolding dequantized transform_skip_of
   flat_writes r c =
       written flat (λ s. flat_at s.dequant levels) (λ s. flat_limited_at s.dequant levels) (scaled_at flat n b x q levels) r c (flat_at_lem n q b x levels) (flat_limited-at n q b x levels)
 
   pub flat_skips : Ready narrow n q b x 64 (length levels) (length out) p → Counted (flat_residual_at p levels) (flat_limited_at p.dequant levels) (n * n) out after m
-      → CountWrites (Limited m) after (transform_skipped narrow flat n q b x levels out)
+      → CountWrites (Ok m) after (transform_skipped narrow flat n q b x levels out)
   unfolding transform_skipped transform_skip_of flat_residual_at skipped_at
   flat_skips r c =
       written flat (λ s. flat_residual_at s levels) (λ s. flat_limited_at s.dequant levels) (skipped_at flat n b x q levels) r c
@@ -252,7 +243,7 @@ module _ (narrow : Bool) (n : ℕ) (q : ℤ) (b : ℕ) (x : Bool) (levels out af
 
   pub listed_writes : (es : List ℕ) (d : ℕ) → Ready narrow n q b x (length es) (length levels) (length out) p
       → Counted (listed_at p.dequant (listed es d) n levels) (listed_limited_at p.dequant (listed es d) n levels) (n * n) out after m
-      → CountWrites (Limited m) after (dequantized narrow (listed es d) n q b x levels out)
+      → CountWrites (Ok m) after (dequantized narrow (listed es d) n q b x levels out)
   unfolding dequantized transform_skip_of
   listed_writes es d r c =
       written (listed es d) (λ s. listed_at s.dequant (listed es d) n levels) (λ s. listed_limited_at s.dequant (listed es d) n levels) (scaled_at (listed es d) n b x q levels) r c
@@ -260,20 +251,8 @@ module _ (narrow : Bool) (n : ℕ) (q : ℤ) (b : ℕ) (x : Bool) (levels out af
 
   pub listed_skips : (es : List ℕ) (d : ℕ) → Ready narrow n q b x (length es) (length levels) (length out) p
       → Counted (listed_residual_at p (listed es d) n levels) (listed_limited_at p.dequant (listed es d) n levels) (n * n) out after m
-      → CountWrites (Limited m) after (transform_skipped narrow (listed es d) n q b x levels out)
+      → CountWrites (Ok m) after (transform_skipped narrow (listed es d) n q b x levels out)
   unfolding transform_skipped transform_skip_of listed_residual_at skipped_at
   listed_skips es d r c =
       written (listed es d) (λ s. listed_residual_at s (listed es d) n levels) (λ s. listed_limited_at s.dequant (listed es d) n levels) (skipped_at (listed es d) n b x q levels) r c
       (λ i. ap (ts_residual (ts_shift (transform_range b x) b (log2_size n))) (listed-at (listed es d) n q b x levels i)) (listed-limited-at (listed es d) n q b x levels)
-
--- the same by one flag, at the numbers that are asked for
-module _ {p r : TransformSkipParams} (e : p ≡ r) (list : ScalingList) (n : ℕ) (levels : List ℤ) {out after : List ℤ} {m : ℕ} where
-  pub block_residuals : Counted (listed_residual_at p list n levels) (listed_limited_at p.dequant list n levels) (n * n) out after m
-      → Counted (listed_block_at true r list n levels) (listed_limited_at r.dequant list n levels) (n * n) out after m
-  unfolding listed_block_at
-  block_residuals c = subst (λ (q : TransformSkipParams). Counted (listed_residual_at q list n levels) (listed_limited_at q.dequant list n levels) (n * n) out after m) e c
-
-  pub block-coefficients : Counted (listed_at p.dequant list n levels) (listed_limited_at p.dequant list n levels) (n * n) out after m
-      → Counted (listed_block_at false r list n levels) (listed_limited_at r.dequant list n levels) (n * n) out after m
-  unfolding listed_block_at
-  block-coefficients c = subst (λ (q : TransformSkipParams). Counted (listed_at q.dequant list n levels) (listed_limited_at q.dequant list n levels) (n * n) out after m) e c

@@ -1,49 +1,47 @@
 -- Laws of the working loops, over the width of the output.
---   direct_at_fits                          a coefficient fits where the ends of its range do
 --   flat_at_within, listed_at_within         it is at most 2^22 in size
---   direct_counted                         what is written and counted by entries that are the list's m is the block's
+--   residual_holds                         a residual fits the output
+--   output_within                          what an output holds, 32 bits hold
+--   by_entry_same, by_entry_fits, by_entry_listed   what is written and counted by the m at every index: the same by equal m, fitting, the block's
 --   row_position                           the position of an index of a row
 --   shared_row                             a row that is not the first of those that share their entries has the quotient of the row above
 --   stored_rest                            a place that a loop has not come to is as lent
 --   fills_none, -more, -copy, -to, -then, -first  a loop that lays entries out, one after the other, and the DC number last
 --   coefficients_of_lem, residuals_of          coefficients where they stand, and residuals in their place
 --   skip_counted                           the same with the count of the coefficients
---   stored_as, cast_fits, cast_as          what a store, and a store after a cast, leave: the number itself
+--   reads_more                             a store more into an output, by what its elements read as
 use mathlib.Core.Path.{◌≡◌, refl, sym, ap, ap₂, subst, ◌∙◌}
-use mathlib.Core.Bool.{Bool}
-use mathlib.Core.List.{List}
+use mathlib.Core.Bool.{Bool, true, false}
+use mathlib.Core.List.{List, map}
 use Prim.Native.Nat.{ℕ, ◌+◌, ◌-◌, ◌*◌, ◌/◌, ◌%◌, ◌^◌, ◌≤◌, ◌<◌}
 use native.Mathlib.Nat.{mod-lt}
 use native.Mathlib.Decide.{dec_lt}
 use native.Mathlib.Omega.{arith}
 use lib.Arith.{digits_div, digits_mod}
-use lib.Dec.{T, leb}
 use lib.IntN.{ℤ, pos}
 use lib.ListN.{length, get_or, set, length-set}
+use lib.Signed.{◌≤ℤ◌}
 use lib.Pow.{pow_pos, split, high}
 use lib.Seq.{get_or-set_same, get_or-set_other}
-use mir.Syntax.{Width}
-use mir.Val.{SFits, to_z, of_z, hbits}
+use mir.Syntax.{Width, w16, w32}
+use mir.Val.{SFits}
 use mir.Facts.{sfits_widen}
 use Rattle.integers.specs.Lists.{overwrite}
 use Rattle.integers.specs.Within.{Within}
-use Rattle.integers.proofs.MachineLaws.{round_trip}
 use Rattle.integers.proofs.BoundLaws.{within_eq}
-use Rattle.integers.proofs.ListsLaws.{Stored, overwrite_cong, overwrite-get_or, overwrite-get_or-past, overwrite_twice}
+use Rattle.integers.proofs.ListsLaws.{Stored, stored_more, overwrite_cong, overwrite-get_or, overwrite-get_or-past, overwrite_twice}
 use Rattle.h265.specs.Range.{log2_size}
 use Rattle.h265.specs.ScalingFactor.{ScalingList, repeated_position, scaling_factor}
-use Rattle.h265.specs.ScalingFactor.ScalingList.{listed}
 use Rattle.h265.specs.TransformSkip.{ts_residual}
 use Rattle.parameters.specs.declared.DequantParams.{DequantParams}
 use Rattle.scaling_values.specs.Level.{listed_level, listed_limited, Manageable, Ends}
-use Rattle.scaling_values.specs.Work.{flat_at, listed_at, direct_at, listed_limited_at, direct_limited_at, residual_at, Counted, Rows, Coefficients, Fills}
+use Rattle.scaling_values.specs.Work.{flat_at, listed_at, listed_limited_at, residual_at, Counted, Rows, Coefficients, Fills}
 use Rattle.scaling_values.proofs.CountLaws.{count_cong}
+use Rattle.std.proofs.lemmas.List.{map-set}
+use Rattle.scaling_blocks.specs.Blocks.{output_width}
+use Rattle.scaling_blocks.specs.Each.{by_entry}
+use Rattle.scaling_values.proofs.SkipLaws.{ts_residual_fits}
 use Rattle.scaling_values.proofs.LevelLaws.{flat_level_within, listed_level_fits, listed_level_within}
-
-module _ {w : Width} (levels : List ℤ) (i : ℕ) {p : DequantParams} (e : Ends w p) where
-  pub direct_at_fits : (es : List ℕ) → SFits w (direct_at p es levels i)
-  unfolding direct_at
-  direct_at_fits es = listed_level_fits (get_or es i 0) (get_or levels i (pos 0)) e
 
 module _ (levels : List ℤ) (i : ℕ) {p : DequantParams} (m : Manageable p) where
   pub flat_at_within : Within 4194304 (flat_at p levels i)
@@ -53,17 +51,6 @@ module _ (levels : List ℤ) (i : ℕ) {p : DequantParams} (m : Manageable p) wh
   pub listed_at_within : (list : ScalingList) (n : ℕ) → Within 4194304 (listed_at p list n levels i)
   unfolding listed_at
   listed_at_within list n = listed_level_within (scaling_factor list n i) (get_or levels i (pos 0)) m
-
--- ---- m by entries that stand at the indices themselves
-module _ (p : DequantParams) (es : List ℕ) (d n : ℕ) (levels : List ℤ) (entries : List ℕ) (f : (i : ℕ) → i < n * n → get_or entries i 0 ≡ scaling_factor (listed es d) n i) where
-  pub direct_counted : {m : ℕ} {out after : List ℤ} → Counted (direct_at p entries levels) (direct_limited_at p entries levels) (n * n) out after m
-      → Counted (listed_at p (listed es d) n levels) (listed_limited_at p (listed es d) n levels) (n * n) out after m
-  unfolding direct_at listed_at direct_limited_at listed_limited_at
-  direct_counted {out = out} c =
-      record {
-        out = c.out ∙ overwrite_cong (n * n) (direct_at p entries levels) (listed_at p (listed es d) n levels) out (λ i h. ap (λ (m : ℕ). listed_level p m (get_or levels i (pos 0))) (f i h));
-        count = c.count ∙ count_cong (direct_limited_at p entries levels) (listed_limited_at p (listed es d) n levels) (n * n) (λ i h. ap (λ (m : ℕ). listed_limited p m (get_or levels i (pos 0))) (f i h));
-      }
 
 pub row_position : (n r row c : ℕ) → Rows n r → c < n → row / 2 ^ r * 8 + c / 2 ^ r ≡ repeated_position n (row * n + c)
 unfolding repeated_position
@@ -149,16 +136,41 @@ pub skip_counted : {k m : ℕ} {f : ℕ → ℤ} {g : ℕ → Bool} {xs ys : Lis
     → Counted (λ i. ts_residual t (f i)) g k xs zs m
 skip_counted {k} {f = f} {xs = xs} c t q = record { out = residuals_of k f xs c.out t q; count = c.count }
 
--- v is what was worked out, z what the contract names
-module _ {w : Width} {v z : ℤ} (e : v ≡ z) (f : SFits w z) where
-  pub stored_as : to_z w (of_z w v) ≡ z
-  stored_as = ap (λ (y : ℤ). to_z w (of_z w y)) e ∙ round_trip f
+-- ---- an output that is read
+module _ {A : Type 0} (r : A → ℤ) {f : ℕ → ℤ} {xs : List ℤ} {k : ℕ} (ys : List A) (s : Stored f xs k (map r ys)) where
+  pub reads_more : {v : A} → k < length xs → r v ≡ f k → Stored f xs (k + 1) (map r (set ys k v))
+  reads_more {v} h e = subst (λ (l : List ℤ). Stored f xs (k + 1) l) (sym (map-set r ys k v)) (stored_more s h e)
 
-  read_as : (w' : Width) → T (leb (hbits w) (hbits w')) → to_z w' (of_z w' v) ≡ z
-  read_as w' t = ap (λ (y : ℤ). to_z w' (of_z w' y)) e ∙ round_trip (sfits_widen t f)
+-- what an output holds, 32 bits hold
+pub output_within : (narrow : Bool) {z : ℤ} → SFits (output_width narrow) z → SFits w32 z
+output_within true f = sfits_widen tt f
+output_within false f = f
 
-  pub cast_fits : (w' : Width) → T (leb (hbits w) (hbits w')) → SFits w (to_z w' (of_z w' v))
-  cast_fits w' t = subst (λ (y : ℤ). SFits w y) (sym (read_as w' t)) f
+-- a residual fits the output where its coefficient does and, in 16 bits, the shift rounds
+pub residual_holds : (narrow : Bool) {t c r : ℤ} → (narrow ≡ true → pos 1 ≤ℤ t) → SFits (output_width narrow) c → r ≡ ts_residual t c → SFits w32 r → SFits (output_width narrow) r
+residual_holds true {t} {c} h f e g = subst (λ (z : ℤ). SFits w16 z) (sym e) (ts_residual_fits t c (h refl) f)
+residual_holds false h f e g = g
 
-  pub cast_as : (w' : Width) → T (leb (hbits w) (hbits w')) → to_z w (of_z w (to_z w' (of_z w' v))) ≡ z
-  cast_as w' t = ap (λ (y : ℤ). to_z w (of_z w y)) (read_as w' t) ∙ round_trip f
+-- ---- f and g of the m and of the level at every index
+pub by_entry_same : (f : ℕ → ℤ → ℤ) (g : ℕ → ℤ → Bool) (m m' : ℕ → ℕ) (levels : List ℤ) {k r : ℕ} {xs ys : List ℤ} → ((i : ℕ) → i < k → m i ≡ m' i)
+    → Counted (by_entry f m levels) (by_entry g m levels) k xs ys r → Counted (by_entry f m' levels) (by_entry g m' levels) k xs ys r
+by_entry_same f g m m' levels {k} {xs = xs} h c =
+    record {
+      out = c.out ∙ overwrite_cong k (by_entry f m levels) (by_entry f m' levels) xs (λ i a. ap (λ (e : ℕ). f e (get_or levels i (pos 0))) (h i a));
+      count = c.count ∙ count_cong (by_entry g m levels) (by_entry g m' levels) k (λ i a. ap (λ (e : ℕ). g e (get_or levels i (pos 0))) (h i a));
+    }
+
+module _ (p : DequantParams) (f : ℕ → ℤ → ℤ) where
+  pub by_entry_fits : {w : Width} → Ends w p → ((m : ℕ) (level : ℤ) → f m level ≡ listed_level p m level) → (m : ℕ) (level : ℤ) → SFits w (f m level)
+  by_entry_fits {w} e v m level = subst (λ (z : ℤ). SFits w z) (sym (v m level)) (listed_level_fits m level e)
+
+  pub by_entry_listed : (g : ℕ → ℤ → Bool) (list : ScalingList) (n : ℕ) (levels : List ℤ) {k r : ℕ} {xs ys : List ℤ}
+      → ((m : ℕ) (level : ℤ) → f m level ≡ listed_level p m level) → ((m : ℕ) (level : ℤ) → g m level ≡ listed_limited p m level)
+      → Counted (by_entry f (scaling_factor list n) levels) (by_entry g (scaling_factor list n) levels) k xs ys r
+      → Counted (listed_at p list n levels) (listed_limited_at p list n levels) k xs ys r
+  unfolding listed_at listed_limited_at
+  by_entry_listed g list n levels {k} {xs = xs} v l c =
+      record {
+        out = c.out ∙ overwrite_cong k (by_entry f (scaling_factor list n) levels) (listed_at p list n levels) xs (λ i a. v (scaling_factor list n i) (get_or levels i (pos 0)));
+        count = c.count ∙ count_cong (by_entry g (scaling_factor list n) levels) (listed_limited_at p list n levels) k (λ i a. l (scaling_factor list n i) (get_or levels i (pos 0)));
+      }

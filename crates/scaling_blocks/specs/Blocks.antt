@@ -1,6 +1,7 @@
 -- Whole blocks, refused calls included. docs/RULES.md, "Scaling", "Transform skip", and rows 1, 2, 3, 5, 6, 7 of its table;
 -- change request R-6.
 -- Letters: n size, q QP' as given, b depth, x extended precision.
+--   output_width           how wide an element of the output is
 --   scaling_ladder           what `stop` makes of the lowest refusal that applies, else `done`
 --   block_answer           the ladder alone; not_refused: it refuses nothing
 --   count_outcome          the answer of a call: its value is how many coefficients were limited, 0 on refusal
@@ -9,9 +10,9 @@
 --   dequantized           scaling: the coefficients stand in the first n² places of the output
 --   transform_skipped      transform skip: the residuals stand there; the coefficients that were limited count, before the skip shift
 --   CountWrites r after w a call's answer r and output `after` are what w says
---   listed_block_at skip    the residual at an index of a block with a list, or its coefficient
 --   block_params           the numbers by which a call works, below the same ladder
-use Rattle.std.specs.Prelude.{◌≡◌, Bool, true, false, ◌&&◌, cond, List, ℕ, ◌*◌, ℤ, length}
+use Rattle.std.specs.Prelude.{◌≡◌, Bool, true, false, ◌&&◌, cond, List, ℕ, ◌*◌, ℤ, length, Result}
+use Rattle.std.specs.Int.{Width, w16, w32}
 use Rattle.integers.specs.Lists.{overwrite}
 use Rattle.h265.specs.Range.{log2_size}
 use Rattle.h265.specs.ScalingFactor.{ScalingList}
@@ -22,13 +23,10 @@ use Rattle.h265.specs.TransformSkip.{skipped_at}
 use Rattle.refusal.specs.declared.Refusal.{Refusal}
 use Rattle.refusal.specs.declared.Refusal.TheVariants.{SizeInvalid, DepthInvalid, WidthTooNarrow, ListLengthInvalid, InputTooShort, OutputTooShort}
 use Rattle.refusal.specs.Condition.{size_refused, depth_refused, width_refused, list_refused, block_refused}
-use Rattle.refusal.specs.Outcome.{Outcome, accepted, refused}
+use Rattle.refusal.specs.Outcome.{Outcome, accepted, refused, outcome}
 use Rattle.parameters.specs.declared.TransformSkipParams.{TransformSkipParams}
 use Rattle.parameters.specs.Answers.{no_transform_skip}
 use Rattle.parameters.specs.Parameters.{transform_skip_of}
-use Rattle.scaling_values.specs.Work.{listed_at, listed_residual_at}
-use Rattle.scaling_blocks.specs.declared.CountAnswer.{CountAnswer}
-use Rattle.scaling_blocks.specs.declared.CountAnswer.TheVariants.{Limited, Refused}
 
 -- the output's width: row 3 applies to 16-bit output alone
 abbrev pub bits16 : Bool
@@ -36,6 +34,10 @@ bits16 = true
 
 abbrev pub bits32 : Bool
 bits32 = false
+
+-- what an element of the output has room for
+abbrev pub output_width : Bool → Width
+output_width narrow = cond narrow w16 w32
 
 -- row 5 applies to a list alone: without one, 64 entries stand for nothing to refuse
 abbrev pub entries_of : ScalingList → ℕ
@@ -58,10 +60,6 @@ block_answer narrow n b x entries levels places = scaling_ladder (refused tt) (a
 abbrev pub not_refused : Outcome (Unit {0})
 not_refused = accepted tt
 
-abbrev pub count_outcome : CountAnswer → Outcome ℕ
-count_outcome (Limited k) = accepted k
-count_outcome (Refused e) = refused 0 e
-
 pub record CountWritten : Type 0 where
   pub answer : Outcome ℕ
   pub out : List ℤ
@@ -72,8 +70,8 @@ left_as_lent out e = record { answer = refused 0 e; out = out }
 abbrev pub counted : ℕ → List ℤ → CountWritten
 counted k out = record { answer = accepted k; out = out }
 
-pub record CountWrites (r : CountAnswer) (after : List ℤ) (w : CountWritten) : Type 0 where
-  pub answered : count_outcome r ≡ w.answer
+pub record CountWrites (r : Result ℕ Refusal) (after : List ℤ) (w : CountWritten) : Type 0 where
+  pub answered : outcome 0 r ≡ w.answer
   pub out : after ≡ w.out
 
 -- refused: the output as lent; else element i of the first n² is `at i`, and the others are as lent
@@ -92,6 +90,3 @@ transform_skipped narrow list n q b x levels out = block_written narrow list n q
 unfoldable pub block_params : Bool → ℕ → ℤ → ℕ → Bool → ℕ → ℕ → ℕ → Outcome TransformSkipParams
 block_params narrow n q b x entries levels places =
     scaling_ladder (refused no_transform_skip) (accepted (transform_skip_of (log2_size n) q b x)) narrow n b x entries levels places
-
-unfoldable pub listed_block_at : Bool → TransformSkipParams → ScalingList → ℕ → List ℤ → ℕ → ℤ
-listed_block_at skip p list n levels = cond skip (listed_residual_at p list n levels) (listed_at p.dequant list n levels)

@@ -18,10 +18,8 @@ fn spread_row(list: &[u8], row: usize, n: usize, repeats: u32, entries: &mut [u8
 {
     let at = row * n;
     let entry = (row >> repeats) * 8;
-    let mut c = 0;
-    while c < n {
+    for c in 0..n {
         entries[at + c] = list[entry + (c >> repeats)];
-        c += 1;
     }
 }
 
@@ -34,10 +32,8 @@ fn copy_row(row: usize, n: usize, entries: &mut [u8])
 {
     let at = row * n;
     let above = at - n;
-    let mut c = 0;
-    while c < n {
+    for c in 0..n {
         entries[at + c] = entries[above + c];
-        c += 1;
     }
 }
 
@@ -63,10 +59,8 @@ fn spread_rows(list: &[u8], n: usize, repeats: u32, entries: &mut [u8])
     requires rows { Rows n repeats }
     ensures { Fills (spread_at list.now n) 0 (n * n) entries.old entries.new }
 {
-    let mut row = 0;
-    while row < n {
+    for row in 0..n {
         next_row(list, row, n, repeats, entries);
-        row += 1;
     }
 }
 

@@ -7,9 +7,7 @@
 ghost use Rattle.std.specs.Prelude.{◌≤◌};
 
 use parameters::QpPrime;
-use refusal::Answer;
-use scaling::{FactorAnswer, LevelAnswer};
-use scaling_blocks::CountAnswer;
+use refusal::Refusal;
 use std::io::Read;
 
 #[derive(Clone, Copy)]
@@ -25,14 +23,14 @@ struct Case {
 }
 
 fn next_case(stdin: &mut impl Read) -> Case {
-    let which = cases::next_byte(stdin);
-    let n = cases::next_word(stdin);
-    let index = cases::next_word(stdin);
-    let qp = cases::next_wide(stdin);
-    let level = cases::next_wide(stdin);
-    let bit_depth = cases::next_byte(stdin);
-    let extended = cases::next_byte(stdin) != 0;
-    let dc = cases::next_byte(stdin);
+    let which = cases::next::<u8>(stdin);
+    let n = cases::next::<usize>(stdin);
+    let index = cases::next::<usize>(stdin);
+    let qp = cases::next::<i32>(stdin);
+    let level = cases::next::<i32>(stdin);
+    let bit_depth = cases::next::<u8>(stdin);
+    let extended = cases::next::<u8>(stdin) != 0;
+    let dc = cases::next::<u8>(stdin);
     Case {
         which,
         n,
@@ -47,11 +45,11 @@ fn next_case(stdin: &mut impl Read) -> Case {
 
 fn factor(rt: &impl Print, case: Case, list: &[u8]) {
     match scaling::scaling_coeff(list, case.dc, case.n, case.index) {
-        FactorAnswer::Factor(m) => {
-            cases::put_answer(rt, Answer::Done);
+        Ok(m) => {
+            cases::put_answer(rt, Ok(()));
             cases::put(rt, m as u64);
         }
-        FactorAnswer::Refused(why) => cases::put_refusal(rt, why),
+        Err(why) => cases::put_refusal(rt, why),
     }
 }
 
@@ -64,13 +62,13 @@ fn put_limited(rt: &impl Print, limited: bool) {
 }
 
 // The answer, and how many coefficients were limited.
-fn put_count(rt: &impl Print, answer: CountAnswer) {
+fn put_count(rt: &impl Print, answer: Result<u16, Refusal>) {
     match answer {
-        CountAnswer::Limited(limited) => {
-            cases::put_answer(rt, Answer::Done);
+        Ok(limited) => {
+            cases::put_answer(rt, Ok(()));
             cases::put(rt, limited as u64);
         }
-        CountAnswer::Refused(why) => {
+        Err(why) => {
             cases::put_refusal(rt, why);
             cases::put(rt, 0);
         }
@@ -88,17 +86,17 @@ fn level(rt: &impl Print, case: Case) {
         case.bit_depth,
         case.extended,
     ) {
-        LevelAnswer::Level(scaled) => {
-            cases::put_answer(rt, Answer::Done);
-            cases::put_signed(rt, scaled.value);
+        Ok(scaled) => {
+            cases::put_answer(rt, Ok(()));
+            cases::put(rt, scaled.value);
             put_limited(rt, scaled.level_limited);
             put_limited(rt, scaled.result_limited);
         }
-        LevelAnswer::Refused(why) => cases::put_refusal(rt, why),
+        Err(why) => cases::put_refusal(rt, why),
     }
 }
 
-fn scale_wide(case: Case, list: &[u8], levels: &[i32], out: &mut [i32]) -> CountAnswer {
+fn scale_wide(case: Case, list: &[u8], levels: &[i32], out: &mut [i32]) -> Result<u16, Refusal> {
     let which = case.which;
     let n = case.n;
     let qp = QpPrime(case.qp);
@@ -119,7 +117,7 @@ fn scale_wide(case: Case, list: &[u8], levels: &[i32], out: &mut [i32]) -> Count
     }
 }
 
-fn scale_narrow(case: Case, list: &[u8], levels: &[i32], out: &mut [i16]) -> CountAnswer {
+fn scale_narrow(case: Case, list: &[u8], levels: &[i32], out: &mut [i16]) -> Result<u16, Refusal> {
     let which = case.which;
     let n = case.n;
     let qp = QpPrime(case.qp);
@@ -142,19 +140,19 @@ fn scale_narrow(case: Case, list: &[u8], levels: &[i32], out: &mut [i16]) -> Cou
 
 fn wide(rt: &impl Print, case: Case, list: &[u8], levels: &[i32], out: &mut [i32]) {
     put_count(rt, scale_wide(case, list, levels, out));
-    cases::put_wide(rt, out);
+    cases::put_all(rt, out);
 }
 
 fn narrow(rt: &impl Print, case: Case, list: &[u8], levels: &[i32], out: &mut [i16]) {
     put_count(rt, scale_narrow(case, list, levels, out));
-    cases::put_narrow(rt, out);
+    cases::put_all(rt, out);
 }
 
 // How long a list is, or a block; none is longer.
 fn list_length(stdin: &mut impl Read) -> usize
     ensures { result ≤ 65 }
 {
-    let n = cases::next_short(stdin);
+    let n = cases::next::<u16>(stdin) as usize;
     if n <= 65 {
         return n;
     }
@@ -164,7 +162,7 @@ fn list_length(stdin: &mut impl Read) -> usize
 fn block_length(stdin: &mut impl Read) -> usize
     ensures { result ≤ 1040 }
 {
-    let n = cases::next_short(stdin);
+    let n = cases::next::<u16>(stdin) as usize;
     if n <= 1040 {
         return n;
     }
@@ -179,7 +177,7 @@ fn read_list(stdin: &mut impl Read, count: usize, list: &mut [u8]) {
 
 fn read_levels(stdin: &mut impl Read, count: usize, levels: &mut [i32]) {
     if count <= levels.len() {
-        cases::read_wide(stdin, &mut levels[0..count]);
+        cases::read_all(stdin, &mut levels[0..count]);
     }
 }
 

@@ -1,5 +1,4 @@
 -- Lists of entries in buffers.
---   Copied, copied-…   the invariant of a loop that puts one list into another, and its needs
 --   Entries, entries-…   the invariant of the loop over a coded list: what is left, from here, is what the whole gives; and its needs
 use mathlib.Core.Path.{◌≡◌, refl, sym, ap, ◌∙◌}
 use mathlib.Core.List.{List}
@@ -7,31 +6,10 @@ use Prim.Native.Nat.{ℕ, suc, ◌+◌, ◌*◌, ◌≤◌, ◌<◌}
 use native.Mathlib.Numerals.{add-one}
 use native.Mathlib.Omega.{arith}
 use lib.ListN.{length, get_or, set, drop, length-set, drop_of_length-le}
-use lib.Seq.{drop-cons, paste, paste-zero, paste-suc, length-paste}
+use lib.Seq.{drop-cons}
+use Rattle.std.specs.Prelude.{Ok, Err}
 use Rattle.refusal.specs.declared.Refusal.{Refusal}
 use Rattle.scaling_lists_codes.specs.Syntax.{Reading, and_then, delta_code, entries_from}
-use Rattle.scaling_lists_codes.specs.Syntax.Reading.{got, stop}
-
-pub record Copied (from to₀ : List ℕ) (base : ℕ) (to : List ℕ) (i : ℕ) : Type 0 where
-  pub is : to ≡ paste to₀ base from i
-  pub within : i ≤ length from
-
-pub copied_none : (from to : List ℕ) (base : ℕ) → Copied from to base to 0
-copied_none from to base = record { is = paste-zero to base from; within = omega arith }
-
-module _ {from to₀ to : List ℕ} {base i : ℕ} (c : Copied from to₀ base to i) (room : base + length from ≤ length to₀) where
-  pub copied_length : length to ≡ length to₀
-  copied_length = ap length c.is ∙ length-paste to₀ base from i (omega (arith, c.within)) c.within
-
-  pub copied_more : i < length from → Copied from to₀ base (set to (base + i) (get_or from i 0)) (i + 1)
-  copied_more h =
-      record {
-        is = ap (λ (l : List ℕ). set l (base + i) (get_or from i 0)) c.is ∙ paste-suc to₀ base from i 0 (omega arith) h ∙ ap (paste to₀ base from) (sym (add-one i));
-        within = omega arith;
-      }
-
-  pub copied_all : length from ≤ i → to ≡ paste to₀ base from (length from)
-  copied_all h = let e : i ≡ length from = omega (arith, c.within) in c.is ∙ ap (paste to₀ base from) e
 
 pub record Entries (bytes scan : List ℕ) (first start : ℕ) (es₀ es : List ℕ) (next at i : ℕ) : Type 0 where
   pub within : i ≤ length scan
@@ -48,12 +26,12 @@ unfolding entries_from
 first_left bytes scan i next at es h = rw (drop-cons scan i 0 h)
 
 module _ {bytes scan : List ℕ} {first start : ℕ} {es₀ es : List ℕ} {next at i : ℕ} (e : Entries bytes scan first start es₀ es next at i) where
-  pub entries_stop : (why : Refusal) → i < length scan → stop why ≡ delta_code bytes next at → stop why ≡ entries_from bytes scan first start es₀
+  pub entries_stop : (why : Refusal) → i < length scan → Err why ≡ delta_code bytes next at → Err why ≡ entries_from bytes scan first start es₀
   entries_stop why h d =
       sym (first_left bytes scan i next at es h ∙ ap (λ (r : Reading ℕ). and_then r (λ v behind. entries_from bytes (drop (suc i) scan) v behind (set es (get_or scan i 0) v))) (sym d))
       ∙ e.left
 
-  pub entries_more : (v behind : ℕ) → i < length scan → got v behind ≡ delta_code bytes next at → behind ≤ at + 65
+  pub entries_more : (v behind : ℕ) → i < length scan → Ok (v, behind) ≡ delta_code bytes next at → behind ≤ at + 65
       → Entries bytes scan first start es₀ (set es (get_or scan i 0) v) v behind (i + 1)
   entries_more v behind h d b =
       record {
@@ -65,6 +43,6 @@ module _ {bytes scan : List ℕ} {first start : ℕ} {es₀ es : List ℕ} {next
             ∙ e.left);
       }
 
-  pub entries_done : length scan ≤ i → got es at ≡ entries_from bytes scan first start es₀
+  pub entries_done : length scan ≤ i → Ok (es, at) ≡ entries_from bytes scan first start es₀
   unfolding entries_from
   entries_done h = sym (rw (drop_of_length-le scan h) refl) ∙ e.left

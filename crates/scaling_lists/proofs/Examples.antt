@@ -6,14 +6,14 @@ use mathlib.Core.Path.{◌≡◌, refl}
 use mathlib.Core.List.{List, [], ◌∷◌, ◌++◌}
 use Prim.Native.Nat.{ℕ, ◌+◌, ◌*◌}
 use lib.ListN.{replicate}
+use Rattle.std.specs.Prelude.{Ok, Err}
 use Rattle.integers.specs.Lists.{tabulate_from, tabulate}
 use Rattle.integers.specs.Search.{first_where}
 use Rattle.refusal.specs.declared.Refusal.TheVariants.{ReferenceMissing}
 use Rattle.bits.specs.Bits.{is_there, bit_at, bits_number}
 use Rattle.bits.specs.ExpGolomb.{leading_zeros, code_of, unsigned_code, signed_number}
 use Rattle.diagonal.specs.Scan.{inside, diagonal, diagonals, up_right}
-use Rattle.scaling_lists_codes.specs.Syntax.{FactorList, Defaults, matrix_step, size_id, matrix_id, list_number, default_for, outside_of, added, next_coef, delta_code, entries_from, dc_code, positions, coded_entries, coded_list, reference_code, referred, taken_over, list_by, list_code, lists_from, scaling_list_data}
-use Rattle.scaling_lists_codes.specs.Syntax.Reading.{got, stop}
+use Rattle.scaling_lists_codes.specs.Syntax.{FactorList, Defaults, matrix_step, size_id, matrix_id, list_number, default_for, outside_of, added, next_coef, number_at, delta_code, entries_from, dc_code, positions, coded_entries, coded_list, reference_code, referred, taken_over, list_by, list_code, lists_from, scaling_list_data}
 
 -- 10 × size_id + matrix_id
 pub order_holds : tabulate 20 (λ j. 10 * size_id j + matrix_id j)
@@ -30,10 +30,10 @@ list n = record { entries = n ∷ []; dc = 16 }
 abbrev six : List FactorList
 six = replicate 3 (list 2) ++ replicate 3 (list 3)
 
-pub defaults_hold : scaling_list_data lent (85 ∷ 85 ∷ 85 ∷ 85 ∷ 85 ∷ []) ≡ got (replicate 6 (list 1) ++ six ++ six ++ (list 2 ∷ list 3 ∷ [])) 40
-unfolding first_where is_there bit_at bits_number leading_zeros code_of unsigned_code signed_number inside diagonal diagonals up_right matrix_step size_id matrix_id list_number default_for outside_of added next_coef delta_code entries_from dc_code positions coded_entries coded_list reference_code referred taken_over list_by list_code lists_from scaling_list_data
+pub defaults_hold : scaling_list_data lent (85 ∷ 85 ∷ 85 ∷ 85 ∷ 85 ∷ []) ≡ Ok (replicate 6 (list 1) ++ six ++ six ++ (list 2 ∷ list 3 ∷ []), 40)
+unfolding first_where is_there bit_at bits_number leading_zeros code_of unsigned_code signed_number inside diagonal diagonals up_right matrix_step size_id matrix_id list_number default_for outside_of added next_coef number_at delta_code entries_from dc_code positions coded_entries coded_list reference_code referred taken_over list_by list_code lists_from scaling_list_data
 defaults_hold = refl
 
-pub missing_holds : scaling_list_data lent (85 ∷ 85 ∷ 85 ∷ 85 ∷ 82 ∷ []) ≡ stop (ReferenceMissing 37)
-unfolding first_where is_there bit_at bits_number leading_zeros code_of unsigned_code signed_number inside diagonal diagonals up_right matrix_step size_id matrix_id list_number default_for outside_of added next_coef delta_code entries_from dc_code positions coded_entries coded_list reference_code referred taken_over list_by list_code lists_from scaling_list_data
+pub missing_holds : scaling_list_data lent (85 ∷ 85 ∷ 85 ∷ 85 ∷ 82 ∷ []) ≡ Err (ReferenceMissing 37)
+unfolding first_where is_there bit_at bits_number leading_zeros code_of unsigned_code signed_number inside diagonal diagonals up_right matrix_step size_id matrix_id list_number default_for outside_of added next_coef number_at delta_code entries_from dc_code positions coded_entries coded_list reference_code referred taken_over list_by list_code lists_from scaling_list_data
 missing_holds = refl

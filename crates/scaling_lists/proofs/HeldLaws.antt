@@ -1,22 +1,20 @@
 -- The lists that stand in two buffers.
 --   paste_before, paste_inside   an element before a list that was put into another, and one of its own
 --   put-list, put_keeps          a list that was put among others, and one before it
---   gathered                     three defaults put one behind the other
 --   held_more                    the lists with one more behind them
---   grown_got, grown_stop        the next list, read and put there
+--   grown_got                    the next list, read and put there
 use mathlib.Core.Path.{◌≡◌, sym, ap, ap₂, ◌∙◌}
 use mathlib.Core.List.{List, [], ◌∷◌, ◌++◌}
 use Prim.Native.Nat.{ℕ, ◌+◌, ◌*◌, ◌≤◌, ◌<◌}
 use native.Mathlib.Numerals.{add-one}
 use native.Mathlib.Omega.{arith}
 use lib.ListN.{length, get_or, set, take, drop, get_or-append}
-use lib.Seq.{ext_get_or, get_or-take, get_or-append-add, get_or-set_same, get_or-set_other, length-take-le, paste, length-paste, length_paste_head}
+use lib.Seq.{ext_get_or, get_or-take, get_or-append-add, get_or-set_same, get_or-set_other, length-take-le, paste, length_paste_head}
+use Rattle.std.specs.Prelude.{Ok}
 use Rattle.integers.specs.Lists.{tabulate}
 use Rattle.integers.proofs.ListsLaws.{tabulate-length, tabulate-get_or, tabulate_cong, tabulate_suc}
-use Rattle.refusal.specs.declared.Refusal.{Refusal}
-use Rattle.scaling_lists_codes.specs.Syntax.{Reading, FactorList, Defaults, defaults, and_then, list_code}
-use Rattle.scaling_lists_codes.specs.Syntax.Reading.{got, stop}
-use Rattle.scaling_lists_taken.specs.Held.{list_entries, defaults_in, held_at, held}
+use Rattle.scaling_lists_codes.specs.Syntax.{Reading, FactorList, Defaults, and_then, list_code}
+use Rattle.scaling_lists_taken.specs.Held.{list_entries, held_at, held}
 use Rattle.scaling_lists.specs.Work.{one_more}
 
 module _ (d : List ℕ) (at : ℕ) (s : List ℕ) (n i : ℕ) (hd : at ≤ length d) (hs : n ≤ length s) where
@@ -46,21 +44,6 @@ put_keeps j k lists es h room =
     tabulate_cong 64 (λ i. get_or (paste lists (64 * j) es (length es)) (64 * k + i) 0) (λ i. get_or lists (64 * k + i) 0)
     (λ i b. paste_before lists (64 * j) es (length es) (64 * k + i) room (omega arith) (omega arith))
 
-pub gathered : (zeros four intra inter : List ℕ) {one two three : List ℕ} → length zeros ≡ 192 → length four ≡ 64 → length intra ≡ 64 → length inter ≡ 64
-    → one ≡ paste zeros 0 four (length four) → two ≡ paste one 64 intra (length intra) → three ≡ paste two 128 inter (length inter)
-    → defaults_in three ≡ defaults four intra inter
-unfolding defaults_in
-gathered zeros four intra inter {one} {two} {three} z f a e p q r =
-    let l1 : length one ≡ 192 = ap length p ∙ length-paste zeros 0 four (length four) (omega arith) (omega arith) ∙ z in
-    let l2 : length two ≡ 192 = ap length q ∙ length-paste one 64 intra (length intra) (omega arith) (omega arith) ∙ l1 in
-    let r0 : list_entries three 0 ≡ list_entries two 0 = ap (λ (l : List ℕ). list_entries l 0) r ∙ put_keeps 2 0 two inter (omega arith) (omega arith) in
-    let q0 : list_entries two 0 ≡ list_entries one 0 = ap (λ (l : List ℕ). list_entries l 0) q ∙ put_keeps 1 0 one intra (omega arith) (omega arith) in
-    let p0 : list_entries one 0 ≡ four = ap (λ (l : List ℕ). list_entries l 0) p ∙ put-list 0 zeros four f (omega arith) in
-    let r1 : list_entries three 1 ≡ list_entries two 1 = ap (λ (l : List ℕ). list_entries l 1) r ∙ put_keeps 2 1 two inter (omega arith) (omega arith) in
-    let q1 : list_entries two 1 ≡ intra = ap (λ (l : List ℕ). list_entries l 1) q ∙ put-list 1 one intra a (omega arith) in
-    let r2 : list_entries three 2 ≡ inter = ap (λ (l : List ℕ). list_entries l 2) r ∙ put-list 2 two inter e (omega arith) in
-    rw (r0 ∙ q0 ∙ p0, r1 ∙ q1, r2)
-
 module _ (j : ℕ) (lists dcs es : List ℕ) (dc : ℕ) (long : length es ≡ 64) (room : 64 * j + 64 ≤ length lists) (dcs-room : j < length dcs) where
   lists' : List ℕ
   lists' = paste lists (64 * j) es (length es)
@@ -86,11 +69,8 @@ module _ (j : ℕ) (lists dcs es : List ℕ) (dc : ℕ) (long : length es ≡ 64
       ∙ tabulate_suc j (held_at lists' (set dcs j dc))
       ∙ ap₂ (λ (read : List FactorList) (l : FactorList). read ++ (l ∷ [])) (tabulate_cong j (held_at lists' (set dcs j dc)) (held_at lists dcs) kept_at) new_at
 
-  pub grown_got : (lent : Defaults) (bytes : List ℕ) (at behind : ℕ) → got (record { entries = es; dc = dc }) behind ≡ list_code lent bytes (held j lists dcs) at
-      → got (held (j + 1) (paste lists (64 * j) es (length es)) (set dcs j dc)) behind ≡ one_more lent bytes (held j lists dcs) at
+  pub grown_got : (lent : Defaults) (bytes : List ℕ) (at behind : ℕ) → Ok (record { entries = es; dc = dc }, behind) ≡ list_code lent bytes (held j lists dcs) at
+      → Ok (held (j + 1) (paste lists (64 * j) es (length es)) (set dcs j dc), behind) ≡ one_more lent bytes (held j lists dcs) at
   grown_got lent bytes at behind e =
-      ap (λ (read : List FactorList). got read behind) held_more
-      ∙ ap (λ (r : Reading FactorList). and_then r (λ l behind. got (held j lists dcs ++ (l ∷ [])) behind)) e
-
-pub grown_stop : (lent : Defaults) (bytes : List ℕ) (read : List FactorList) (at : ℕ) (why : Refusal) → stop why ≡ list_code lent bytes read at → stop why ≡ one_more lent bytes read at
-grown_stop lent bytes read at why e = ap (λ (r : Reading FactorList). and_then r (λ l behind. got (read ++ (l ∷ [])) behind)) e
+      ap (λ (read : List FactorList). Ok (read, behind)) held_more
+      ∙ ap (λ (r : Reading FactorList). and_then r (λ l behind. Ok (held j lists dcs ++ (l ∷ []), behind))) e

@@ -4,22 +4,19 @@
 --   four_inside, eight_inside   they lie among 64 entries
 --   coded_got, coded_stop    entries that are read, with a DC that is known
 --   coded_plain, coded_dc, coded_dc_stop   a list without and with a DC of its own
---   fill_whole               a list filled from the start of one as long
---   default_four, -intra, -inter   which default a size and a matrix have
---   paste_whole              a list put over one as long
 --   referred_default, referred-held   the list that a reference means
 --   taken_got, taken_stop    a list that is taken over, by its reference
 --   list_taken, list_coded, list_ended   a list by its flag
 use mathlib.Core.Path.{◌≡◌, sym, ap, ◌∙◌}
 use mathlib.Core.Bool.{Bool, true, false, ◌&&◌}
-use mathlib.Core.List.{List, [], ◌∷◌, ◌++◌, append-nil}
+use mathlib.Core.List.{List, [], ◌∷◌}
 use Prim.Native.Nat.{ℕ, zero, suc, ◌+◌, ◌-◌, ◌*◌, ◌≤◌, ◌<◌}
-use native.Mathlib.Nat.{not-suc-le-zero, zero-add}
+use native.Mathlib.Nat.{not-suc-le-zero}
 use native.Mathlib.Omega.{arith}
 use borrow.Author.Tests.{eq-eqb, ne_eqb, lt-ltb, le-ltb}
 use lib.Dec.{T, ltb, lit≤, ltb→lt}
 use lib.ListN.{length, get_or}
-use lib.Seq.{ext_get_or, take-length, drop-length, paste}
+use Rattle.std.specs.Prelude.{Ok, Err}
 use Rattle.integers.specs.Lists.{tabulate}
 use Rattle.integers.proofs.ListsLaws.{tabulate-length, tabulate-get_or}
 use Rattle.refusal.specs.declared.Refusal.{Refusal}
@@ -27,7 +24,6 @@ use Rattle.refusal.specs.declared.Refusal.TheVariants.{BitsEnded}
 use Rattle.bits.specs.Bits.{is_there, bit_at}
 use Rattle.diagonal.specs.Scan.{inside, diagonal, diagonals, up_right}
 use Rattle.scaling_lists_codes.specs.Syntax.{Reading, FactorList, and_then, positions, blank, entries_from, coded_entries, dc_code, coded_list, Defaults, default_for, list_number, matrix_step, none, referred, reference_code, taken_over, size_id, matrix_id, list_by, list_code}
-use Rattle.scaling_lists_codes.specs.Syntax.Reading.{got, stop}
 use Rattle.scaling_lists_taken.specs.Held.{held_at, held}
 use Rattle.scaling_lists.specs.Work.{Positions}
 
@@ -63,14 +59,14 @@ eight_inside = record { few = lit≤ tt; below = below_at 64 (up_right 8) tt }
 
 -- ---- a list that is coded in full
 module _ (bytes : List ℕ) (s dc next at : ℕ) where
-  pub coded_got : (es : List ℕ) (behind : ℕ) → got es behind ≡ entries_from bytes (positions s) next at blank
-      → got (record { entries = es; dc = dc }) behind ≡ coded_entries bytes s dc next at
+  pub coded_got : (es : List ℕ) (behind : ℕ) → Ok (es, behind) ≡ entries_from bytes (positions s) next at blank
+      → Ok (record { entries = es; dc = dc }, behind) ≡ coded_entries bytes s dc next at
   unfolding coded_entries
-  coded_got es behind e = ap (λ (r : Reading (List ℕ)). and_then r (λ es behind. got (record { entries = es; dc = dc }) behind)) e
+  coded_got es behind e = ap (λ (r : Reading (List ℕ)). and_then r (λ es behind. Ok (record { entries = es; dc = dc }, behind))) e
 
-  pub coded_stop : (why : Refusal) → stop why ≡ entries_from bytes (positions s) next at blank → stop why ≡ coded_entries bytes s dc next at
+  pub coded_stop : (why : Refusal) → Err why ≡ entries_from bytes (positions s) next at blank → Err why ≡ coded_entries bytes s dc next at
   unfolding coded_entries
-  coded_stop why e = ap (λ (r : Reading (List ℕ)). and_then r (λ es behind. got (record { entries = es; dc = dc }) behind)) e
+  coded_stop why e = ap (λ (r : Reading (List ℕ)). and_then r (λ es behind. Ok (record { entries = es; dc = dc }, behind))) e
 
 module _ (bytes : List ℕ) (s at : ℕ) where
   pub coded_plain : s ≤ 1 → coded_entries bytes s 16 8 at ≡ coded_list bytes s at
@@ -81,31 +77,14 @@ module _ (bytes : List ℕ) (s at : ℕ) where
   unfolding coded_list
   with_dc h = rw (lt-ltb 1 s h)
 
-  pub coded_dc : (dc behind : ℕ) → 1 < s → got dc behind ≡ dc_code bytes at → coded_entries bytes s dc dc behind ≡ coded_list bytes s at
+  pub coded_dc : (dc behind : ℕ) → 1 < s → Ok (dc, behind) ≡ dc_code bytes at → coded_entries bytes s dc dc behind ≡ coded_list bytes s at
   coded_dc dc behind h e = ap (λ (r : Reading ℕ). and_then r (λ dc behind. coded_entries bytes s dc dc behind)) e ∙ with_dc h
 
-  pub coded_dc_stop : (why : Refusal) → 1 < s → stop why ≡ dc_code bytes at → stop why ≡ coded_list bytes s at
+  pub coded_dc_stop : (why : Refusal) → 1 < s → Err why ≡ dc_code bytes at → Err why ≡ coded_list bytes s at
   coded_dc_stop why h e = ap (λ (r : Reading ℕ). and_then r (λ dc behind. coded_entries bytes s dc dc behind)) e ∙ with_dc h
 
 -- ---- a list that is taken over
-pub fill_whole : (n : ℕ) (d : List ℕ) → length d ≡ n → tabulate n (λ i. get_or d (0 + i) 0) ≡ d
-fill_whole n d e =
-    ext_get_or 0 (tabulate n (λ i. get_or d (0 + i) 0)) d (tabulate-length n _ ∙ sym e)
-    (λ i h. tabulate-get_or n (λ i. get_or d (0 + i) 0) i 0 (rw tabulate-length at h) ∙ ap (λ (k : ℕ). get_or d k 0) (zero-add i))
-
 module _ (lent : Defaults) (s m : ℕ) where
-  pub default_four : s ≡ 0 → lent.four ≡ default_for lent s m
-  unfolding default_for
-  default_four e = rw (eq-eqb s 0 e)
-
-  pub default_intra : (s ≡ 0 → ⊥) → m < 3 → lent.intra ≡ default_for lent s m
-  unfolding default_for
-  default_intra e h = rw (ne_eqb s 0 e, lt-ltb m 3 h)
-
-  pub default_inter : (s ≡ 0 → ⊥) → 3 ≤ m → lent.inter ≡ default_for lent s m
-  unfolding default_for
-  default_inter e h = rw (ne_eqb s 0 e, le-ltb m 3 h)
-
   pub referred_default : (read : List FactorList) (delta : ℕ) (es : List ℕ) → delta ≡ 0 → es ≡ default_for lent s m
       → record { entries = es; dc = 16 } ≡ referred lent read s m delta
   unfolding referred
@@ -122,18 +101,15 @@ module _ (lent : Defaults) (s m : ℕ) where
       ∙ ap (λ (k : ℕ). get_or (tabulate j (held_at lists dcs)) k none) e)
 
   module _ (bytes : List ℕ) (read : List FactorList) (at : ℕ) where
-    pub taken_got : (l : FactorList) (delta behind : ℕ) → got delta behind ≡ reference_code bytes s m at → l ≡ referred lent read s m delta
-        → got l behind ≡ taken_over lent bytes read s m at
+    pub taken_got : (l : FactorList) (delta behind : ℕ) → Ok (delta, behind) ≡ reference_code bytes s m at → l ≡ referred lent read s m delta
+        → Ok (l, behind) ≡ taken_over lent bytes read s m at
     unfolding taken_over
     taken_got l delta behind e f =
-        ap (λ (l : FactorList). got l behind) f ∙ ap (λ (r : Reading ℕ). and_then r (λ delta behind. got (referred lent read s m delta) behind)) e
+        ap (λ (l : FactorList). Ok (l, behind)) f ∙ ap (λ (r : Reading ℕ). and_then r (λ delta behind. Ok (referred lent read s m delta, behind))) e
 
-    pub taken_stop : (why : Refusal) → stop why ≡ reference_code bytes s m at → stop why ≡ taken_over lent bytes read s m at
+    pub taken_stop : (why : Refusal) → Err why ≡ reference_code bytes s m at → Err why ≡ taken_over lent bytes read s m at
     unfolding taken_over
-    taken_stop why e = ap (λ (r : Reading ℕ). and_then r (λ delta behind. got (referred lent read s m delta) behind)) e
-
-pub paste_whole : (es from : List ℕ) → length es ≡ length from → paste es 0 from (length from) ≡ from
-paste_whole es from e = rw (take-length from, ← e, zero-add) (ap (λ (l : List ℕ). from ++ l) (drop-length es) ∙ append-nil from)
+    taken_stop why e = ap (λ (r : Reading ℕ). and_then r (λ delta behind. Ok (referred lent read s m delta, behind))) e
 
 -- ---- a list by its flag
 module _ (lent : Defaults) (bytes : List ℕ) (j : ℕ) (lists dcs : List ℕ) (at : ℕ) where
@@ -149,6 +125,6 @@ module _ (lent : Defaults) (bytes : List ℕ) (j : ℕ) (lists dcs : List ℕ) (
   unfolding list_by
   list_coded h e = sym (rw (h, ne_eqb (bit_at bytes at) 0 e)) ∙ by_number
 
-  pub list_ended : is_there bytes at ≡ false → stop (BitsEnded at) ≡ list_code lent bytes (held j lists dcs) at
+  pub list_ended : is_there bytes at ≡ false → Err (BitsEnded at) ≡ list_code lent bytes (held j lists dcs) at
   unfolding list_by
   list_ended h = sym (rw h) ∙ by_number

@@ -1,23 +1,47 @@
 // A list coded in full.
-ghost use Rattle.std.specs.Prelude.{◌≡◌, ◌+◌, ◌≤◌};
+ghost use Rattle.std.specs.Prelude.{◌≡◌, ◌+◌, ◌*◌, ◌≤◌, length, IfOk};
 ghost use Rattle.scaling_lists_codes.specs.Syntax.{positions, blank, entries_from, coded_entries, coded_list};
-ghost use Rattle.scaling_lists_codes.specs.Parts.{part_end};
-ghost use Rattle.scaling_lists.specs.Work.{filled, listed};
+ghost use Rattle.scaling_lists.specs.Work.{Positions, read_as, listed};
 
-use crate::lists;
-use scaling_lists_codes::Part;
+use refusal::Refusal;
 
-// The entries of a coded list, in the order of the size's positions.
-fn scanned(bytes: &[u8], size_id: usize, next: u8, at: usize, entries: &mut [u8]) -> Part
+// The entries of a coded list, a delta for each position; the answer is the offset behind them.
+fn entries_from(
+    bytes: &[u8],
+    scan: &[u8],
+    first: u8,
+    start: usize,
+    entries: &mut [u8],
+) -> Result<usize, Refusal>
+    requires { Positions scan.now (length entries.old) × (start ≤ 2305843009213693952) }
+    ensures { (read_as entries.new result ≡ entries_from bytes.now scan.now first start entries.old) × IfOk result (λ behind. behind ≤ start + 65 * length scan.now) }
+{
+    let mut next = first;
+    let mut at = start;
+    for place in scan {
+        let (value, behind) = scaling_lists_codes::delta_code(bytes, next, at)?;
+        entries[*place as usize] = value;
+        next = value;
+        at = behind;
+    }
+    Ok(at)
+}
+
+// The same in the order of the size's positions.
+fn scanned(
+    bytes: &[u8],
+    size_id: usize,
+    next: u8,
+    at: usize,
+    entries: &mut [u8],
+) -> Result<usize, Refusal>
     requires { (entries.old ≡ blank) × (at ≤ 2305843009213693952) }
-    ensures { (filled entries.new result ≡ entries_from bytes.now (positions size_id) next at blank) × (part_end result ≤ at + 4160) }
+    ensures { (read_as entries.new result ≡ entries_from bytes.now (positions size_id) next at blank) × IfOk result (λ behind. behind ≤ at + 4160) }
 {
     if size_id == 0 {
-        let four = diagonal::up_right_4();
-        return lists::entries_from(bytes, &four, next, at, entries);
+        return entries_from(bytes, &diagonal::up_right_4(), next, at, entries);
     }
-    let eight = diagonal::up_right_8();
-    lists::entries_from(bytes, &eight, next, at, entries)
+    entries_from(bytes, &diagonal::up_right_8(), next, at, entries)
 }
 
 // The same as a list, with a DC that is known.
@@ -28,28 +52,27 @@ fn coded_entries(
     next: u8,
     at: usize,
     entries: &mut [u8],
-) -> Part
+) -> Result<(u8, usize), Refusal>
     requires { (entries.old ≡ blank) × (at ≤ 2305843009213693952) }
-    ensures { (listed entries.new result ≡ coded_entries bytes.now size_id dc next at) × (part_end result ≤ at + 4160) }
+    ensures { (listed entries.new result ≡ coded_entries bytes.now size_id dc next at) × IfOk result (λ r. r.1 ≤ at + 4160) }
 {
-    let read = scanned(bytes, size_id, next, at, entries);
-    match read {
-        Part::Value(_, behind) => Part::Value(dc, behind),
-        Part::Refused(why) => Part::Refused(why),
-    }
+    let behind = scanned(bytes, size_id, next, at, entries)?;
+    Ok((dc, behind))
 }
 
-// A list coded in full; from 16×16 on DC comes first, and the first entry is a delta from it.
-pub(crate) fn coded_list(bytes: &[u8], size_id: usize, at: usize, entries: &mut [u8]) -> Part
+// A list coded in full; from 16×16 on DC comes first, and the first entry is a delta from it. The answer is DC and the offset behind the list.
+pub(crate) fn coded_list(
+    bytes: &[u8],
+    size_id: usize,
+    at: usize,
+    entries: &mut [u8],
+) -> Result<(u8, usize), Refusal>
     requires { (entries.old ≡ blank) × (at ≤ 1152921504606846976) }
-    ensures { (listed entries.new result ≡ coded_list bytes.now size_id at) × (part_end result ≤ at + 4225) }
+    ensures { (listed entries.new result ≡ coded_list bytes.now size_id at) × IfOk result (λ r. r.1 ≤ at + 4225) }
 {
     if size_id <= 1 {
         return coded_entries(bytes, size_id, 16, 8, at, entries);
     }
-    let read = scaling_lists_codes::dc_code(bytes, at);
-    match read {
-        Part::Value(dc, behind) => coded_entries(bytes, size_id, dc, dc, behind, entries),
-        Part::Refused(why) => Part::Refused(why),
-    }
+    let (dc, behind) = scaling_lists_codes::dc_code(bytes, at)?;
+    coded_entries(bytes, size_id, dc, dc, behind, entries)
 }

@@ -1,56 +1,49 @@
 // One list, and its place among those read.
-ghost use Rattle.std.specs.Prelude.{◌≡◌, ◌+◌, ◌≤◌};
+ghost use Rattle.std.specs.Prelude.{◌≡◌, ◌+◌, ◌≤◌, ◌<◌, IfOk};
 ghost use Rattle.scaling_lists_codes.specs.Syntax.{blank, list_code};
-ghost use Rattle.scaling_lists_codes.specs.Parts.{part_end};
-ghost use Rattle.scaling_lists_taken.specs.Held.{defaults_in, held};
-ghost use Rattle.scaling_lists.specs.Work.{listed, grown, one_more, Lent};
+ghost use Rattle.scaling_lists_taken.specs.Lent.{lent_lists};
+ghost use Rattle.scaling_lists.specs.Work.{read_as, listed, one_more, lists_held};
 
-use crate::{coded, lists, taken};
+use crate::held::Lists;
+use crate::{coded, taken};
 use refusal::Refusal;
-use scaling_lists_codes::Part;
+use scaling_lists_taken::DefaultLists;
 
-// List j, from its flag on. `entries` is lent as zeros.
-fn read_list<'a>(
+// List j, from its flag on: DC and the offset behind it. `entries` is lent as zeros.
+fn read_list(
     bytes: &[u8],
     at: usize,
     j: usize,
-    lent: &'a [u8],
-    lists: &'a [u8],
-    dcs: &[u8],
+    defaults: DefaultLists,
+    held: &Lists,
     entries: &mut [u8],
-) -> Part
-    requires { Lent j lent.now lists.now dcs.now × (entries.old ≡ blank) × (at ≤ 1048576) }
-    ensures { (listed entries.new result ≡ list_code (defaults_in lent.now) bytes.now (held j lists.now dcs.now) at) × (part_end result ≤ at + 4226) }
+) -> Result<(u8, usize), Refusal>
+    requires { (j < 20) × (entries.old ≡ blank) × (at ≤ 1048576) }
+    ensures { (listed entries.new result ≡ list_code (lent_lists defaults.entry) bytes.now (lists_held j held.now) at) × IfOk result (λ r. r.1 ≤ at + 4226) }
 {
-    if bits::is_there(bytes, at) {
-        if bits::bit(bytes, at) == 0 {
-            return taken::taken_over(bytes, at + 1, j, lent, lists, dcs, entries);
-        }
-        return coded::coded_list(bytes, j / 6, at + 1, entries);
+    if !bits::is_there(bytes, at) {
+        return Err(Refusal::BitsEnded(at));
     }
-    Part::Refused(Refusal::BitsEnded(at))
+    if bits::bit(bytes, at) == 0 {
+        return taken::taken_over(bytes, at + 1, j, defaults, held, entries);
+    }
+    coded::coded_list(bytes, j / 6, at + 1, entries)
 }
 
-// List j, put behind those read.
+// List j, put behind those read; the answer is the offset behind it.
 pub(crate) fn read_next(
     bytes: &[u8],
     at: usize,
     j: usize,
-    lent: &[u8],
-    lists: &mut [u8],
-    dcs: &mut [u8],
-) -> Part
-    requires { Lent j lent.now lists.old dcs.old × (at ≤ 1048576) }
-    ensures { (grown j lists.new dcs.new result ≡ one_more (defaults_in lent.now) bytes.now (held j lists.old dcs.old) at) × (part_end result ≤ at + 4226) }
+    defaults: DefaultLists,
+    held: &mut Lists,
+) -> Result<usize, Refusal>
+    requires { (j < 20) × (at ≤ 1048576) }
+    ensures { (read_as (lists_held (j + 1) held.new) result ≡ one_more (lent_lists defaults.entry) bytes.now (lists_held j held.old) at) × IfOk result (λ behind. behind ≤ at + 4226) }
 {
     let mut entries = [0u8; 64];
-    let read = read_list(bytes, at, j, lent, lists, dcs, &mut entries);
-    match read {
-        Part::Value(dc, behind) => {
-            lists::put(&entries, lists, 64 * j);
-            dcs[j] = dc;
-            Part::Value(dc, behind)
-        }
-        Part::Refused(why) => Part::Refused(why),
-    }
+    let (dc, behind) = read_list(bytes, at, j, defaults, held, &mut entries)?;
+    held.entries[64 * j..64 * j + 64].copy_from_slice(&entries);
+    held.dcs[j] = dc;
+    Ok(behind)
 }

@@ -4,11 +4,10 @@
 // as they were.
 #![tactic(auto)]
 
-ghost use Rattle.std.specs.Prelude.{◌≤◌, length};
-ghost use Rattle.text.specs.Text.{Counts};
+ghost use Rattle.std.specs.Prelude.{◌≤◌};
 
+use cases::put;
 use refusal::Refusal;
-use scaling_lists::ReadAnswer;
 use std::io::Read;
 use std::rt::Files;
 use std::{env, fs, io};
@@ -16,205 +15,174 @@ use std::{env, fs, io};
 // The longest stream that is replayed.
 const LONGEST: usize = 8192;
 
-fn wide(byte: u8) -> usize
-    ensures { result ≤ 255 }
-{
-    byte as usize
+// What is amiss with the slices that a case lends.
+#[derive(Clone, Copy)]
+enum Amiss {
+    Nothing,
+    ShortFour,
+    LongFour,
+    ShortInter,
+    ShortLists,
+    ShortDcs,
+    ShortFourAndLists,
 }
 
-// Reads n bytes to the start of the buffer, or fewer where the file ends or a read fails.
-fn read_stream(file: &mut impl Read, n: usize, stream: &mut [u8]) -> usize
-    requires { n ≤ length stream.old }
-    ensures { Counts result stream.new }
-{
-    streams::read_full(file, &mut stream[..n])
+impl Amiss {
+    fn named(byte: u8) -> Amiss {
+        match byte {
+            1 => Amiss::ShortFour,
+            2 => Amiss::LongFour,
+            3 => Amiss::ShortInter,
+            4 => Amiss::ShortLists,
+            5 => Amiss::ShortDcs,
+            6 => Amiss::ShortFourAndLists,
+            _ => Amiss::Nothing,
+        }
+    }
+
+    fn four_length(self) -> usize
+        ensures { result ≤ 65 }
+    {
+        match self {
+            Amiss::ShortFour | Amiss::ShortFourAndLists => 63,
+            Amiss::LongFour => 65,
+            _ => 64,
+        }
+    }
+
+    fn inter_length(self) -> usize
+        ensures { result ≤ 64 }
+    {
+        match self {
+            Amiss::ShortInter => 63,
+            _ => 64,
+        }
+    }
+
+    // Where nothing is amiss the buffers have an element more than they should.
+    fn lists_length(self) -> usize
+        ensures { result ≤ 1281 }
+    {
+        match self {
+            Amiss::ShortLists | Amiss::ShortFourAndLists => 1279,
+            _ => 1281,
+        }
+    }
+
+    fn dcs_length(self) -> usize
+        ensures { result ≤ 21 }
+    {
+        match self {
+            Amiss::ShortDcs => 19,
+            _ => 21,
+        }
+    }
 }
 
-fn put(rt: &impl Print, n: u64) {
-    streams::write_all(rt, b" ");
-    streams::print_decimal(rt, n);
+// The default lists of a file.
+#[derive(Clone, Copy)]
+struct Defaults {
+    four: [u8; 65],
+    intra: [u8; 64],
+    inter: [u8; 64],
 }
 
-fn put_byte(rt: &impl Print, byte: u8) {
-    put(rt, byte as u64);
+impl Defaults {
+    fn read(file: &mut impl Read) -> Defaults {
+        let mut four = [0; 65];
+        let mut intra = [0; 64];
+        let mut inter = [0; 64];
+        streams::read_full(file, &mut four);
+        streams::read_full(file, &mut intra);
+        streams::read_full(file, &mut inter);
+        Defaults { four, intra, inter }
+    }
 }
 
+// The other program on scaling lists has these three too: a crate for them would be longer than they are.
 fn put_each(rt: &impl Print, xs: &[u8]) {
-    let mut i = 0;
-    while i < xs.len() {
-        put_byte(rt, xs[i]);
-        i += 1;
+    for x in xs {
+        put(rt, *x);
     }
 }
 
 // Whether every element is still the mark.
 fn kept(xs: &[u8]) -> bool {
-    let mut i = 0;
-    while i < xs.len() {
-        if xs[i] != 7 {
-            return false;
-        }
-        i += 1;
-    }
-    true
-}
-
-// List j of those read.
-fn put_list(rt: &impl Print, lists: &[u8], dcs: &[u8], j: usize) {
-    if j < dcs.len() {
-        put_byte(rt, dcs[j]);
-    }
-    if j < 20 {
-        let from = 64 * j;
-        let to = from + 64;
-        if to <= lists.len() {
-            put_each(rt, &lists[from..to]);
-        }
-    }
-    streams::write_all(rt, b"\n");
+    xs.iter().all(|x| *x == 7)
 }
 
 // The lists that were read, and what stands behind them.
 fn put_lists(rt: &impl Print, lists: &[u8], dcs: &[u8]) {
-    let mut j = 0;
-    while j < 20 {
-        put_list(rt, lists, dcs, j);
-        j += 1;
+    for (list, dc) in lists.chunks_exact(64).zip(dcs) {
+        put(rt, *dc);
+        put_each(rt, list);
+        cases::put_end(rt);
     }
-    if 1280 <= lists.len() {
-        put_each(rt, &lists[1280..]);
+    if let Some(behind) = lists.get(1280..) {
+        put_each(rt, behind);
     }
-    if 20 <= dcs.len() {
-        put_each(rt, &dcs[20..]);
+    if let Some(behind) = dcs.get(20..) {
+        put_each(rt, behind);
     }
-    streams::write_all(rt, b"\n");
+    cases::put_end(rt);
 }
 
 fn put_refused(rt: &impl Print, why: Refusal, same: bool) {
-    put(rt, refusal::number(why) as u64);
-    put(rt, refusal::place(why) as u64);
-    if same {
-        streams::write_all(rt, b" kept\n");
-    } else {
-        streams::write_all(rt, b" changed\n");
-    }
-}
-
-// How long the default of 4×4 is lent, and so on: 1 to 6 name what is amiss.
-fn four_length(amiss: u8) -> usize
-    ensures { result ≤ 65 }
-{
-    match amiss {
-        1 | 6 => 63,
-        2 => 65,
-        _ => 64,
-    }
-}
-
-fn inter_length(amiss: u8) -> usize
-    ensures { result ≤ 64 }
-{
-    if amiss == 3 { 63 } else { 64 }
+    put(rt, why.number());
+    put(rt, why.place());
+    streams::write_all(rt, if same { b" kept\n" } else { b" changed\n" });
 }
 
 // One call on buffers that hold the mark.
-fn read_into(
-    rt: &impl Print,
-    four: &[u8],
-    intra: &[u8],
-    inter: &[u8],
-    stream: &[u8],
-    lists: &mut [u8],
-    dcs: &mut [u8],
-) {
-    let answer = scaling_lists::read_scaling_lists(stream, four, intra, inter, lists, dcs);
-    match answer {
-        ReadAnswer::Read(bits) => {
-            streams::write_all(rt, b" 0 0");
-            put(rt, bits as u64);
-            streams::write_all(rt, b"\n");
-            put_lists(rt, lists, dcs);
-        }
-        ReadAnswer::Refused(why) => {
-            let same = kept(lists);
-            let dcs_same = kept(dcs);
-            put_refused(rt, why, same && dcs_same);
-        }
-    }
-}
-
-// The same on buffers as long as they should be and one element more, or on one that is too short.
-fn read_lent(rt: &impl Print, amiss: u8, four: &[u8], intra: &[u8], inter: &[u8], stream: &[u8]) {
+fn read_case(rt: &impl Print, amiss: Amiss, defaults: Defaults, stream: &[u8]) {
     let mut lists = [7u8; 1281];
     let mut dcs = [7u8; 21];
-    let mut short_lists = [7u8; 1279];
-    let mut short_dcs = [7u8; 19];
-    match amiss {
-        4 | 6 => read_into(rt, four, intra, inter, stream, &mut short_lists, &mut dcs),
-        5 => read_into(rt, four, intra, inter, stream, &mut lists, &mut short_dcs),
-        _ => read_into(rt, four, intra, inter, stream, &mut lists, &mut dcs),
+    let four = &defaults.four[..amiss.four_length()];
+    let inter = &defaults.inter[..amiss.inter_length()];
+    let lists = &mut lists[..amiss.lists_length()];
+    let dcs = &mut dcs[..amiss.dcs_length()];
+    match scaling_lists::read_scaling_lists(stream, four, &defaults.intra, inter, lists, dcs) {
+        Ok(bits) => {
+            streams::write_all(rt, b" 0 0");
+            put(rt, bits);
+            cases::put_end(rt);
+            put_lists(rt, lists, dcs);
+        }
+        Err(why) => {
+            let same = kept(lists) && kept(dcs);
+            put_refused(rt, why, same);
+        }
     }
-}
-
-fn read_case(
-    rt: &impl Print,
-    amiss: u8,
-    four: [u8; 65],
-    intra: [u8; 64],
-    inter: [u8; 64],
-    stream: &[u8],
-) {
-    let four_end = four_length(amiss);
-    let inter_end = inter_length(amiss);
-    read_lent(
-        rt,
-        amiss,
-        &four[..four_end],
-        &intra,
-        &inter[..inter_end],
-        stream,
-    );
 }
 
 // One case; answers whether the file had one.
-fn replay(
-    rt: &impl Print,
-    file: &mut impl Read,
-    number: u64,
-    four: [u8; 65],
-    intra: [u8; 64],
-    inter: [u8; 64],
-) -> bool {
+fn replay(rt: &impl Print, file: &mut impl Read, number: u64, defaults: Defaults) -> bool {
     let mut head = [0u8; 3];
-    let mut stream = [0u8; 8192];
     if streams::read_full(file, &mut head) < 3 {
         return false;
     }
-    let n = wide(head[0]) + 256 * wide(head[1]);
+    let [low, high, amiss] = head;
+    let n = u16::from_le_bytes([low, high]) as usize;
     if LONGEST < n {
         return false;
     }
-    let there = read_stream(file, n, &mut stream);
+    let mut stream = [0u8; LONGEST];
+    let stream = &mut stream[..n];
+    let there = streams::read_full(file, stream);
     streams::write_all(rt, b"case");
     put(rt, number);
     streams::write_all(rt, b":");
-    read_case(rt, head[2], four, intra, inter, &stream[..there]);
+    read_case(rt, Amiss::named(amiss), defaults, &stream[..there]);
     true
 }
 
 // All cases of a file.
 fn replay_all(rt: &impl Print, file: &mut impl Read) {
-    let mut four = [0u8; 65];
-    let mut intra = [0u8; 64];
-    let mut inter = [0u8; 64];
-    streams::read_full(file, &mut four);
-    streams::read_full(file, &mut intra);
-    streams::read_full(file, &mut inter);
-    let mut number: u64 = 0;
-    let mut going = true;
-    while number < u64::MAX && going {
-        going = replay(rt, file, number, four, intra, inter);
-        number += 1;
+    let defaults = Defaults::read(file);
+    for number in 0..u64::MAX {
+        if !replay(rt, file, number, defaults) {
+            return;
+        }
     }
 }
 
@@ -223,7 +191,7 @@ fn replay_file<R: Files + Print + Eprint>(rt: &R, path: &str) {
     match fs::open(rt, path) {
         Ok(mut file) => {
             streams::write_all(rt, path.as_bytes());
-            streams::write_all(rt, b"\n");
+            cases::put_end(rt);
             replay_all(rt, &mut file);
         }
         Err(error) => {

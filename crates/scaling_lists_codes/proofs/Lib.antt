@@ -1,2 +1,3 @@
--- Laws of the signed numbers in the syntax.
+-- Laws of the signed numbers in the syntax, and of reading on.
 pub mod ValueLaws
+pub mod ReadingLaws

@@ -47,9 +47,6 @@ module _ (k : ℕ) where
   pub added_even : (n : ℕ) → (k % 2 ≡ 1 → ⊥) → added n (signed_number k) ≡ n - k / 2
   added_even n e = ap (added n) (signed_even k e) ∙ added_neg n (k / 2)
 
-  pub odd_inside : (low high : ℕ) → k % 2 ≡ 1 → outside_of low high (signed_number k) ≡ false → k / 2 + 1 ≤ high
-  odd_inside low high e h = ltb-false high (k / 2 + 1) (sym (outside_odd low high e) ∙ h)
-
   pub even_inside : (low high : ℕ) → (k % 2 ≡ 1 → ⊥) → outside_of low high (signed_number k) ≡ false → k / 2 ≤ low
   even_inside low high e h = ltb-false low (k / 2) (sym (outside_even low high e) ∙ h)
 

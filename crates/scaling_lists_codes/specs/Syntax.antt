@@ -8,6 +8,7 @@
 --   default_for lent s m   the default list of s and m
 --   outside_of low high z  z is below -low or above high
 --   added n z             n + z, for n + z from 0 on
+--   number_at              the number of ue(v)
 --   next_coef next delta   the entry after `next`: their sum modulo 256
 --   delta_code             scaling_list_delta_coef after an entry: the next entry
 --   entries_from           the entries for the positions that are left, put where they belong
@@ -20,22 +21,20 @@
 --   list_code              one list, from scaling_list_pred_mode_flag on
 --   lists_from             the lists that are left, behind those read
 --   scaling_list_data       all 20 lists
-use Rattle.std.specs.Prelude.{Bool, cond, List, [], ◌∷◌, ◌++◌, ℕ, zero, suc, ◌+◌, ◌-◌, ◌*◌, ◌/◌, ◌%◌, eqb, ltb, ℤ, pos, negsuc, length, get_or, set, replicate}
+use Rattle.std.specs.Prelude.{Bool, cond, List, [], ◌∷◌, ◌++◌, ℕ, zero, suc, ◌+◌, ◌-◌, ◌*◌, ◌/◌, ◌%◌, eqb, ltb, ℤ, pos, negsuc, length, get_or, set, replicate, Result, Ok, Err}
 use Rattle.refusal.specs.declared.Refusal.{Refusal}
 use Rattle.refusal.specs.declared.Refusal.TheVariants.{BitsEnded, ReferenceMissing, ListValueInvalid}
-use Rattle.bits.specs.declared.Code.{Code}
-use Rattle.bits.specs.declared.Code.TheVariants.{Number, TooLong, Ended}
+use Rattle.bits.specs.declared.CodeError.TheVariants.{TooLong, Ended}
 use Rattle.bits.specs.Bits.{is_there, bit_at}
-use Rattle.bits.specs.ExpGolomb.{unsigned_code, signed_number}
+use Rattle.bits.specs.ExpGolomb.{Code, unsigned_code, signed_number}
 use Rattle.diagonal.specs.Scan.{up_right}
 
-pub data Reading (A : Type 0) : Type 0 where
-  got : A → ℕ → Reading A
-  stop : Refusal → Reading A
+abbrev pub Reading : Type 0 → Type 0
+Reading A = Result (A × ℕ) Refusal
 
 abbrev pub and_then : {A B : Type 0} → Reading A → (A → ℕ → Reading B) → Reading B
-and_then (got v at) f = f v at
-and_then (stop e) f = stop e
+and_then (Ok (v, at)) f = f v at
+and_then (Err e) f = Err e
 
 pub record FactorList : Type 0 where
   pub entries : List ℕ
@@ -77,30 +76,34 @@ added n (negsuc d) = n - suc d
 unfoldable pub next_coef : ℕ → ℤ → ℕ
 next_coef next delta = added (next + 256) delta % 256
 
+-- ue(v); a code that is too long is refused with e
+abbrev pub number_of : ℕ → Refusal → Code → Reading ℕ
+number_of at e (Ok code) = Ok code
+number_of at e (Err TooLong) = Err e
+number_of at e (Err Ended) = Err (BitsEnded at)
+
+unfoldable pub number_at : List ℕ → ℕ → Refusal → Reading ℕ
+number_at bytes at e = number_of at e (unsigned_code bytes at)
+
 -- ---- a list that is coded in full
-abbrev pub delta_of : ℕ → ℕ → Code → Reading ℕ
-delta_of next at (Number k behind) =
-    cond (outside_of 128 127 (signed_number k)) (stop (ListValueInvalid at))
-    (cond (eqb (next_coef next (signed_number k)) 0) (stop (ListValueInvalid at)) (got (next_coef next (signed_number k)) behind))
-delta_of next at TooLong = stop (ListValueInvalid at)
-delta_of next at Ended = stop (BitsEnded at)
+abbrev pub delta_of : ℕ → ℕ → ℕ → ℕ → Reading ℕ
+delta_of next at k behind =
+    cond (outside_of 128 127 (signed_number k)) (Err (ListValueInvalid at))
+    (cond (eqb (next_coef next (signed_number k)) 0) (Err (ListValueInvalid at)) (Ok (next_coef next (signed_number k), behind)))
 
 unfoldable pub delta_code : List ℕ → ℕ → ℕ → Reading ℕ
-delta_code bytes next at = delta_of next at (unsigned_code bytes at)
+delta_code bytes next at = and_then (number_at bytes at (ListValueInvalid at)) (delta_of next at)
 
 unfoldable pub entries_from : List ℕ → List ℕ → ℕ → ℕ → List ℕ → Reading (List ℕ)
-entries_from bytes [] next at es = got es at
+entries_from bytes [] next at es = Ok (es, at)
 entries_from bytes (p ∷ ps) next at es =
     and_then (delta_code bytes next at) (λ v behind. entries_from bytes ps v behind (set es p v))
 
-abbrev pub dc_of : ℕ → Code → Reading ℕ
-dc_of at (Number k behind) =
-    cond (outside_of 7 247 (signed_number k)) (stop (ListValueInvalid at)) (got (added 8 (signed_number k)) behind)
-dc_of at TooLong = stop (ListValueInvalid at)
-dc_of at Ended = stop (BitsEnded at)
+abbrev pub dc_of : ℕ → ℕ → ℕ → Reading ℕ
+dc_of at k behind = cond (outside_of 7 247 (signed_number k)) (Err (ListValueInvalid at)) (Ok (added 8 (signed_number k), behind))
 
 unfoldable pub dc_code : List ℕ → ℕ → Reading ℕ
-dc_code bytes at = dc_of at (unsigned_code bytes at)
+dc_code bytes at = and_then (number_at bytes at (ListValueInvalid at)) (dc_of at)
 
 -- coefNum is min(64, 1 << (4 + (size_id << 1))): as many as the positions
 unfoldable pub positions : ℕ → List ℕ
@@ -112,20 +115,18 @@ blank = replicate 64 0
 -- the entries, the first of which is a delta from next
 unfoldable pub coded_entries : List ℕ → ℕ → ℕ → ℕ → ℕ → Reading FactorList
 coded_entries bytes s dc next at =
-    and_then (entries_from bytes (positions s) next at blank) (λ es behind. got (record { entries = es; dc = dc }) behind)
+    and_then (entries_from bytes (positions s) next at blank) (λ es behind. Ok (record { entries = es; dc = dc }, behind))
 
 unfoldable pub coded_list : List ℕ → ℕ → ℕ → Reading FactorList
 coded_list bytes s at =
     cond (ltb 1 s) (and_then (dc_code bytes at) (λ dc behind. coded_entries bytes s dc dc behind)) (coded_entries bytes s 16 8 at)
 
 -- ---- a list that is taken over
-abbrev pub reference_of : ℕ → ℕ → ℕ → Code → Reading ℕ
-reference_of s m at (Number delta behind) = cond (ltb (m / matrix_step s) delta) (stop (ReferenceMissing at)) (got delta behind)
-reference_of s m at TooLong = stop (ReferenceMissing at)
-reference_of s m at Ended = stop (BitsEnded at)
+abbrev pub reference_of : ℕ → ℕ → ℕ → ℕ → ℕ → Reading ℕ
+reference_of s m at delta behind = cond (ltb (m / matrix_step s) delta) (Err (ReferenceMissing at)) (Ok (delta, behind))
 
 unfoldable pub reference_code : List ℕ → ℕ → ℕ → ℕ → Reading ℕ
-reference_code bytes s m at = reference_of s m at (unsigned_code bytes at)
+reference_code bytes s m at = and_then (number_at bytes at (ReferenceMissing at)) (reference_of s m at)
 
 abbrev pub none : FactorList
 none = record { entries = []; dc = 0 }
@@ -137,20 +138,20 @@ referred lent read s m delta =
 
 unfoldable pub taken_over : Defaults → List ℕ → List FactorList → ℕ → ℕ → ℕ → Reading FactorList
 taken_over lent bytes read s m at =
-    and_then (reference_code bytes s m at) (λ delta behind. got (referred lent read s m delta) behind)
+    and_then (reference_code bytes s m at) (λ delta behind. Ok (referred lent read s m delta, behind))
 
 -- ---- the lists
 unfoldable pub list_by : Defaults → List ℕ → List FactorList → ℕ → ℕ → ℕ → Reading FactorList
 list_by lent bytes read s m at =
     cond (is_there bytes at)
     (cond (eqb (bit_at bytes at) 0) (taken_over lent bytes read s m (at + 1)) (coded_list bytes s (at + 1)))
-    (stop (BitsEnded at))
+    (Err (BitsEnded at))
 
 unfoldable pub list_code : Defaults → List ℕ → List FactorList → ℕ → Reading FactorList
 list_code lent bytes read at = list_by lent bytes read (size_id (length read)) (matrix_id (length read)) at
 
 unfoldable pub lists_from : ℕ → Defaults → List ℕ → List FactorList → ℕ → Reading (List FactorList)
-lists_from zero lent bytes read at = got read at
+lists_from zero lent bytes read at = Ok (read, at)
 lists_from (suc k) lent bytes read at =
     and_then (list_code lent bytes read at) (λ l behind. lists_from k lent bytes (read ++ (l ∷ [])) behind)
 

@@ -1,20 +1,23 @@
 // The numbers in the syntax of scaling lists, H.265 clause 7.3.4: each code with its range, and where it is refused the offset at which it begins.
 #![tactic(auto)]
 
-ghost use Rattle.std.specs.Prelude.{◌≡◌, false, ◌+◌, ◌/◌, ◌≤◌};
-ghost use Rattle.bits.specs.declared.Code.{Code};
+ghost use Rattle.std.specs.Prelude.{◌≡◌, false, ◌+◌, ◌/◌, ◌≤◌, IfOk};
 ghost use Rattle.bits.specs.ExpGolomb.{signed_number};
-ghost use Rattle.scaling_lists_codes.specs.Syntax.{outside_of, added, delta_of, delta_code, dc_of, dc_code, matrix_step, reference_of, reference_code};
-ghost use Rattle.scaling_lists_codes.specs.Parts.{part, part_end, part_value};
+ghost use Rattle.scaling_lists_codes.specs.Syntax.{outside_of, added, number_at, delta_of, delta_code, dc_of, dc_code, matrix_step, reference_of, reference_code};
 
-use bits::Code;
+use bits::CodeError;
 use refusal::Refusal;
 
-// A number that was read and the bit offset behind it, or why there is none.
-#[derive(Clone, Copy)]
-pub enum Part {
-    Value(u8, usize),
-    Refused(Refusal),
+// ue(v) and the offset behind it; a code that is too long is refused as `too_long`.
+fn number_at(bytes: &[u8], at: usize, too_long: Refusal) -> Result<(u64, usize), Refusal>
+    requires { at ≤ 4611686018427387904 }
+    ensures { (result ≡ number_at bytes.now at too_long) × IfOk result (λ r. r.1 ≤ at + 65) }
+{
+    match bits::unsigned_code(bytes, at) {
+        Ok(code) => Ok(code),
+        Err(CodeError::TooLong) => Err(too_long),
+        Err(CodeError::Ended) => Err(Refusal::BitsEnded(at)),
+    }
 }
 
 // Whether se(v) of a number is below -low or above high.
@@ -43,53 +46,45 @@ fn sum_of(n: u64, number: u64) -> u64
 }
 
 // The entry after `next`, by the number of a delta's code.
-fn delta_of(number: u64, behind: usize, next: u8, at: usize) -> Part
-    ensures { (part result ≡ delta_of next at (Code.Number number behind)) × (part_end result ≤ behind) }
+fn delta_of(number: u64, behind: usize, next: u8, at: usize) -> Result<(u8, usize), Refusal>
+    ensures { (result ≡ delta_of next at number behind) × IfOk result (λ r. r.1 ≡ behind) }
 {
     if outside_of(128, 127, number) {
-        return Part::Refused(Refusal::ListValueInvalid(at));
+        return Err(Refusal::ListValueInvalid(at));
     }
     let entry = sum_of(next as u64 + 256, number) % 256;
     if entry == 0 {
-        return Part::Refused(Refusal::ListValueInvalid(at));
+        return Err(Refusal::ListValueInvalid(at));
     }
-    Part::Value(entry as u8, behind)
+    Ok((entry as u8, behind))
 }
 
-// scaling_list_delta_coef: the entry after `next`.
-pub fn delta_code(bytes: &[u8], next: u8, at: usize) -> Part
+// scaling_list_delta_coef: the entry after `next`, and the offset behind its code.
+pub fn delta_code(bytes: &[u8], next: u8, at: usize) -> Result<(u8, usize), Refusal>
     requires { at ≤ 4611686018427387904 }
-    ensures { (part result ≡ delta_code bytes.now next at) × (part_end result ≤ at + 65) }
+    ensures { (result ≡ delta_code bytes.now next at) × IfOk result (λ r. r.1 ≤ at + 65) }
 {
-    let code = bits::unsigned_code(bytes, at);
-    match code {
-        Code::Number(number, behind) => delta_of(number, behind, next, at),
-        Code::TooLong => Part::Refused(Refusal::ListValueInvalid(at)),
-        Code::Ended => Part::Refused(Refusal::BitsEnded(at)),
-    }
+    let (number, behind) = number_at(bytes, at, Refusal::ListValueInvalid(at))?;
+    delta_of(number, behind, next, at)
 }
 
 // DC, by the number of its code.
-fn dc_of(number: u64, behind: usize, at: usize) -> Part
-    ensures { (part result ≡ dc_of at (Code.Number number behind)) × (part_end result ≤ behind) }
+fn dc_of(number: u64, behind: usize, at: usize) -> Result<(u8, usize), Refusal>
+    ensures { (result ≡ dc_of at number behind) × IfOk result (λ r. r.1 ≡ behind) }
 {
     if outside_of(7, 247, number) {
-        return Part::Refused(Refusal::ListValueInvalid(at));
+        return Err(Refusal::ListValueInvalid(at));
     }
-    Part::Value(sum_of(8, number) as u8, behind)
+    Ok((sum_of(8, number) as u8, behind))
 }
 
-// scaling_list_dc_coef_minus8: DC.
-pub fn dc_code(bytes: &[u8], at: usize) -> Part
+// scaling_list_dc_coef_minus8: DC, and the offset behind its code.
+pub fn dc_code(bytes: &[u8], at: usize) -> Result<(u8, usize), Refusal>
     requires { at ≤ 4611686018427387904 }
-    ensures { (part result ≡ dc_code bytes.now at) × (part_end result ≤ at + 65) }
+    ensures { (result ≡ dc_code bytes.now at) × IfOk result (λ r. r.1 ≤ at + 65) }
 {
-    let code = bits::unsigned_code(bytes, at);
-    match code {
-        Code::Number(number, behind) => dc_of(number, behind, at),
-        Code::TooLong => Part::Refused(Refusal::ListValueInvalid(at)),
-        Code::Ended => Part::Refused(Refusal::BitsEnded(at)),
-    }
+    let (number, behind) = number_at(bytes, at, Refusal::ListValueInvalid(at))?;
+    dc_of(number, behind, at)
 }
 
 // How far apart the matrices of a size are that have a list.
@@ -100,26 +95,33 @@ pub fn matrix_step(size_id: usize) -> usize
 }
 
 // The reference, by the number of its code; `most` is the farthest that there is.
-fn reference_of(number: u64, behind: usize, size_id: usize, matrix_id: usize, at: usize) -> Part
+fn reference_of(
+    number: u64,
+    behind: usize,
+    size_id: usize,
+    matrix_id: usize,
+    at: usize,
+) -> Result<(u8, usize), Refusal>
     requires { matrix_id ≤ 5 }
-    ensures { (part result ≡ reference_of size_id matrix_id at (Code.Number number behind)) × (part_end result ≤ behind) × (part_value result ≤ matrix_id / matrix_step size_id) }
+    ensures { (result ≡ reference_of size_id matrix_id at number behind) × IfOk result (λ r. (r.1 ≡ behind) × (r.0 ≤ matrix_id / matrix_step size_id)) }
 {
     let most = matrix_id / matrix_step(size_id);
     if (most as u64) < number {
-        return Part::Refused(Refusal::ReferenceMissing(at));
+        return Err(Refusal::ReferenceMissing(at));
     }
-    Part::Value(number as u8, behind)
+    Ok((number as u8, behind))
 }
 
-// scaling_list_pred_matrix_id_delta.
-pub fn reference_code(bytes: &[u8], size_id: usize, matrix_id: usize, at: usize) -> Part
+// scaling_list_pred_matrix_id_delta, and the offset behind its code.
+pub fn reference_code(
+    bytes: &[u8],
+    size_id: usize,
+    matrix_id: usize,
+    at: usize,
+) -> Result<(u8, usize), Refusal>
     requires { (matrix_id ≤ 5) × (at ≤ 4611686018427387904) }
-    ensures { (part result ≡ reference_code bytes.now size_id matrix_id at) × (part_end result ≤ at + 65) × (part_value result ≤ matrix_id / matrix_step size_id) }
+    ensures { (result ≡ reference_code bytes.now size_id matrix_id at) × IfOk result (λ r. (r.1 ≤ at + 65) × (r.0 ≤ matrix_id / matrix_step size_id)) }
 {
-    let code = bits::unsigned_code(bytes, at);
-    match code {
-        Code::Number(number, behind) => reference_of(number, behind, size_id, matrix_id, at),
-        Code::TooLong => Part::Refused(Refusal::ReferenceMissing(at)),
-        Code::Ended => Part::Refused(Refusal::BitsEnded(at)),
-    }
+    let (number, behind) = number_at(bytes, at, Refusal::ReferenceMissing(at))?;
+    reference_of(number, behind, size_id, matrix_id, at)
 }

@@ -1,20 +1,18 @@
--- What the functions that write lists hand to each other.
---   list_from bytes at dc   the list of 64 entries from an index on, with a DC
---   Set lists dcs          the buffers hold 20 lists and 20 DC numbers
---   Lent                   those, and three defaults of 64 entries
-use Rattle.std.specs.Prelude.{◌≡◌, List, ℕ, ◌+◌, ◌≤◌, length, get_or}
-use Rattle.integers.specs.Lists.{tabulate}
+-- The lists that are to be written, as calls hand them on.
+--   set_refused lists dcs   row 5: there are fewer than 20 × 64 entries or fewer than 20 DC numbers to write
+--   set_lists s             the 20 lists of a set
+--   factor_list l           one list
+use Rattle.std.specs.Prelude.{Bool, ◌||◌, List, ℕ, ltb}
 use Rattle.scaling_lists_codes.specs.Syntax.{FactorList}
+use Rattle.scaling_lists_taken.specs.Held.{held}
+use Rattle.scaling_lists_put.specs.declared.set.ListSet.{ListSet}
+use Rattle.scaling_lists_put.specs.declared.set.HeldList.{HeldList}
 
-abbrev pub list_from : List ℕ → ℕ → ℕ → FactorList
-list_from bytes at dc = record { entries = tabulate 64 (λ i. get_or bytes (at + i) 0); dc = dc }
+unfoldable pub set_refused : ℕ → ℕ → Bool
+set_refused lists dcs = ltb lists 1280 || ltb dcs 20
 
-pub record Set (lists dcs : List ℕ) : Type 0 where
-  pub lists_long : 1280 ≤ length lists
-  pub dcs_long : 20 ≤ length dcs
+abbrev pub set_lists : ListSet → List FactorList
+set_lists s = held 20 s.lists.now s.dcs.now
 
-pub record Lent (lists dcs four intra inter : List ℕ) : Type 0 where
-  pub set : Set lists dcs
-  pub four_long : length four ≡ 64
-  pub intra_long : length intra ≡ 64
-  pub inter_long : length inter ≡ 64
+abbrev pub factor_list : HeldList → FactorList
+factor_list l = record { entries = l.entries.now; dc = l.dc }

@@ -2,8 +2,11 @@
 #![tactic(auto)]
 
 mod codes;
+mod held;
 mod list;
 mod same;
+mod set;
 
 pub use list::put_lists;
 pub use same::{has_dc, used_count};
+pub use set::{HeldList, ListSet};

@@ -2,12 +2,13 @@
 ghost use Rattle.std.specs.Prelude.{◌≡◌, ◌∷◌, ◌+◌, ◌≤◌, ◌<◌, length};
 ghost use Rattle.text.specs.Text.{WroteUpTo};
 ghost use Rattle.bits_written.specs.Codes.{unsigned_bits};
-ghost use Rattle.scaling_lists_codes.specs.Syntax.{defaults};
-ghost use Rattle.scaling_lists_taken.specs.Held.{held};
+ghost use Rattle.scaling_lists_taken.specs.Lent.{lent_lists};
 ghost use Rattle.scaling_lists_written.specs.Written.{list_bits, written_lists};
-ghost use Rattle.scaling_lists_put.specs.Lists.{Lent};
+ghost use Rattle.scaling_lists_put.specs.Lists.{set_lists};
 
+use crate::set::ListSet;
 use crate::{codes, same};
+use scaling_lists_taken::DefaultLists;
 
 // A list that is taken over: its flag, and how many lists back it stands; 0 for the default.
 fn put_taken(back: usize, bits: &mut [u8], at: usize) -> usize
@@ -19,47 +20,29 @@ fn put_taken(back: usize, bits: &mut [u8], at: usize) -> usize
 }
 
 // List j: the default, else the nearest reference, else in full.
-fn put_list(
-    lists: &[u8],
-    dcs: &[u8],
-    four: &[u8],
-    intra: &[u8],
-    inter: &[u8],
-    j: usize,
-    bits: &mut [u8],
-    at: usize,
-) -> usize
-    requires { Lent lists.now dcs.now four.now intra.now inter.now × (j < 20) × (at + 1106 ≤ length bits.old) }
-    ensures { WroteUpTo bits.old at (list_bits (defaults four.now intra.now inter.now) (held 20 lists.now dcs.now) j) bits.new result (at + 1106) }
+fn put_list(set: ListSet, defaults: DefaultLists, j: usize, bits: &mut [u8], at: usize) -> usize
+    requires { (j < 20) × (at + 1106 ≤ length bits.old) }
+    ensures { WroteUpTo bits.old at (list_bits (lent_lists defaults.entry) (set_lists set.entry) j) bits.new result (at + 1106) }
 {
-    if same::is_default(lists, dcs, four, intra, inter, j) {
+    if same::is_default(set, defaults, j) {
         return put_taken(0, bits, at);
     }
-    let between = same::nearest(lists, dcs, j);
+    let between = same::nearest(set, j);
     if between < j % 6 {
         return put_taken(between + 1, bits, at);
     }
     bits[at] = 1;
-    codes::put_full(lists, dcs, j, bits, at + 1)
+    codes::put_full(set.list(j), j, bits, at + 1)
 }
 
 // All 20 lists, from the first bit on; the answer is how many bits they take.
-pub fn put_lists(
-    lists: &[u8],
-    dcs: &[u8],
-    four: &[u8],
-    intra: &[u8],
-    inter: &[u8],
-    bits: &mut [u8],
-) -> usize
-    requires { Lent lists.now dcs.now four.now intra.now inter.now × (22120 ≤ length bits.old) }
-    ensures { WroteUpTo bits.old 0 (written_lists (defaults four.now intra.now inter.now) (held 20 lists.now dcs.now)) bits.new result 22120 }
+pub fn put_lists(set: ListSet, defaults: DefaultLists, bits: &mut [u8]) -> usize
+    requires { 22120 ≤ length bits.old }
+    ensures { WroteUpTo bits.old 0 (written_lists (lent_lists defaults.entry) (set_lists set.entry)) bits.new result 22120 }
 {
     let mut at: usize = 0;
-    let mut j: usize = 0;
-    while j < 20 {
-        at = put_list(lists, dcs, four, intra, inter, j, bits, at);
-        j += 1;
+    for j in 0..20 {
+        at = put_list(set, defaults, j, bits, at);
     }
     at
 }

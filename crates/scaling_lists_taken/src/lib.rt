@@ -1,9 +1,47 @@
 // Which list a reference means, and where it stands: among the defaults, or among the lists read so far.
 #![tactic(auto)]
 
-ghost use Rattle.std.specs.Prelude.{◌≡◌, ◌-◌, ◌*◌, ◌/◌, ◌≤◌, ◌<◌, length};
-ghost use Rattle.scaling_lists_codes.specs.Syntax.{matrix_step, size_id, matrix_id, list_number};
-ghost use Rattle.scaling_lists_taken.specs.Held.{default_number, entries_taken};
+ghost use Rattle.std.specs.Prelude.{◌≡◌, true, false, ◌-◌, ◌*◌, ◌/◌, ◌≤◌, ◌<◌, length, MatchResult};
+ghost use Rattle.refusal.specs.declared.Refusal.{Refusal};
+ghost use Rattle.scaling_lists_codes.specs.Syntax.{defaults, default_for, matrix_step, size_id, matrix_id, list_number};
+ghost use Rattle.scaling_lists_taken.specs.Held.{defaults_refused, entries_taken};
+ghost use Rattle.scaling_lists_taken.specs.Lent.{lent_lists};
+
+mod lent;
+
+pub use lent::DefaultLists;
+use refusal::Refusal;
+
+impl<'a> DefaultLists<'a> {
+    // Row 5: a default has not 64 entries.
+    pub fn new(
+        four: &'a [u8],
+        intra: &'a [u8],
+        inter: &'a [u8],
+    ) -> Result<DefaultLists<'a>, Refusal>
+        ensures { let lent = defaults four.now intra.now inter.now in
+            MatchResult result (λ d. (lent_lists d ≡ lent) × (defaults_refused lent ≡ false)) (λ e. (e ≡ Refusal.ListLengthInvalid) × (defaults_refused lent ≡ true)) }
+    {
+        if four.len() != 64 || intra.len() != 64 || inter.len() != 64 {
+            return Err(Refusal::ListLengthInvalid);
+        }
+        Ok(DefaultLists { four, intra, inter })
+    }
+
+    // The default of list j.
+    pub fn of(self, j: usize) -> &'a [u8]
+        requires { j < 20 }
+        ensures { (result.now ≡ default_for (lent_lists self.entry) (size_id j) (matrix_id j)) × (length result.now ≡ 64) }
+    {
+        if j / 6 == 0 {
+            return self.four;
+        }
+        if matrix_of(j) < 3 {
+            return self.intra;
+        }
+        self.inter
+    }
+}
 
 // matrix_id of list j.
 pub fn matrix_of(j: usize) -> usize
@@ -23,31 +61,19 @@ pub fn number_of(j: usize, delta: usize) -> usize
     6 * (j / 6) + reference / step
 }
 
-// Which of the three default lists is that of list j.
-fn default_number(j: usize) -> usize
-    requires { j < 20 }
-    ensures { (result ≡ default_number (size_id j) (matrix_id j)) × (result ≤ 2) }
-{
-    if j / 6 == 0 {
-        return 0;
-    }
-    if matrix_of(j) < 3 {
-        return 1;
-    }
-    2
-}
-
-// The list taken over by a reference from list j: 64 entries of the defaults, or of the lists read so far.
-pub fn list_taken<'a>(lent: &'a [u8], lists: &'a [u8], j: usize, delta: usize) -> &'a [u8]
-    requires { (j < 20) × (length lent.now ≡ 192) × (length lists.now ≡ 1280) × (delta ≤ matrix_id j / matrix_step (size_id j)) }
-    ensures { result.now ≡ entries_taken lent.now lists.now j delta }
+// The list taken over by a reference from list j: 64 entries of a default, or of the lists read so far.
+pub fn list_taken<'a>(
+    defaults: DefaultLists<'a>,
+    lists: &'a [u8; 1280],
+    j: usize,
+    delta: usize,
+) -> &'a [u8]
+    requires { (j < 20) × (delta ≤ matrix_id j / matrix_step (size_id j)) }
+    ensures { (result.now ≡ entries_taken (lent_lists defaults.entry) lists.now j delta) × (length result.now ≡ 64) }
 {
     if delta == 0 {
-        let first = 64 * default_number(j);
-        let end = first + 64;
-        return &lent[first..end];
+        return defaults.of(j);
     }
     let first = 64 * number_of(j, delta);
-    let end = first + 64;
-    &lists[first..end]
+    &lists[first..first + 64]
 }

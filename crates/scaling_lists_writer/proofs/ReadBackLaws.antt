@@ -2,7 +2,7 @@
 --   writable_held            lists of bytes that row 16 does not refuse can be written
 --   reader_reads_the_buffer, equal_calls_mean_equal_lists   the statements of specs/Statements.antt
 use mathlib.Core.Path.{◌≡◌, refl, sym, ap, ◌∙◌}
-use mathlib.Core.Bool.{Bool, true, false, cond, not}
+use mathlib.Core.Bool.{Bool, true, false, cond, not, ◌||◌}
 use mathlib.Core.List.{List}
 use Prim.Native.Nat.{ℕ, ◌+◌, ◌-◌, ◌*◌, ◌/◌, ◌%◌, ◌^◌, ◌≤◌, ◌<◌}
 use native.Mathlib.Omega.{arith}
@@ -12,22 +12,23 @@ use lib.ListN.{length, get_or}
 use lib.Seq.{ext_get_or}
 use Rattle.integers.specs.Lists.{overwrite}
 use Rattle.integers.proofs.ListsLaws.{tabulate-get_or, overwrite-get_or, overwrite-length}
+use Rattle.integers.proofs.TestLaws.{neither}
 use Rattle.refusal.specs.declared.Refusal.TheVariants.{ListLengthInvalid, OutputTooShort, ListValueInvalid}
 use Rattle.refusal.specs.Outcome.{accepted}
 use Rattle.bits.specs.Bits.{bit_at}
 use Rattle.bits_written.specs.Bytes.{byte_count, byte_of, Begins}
 use Rattle.bits_written.proofs.BytesLaws.{begins_bytes}
 use Rattle.scaling_lists_codes.specs.Syntax.{FactorList, Defaults, size_id}
-use Rattle.scaling_lists_taken.specs.Held.{held}
+use Rattle.scaling_lists_taken.specs.Held.{defaults_refused, held_at, held}
 use Rattle.scaling_lists_written.specs.Same.{every, has_dc, used_count, entry, Proper, list_at, Writable}
 use Rattle.scaling_lists_written.specs.Written.{written_lists, Whole}
 use Rattle.scaling_lists_written.proofs.SameLaws.{both, every-at, used_few}
 use Rattle.scaling_lists_written.proofs.WrittenLaws.{written_binary, reader_gets_what_was_written, equal_bits_mean_equal_lists}
-use Rattle.scaling_lists_put.specs.Lists.{list_from}
+use Rattle.scaling_lists_put.specs.Lists.{set_refused}
 use Rattle.scaling_lists_put.proofs.CompareLaws.{held-list}
-use Rattle.scaling_lists_writer.specs.Answers.{lengths_refused, nonzero, values_refused, room_refused, untouched, written, lists_written, ListsWritten}
+use Rattle.scaling_lists_writer.specs.Answers.{nonzero, values_refused, room_refused, untouched, written, lists_written, ListsWritten}
 use Rattle.scaling_lists_writer.specs.Statements.{Bytes, ReaderReadsTheBuffer, SameBits, EqualCallsMeanEqualLists}
-use Rattle.scaling_lists_writer.proofs.ValueLaws.{lengths_accepted}
+use Rattle.scaling_lists_writer.proofs.ValueLaws.{whole_accepted}
 
 least : (n : ℕ) → not (eqb n 0) ≡ true → 1 ≤ n
 least n e = let h = eqb-false n 0 (not-true (eqb n 0) e) in omega arith
@@ -54,7 +55,7 @@ module _ (lists dcs : List ℕ) (f : Bytes lists) (g : Bytes dcs) where
         proper = λ j h.
             let is = held-list lists dcs j h in
             rw is
-            (proper_list (size_id j) (list_from lists (64 * j) (get_or dcs j 0))
+            (proper_list (size_id j) (held_at lists dcs j)
             (λ i l. rw (tabulate-get_or 64 (λ i. get_or lists (64 * j + i) 0) i 0 l) (f.small (64 * j + i)))
             (g.small j)
             (rw is at (every-at 20 (λ j. nonzero (size_id j) (list_at (held 20 lists dcs) j)) all j h)));
@@ -93,16 +94,15 @@ module _ (lent : Defaults) (lists dcs out : List ℕ) (f : Bytes lists) (g : Byt
   by_values true e long z = absurd (let b : ⊥ = omega arith in b)
   by_values false e long z = by_room (room_refused (length bits) (length out)) refl long e z
 
-  by_lengths : (t : Bool) → lengths_refused (length lists) (length dcs) (length lent.four) (length lent.intra) (length lent.inter) ≡ t
+  by_lengths : (t : Bool) → defaults_refused lent || set_refused (length lists) (length dcs) ≡ t
       → IfAccepted (cond t (untouched out ListLengthInvalid) (cond (values_refused (held 20 lists dcs)) (untouched out (ListValueInvalid 0)) (written out bits)))
   by_lengths true e z = absurd (let b : ⊥ = omega arith in b)
   by_lengths false e z =
-      let l = lengths_accepted lists dcs lent.four lent.intra lent.inter e in
-      by_values (values_refused (held 20 lists dcs)) refl (record { four_long = l.four_long; intra_long = l.intra_long; inter_long = l.inter_long }) z
+      by_values (values_refused (held 20 lists dcs)) refl (whole_accepted lent (neither (defaults_refused lent) (set_refused (length lists) (length dcs)) e).0) z
 
   call_accepted : IfAccepted (lists_written lent lists dcs out)
   unfolding lists_written
-  call_accepted = by_lengths (lengths_refused (length lists) (length dcs) (length lent.four) (length lent.intra) (length lent.inter)) refl
+  call_accepted = by_lengths (defaults_refused lent || set_refused (length lists) (length dcs)) refl
 
 module _ {lent : Defaults} {lists dcs out : List ℕ} {w : ListsWritten} (a : Accepted lent lists dcs out w) where
   buffer_byte : (k : ℕ) → k < byte_count (length (written_lists lent (held 20 lists dcs))) → get_or w.out k 0 ≡ byte_of (written_lists lent (held 20 lists dcs)) k

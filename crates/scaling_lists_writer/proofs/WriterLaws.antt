@@ -2,10 +2,11 @@
 --   buffer_bit        the buffer's bits are those written, and 0 behind them
 --   buffer_binary     they are bits
 --   written_got, written-short   bits that have room, and bits that have none
+use Rattle.std.specs.Prelude.{Ok, Err}
 use mathlib.Core.Path.{◌≡◌, refl, sym, ap, ◌∙◌}
 use mathlib.Core.Bool.{Bool, true, false}
 use mathlib.Core.List.{List, ◌++◌}
-use Prim.Native.Nat.{ℕ, zero, suc, ◌+◌, ◌-◌, ◌/◌, ◌≤◌, ◌<◌}
+use Prim.Native.Nat.{ℕ, zero, suc, ◌+◌, ◌-◌, ◌≤◌, ◌<◌}
 use native.Mathlib.Nat.{zero-add}
 use native.Mathlib.Omega.{arith}
 use borrow.Author.Tests.{ltb-true, ltb-false, lt-ltb, le-ltb}
@@ -18,7 +19,6 @@ use Rattle.refusal.specs.declared.Refusal.TheVariants.{OutputTooShort}
 use Rattle.text.specs.Text.{Wrote}
 use Rattle.bits_written.specs.Bytes.{byte_count, byte_of, Binary}
 use Rattle.bits_written.proofs.BytesLaws.{byte_of_cong}
-use Rattle.scaling_lists_writer.specs.declared.WriteAnswer.TheVariants.{Written, Refused}
 use Rattle.scaling_lists_writer.specs.Answers.{room_refused, written, Writes}
 
 zeros_bit : (n i : ℕ) → ◌≡◌ {A = ℕ} (get_or (replicate n 0) i 0) 0
@@ -51,13 +51,13 @@ module _ {m : List ℕ} {count : ℕ} (n : ℕ) (bits : List ℕ) (w : Wrote (re
   buffer_binary g = record { small = λ i. rw (buffer_bit i) (g.small i) }
 
 module _ (out bits : List ℕ) where
-  pub written-short : (count : ℕ) → count ≡ length bits → length out < (count + 7) / 8 → Writes (Refused OutputTooShort) out (written out bits)
-  unfolding written room_refused byte_count
-  written-short count e h = rw (← e, lt-ltb (length out) ((count + 7) / 8) h) (record { answered = refl; out_is = refl })
+  pub written-short : (count k : ℕ) → count ≡ length bits → k ≡ byte_count count → length out < k → Writes (Err OutputTooShort) out (written out bits)
+  unfolding written room_refused
+  written-short count k e q h = rw (← e, ← q, lt-ltb (length out) k h) (record { answered = refl; out_is = refl })
 
-  pub written_got : (count : ℕ) (m after : List ℕ) → count ≡ length bits → (count + 7) / 8 ≤ length out → ((i : ℕ) → get_or m i 0 ≡ get_or bits i 0)
-      → after ≡ overwrite ((count + 7) / 8) (byte_of m) out → Writes (Written count) after (written out bits)
-  unfolding written room_refused byte_count
-  written_got count m after e h g s =
-      rw (← e, le-ltb (length out) ((count + 7) / 8) h)
-      (record { answered = refl; out_is = s ∙ overwrite_cong ((count + 7) / 8) (byte_of m) (byte_of bits) out (λ k l. byte_of_cong m bits k g) })
+  pub written_got : (count k : ℕ) (m after : List ℕ) → count ≡ length bits → k ≡ byte_count count → k ≤ length out → ((i : ℕ) → get_or m i 0 ≡ get_or bits i 0)
+      → after ≡ overwrite k (byte_of m) out → Writes (Ok count) after (written out bits)
+  unfolding written room_refused
+  written_got count k m after e q h g s =
+      rw (← e, ← q, le-ltb (length out) k h)
+      (record { answered = refl; out_is = s ∙ overwrite_cong k (byte_of m) (byte_of bits) out (λ k l. byte_of_cong m bits k g) })

@@ -1,32 +1,21 @@
 -- What writing scaling lists hands back. Change request R-12, and rows 5, 7 and 16 of the table.
---   write_outcome            number, place, and how many bits were written
---   lengths_refused          5: a default has not 64 entries, as the reader refuses it, or there are fewer than 20 × 64 entries or fewer than 20 DC numbers to write
 --   nonzero s l             no entry that the size uses is 0, nor DC where it has one
 --   values_refused lists     16: one of the 20 lists has such a 0
 --   room_refused bits room   7: fewer bytes have room than the bits take
 --   lists_written            the answer and the buffer: the bits as bytes from the start on, as lent where the call is refused
 --   Writes                  a call's answer and its buffer are what that says
--- Row 5 is asked first, and 16 before 7. Buffers of lists and DC numbers may be longer: what stands behind the 20 is not looked at.
-use Rattle.std.specs.Prelude.{◌≡◌, Bool, true, cond, not, ◌||◌, ◌&&◌, List, ℕ, eqb, ltb, length}
+-- Row 5 is asked first, of the defaults as the reader asks it and of what is to be written, and 16 before 7. Buffers of lists and DC numbers may be longer: what stands behind the 20 is not looked at.
+use Rattle.std.specs.Prelude.{◌≡◌, Bool, true, cond, not, ◌||◌, ◌&&◌, List, ℕ, eqb, ltb, length, Result}
 use Rattle.integers.specs.Lists.{overwrite}
 use Rattle.refusal.specs.declared.Refusal.{Refusal}
 use Rattle.refusal.specs.declared.Refusal.TheVariants.{ListLengthInvalid, OutputTooShort, ListValueInvalid}
-use Rattle.refusal.specs.Outcome.{Outcome, accepted, refused}
+use Rattle.refusal.specs.Outcome.{Outcome, accepted, refused, outcome}
 use Rattle.bits_written.specs.Bytes.{byte_count, byte_of}
 use Rattle.scaling_lists_codes.specs.Syntax.{FactorList, Defaults, size_id}
-use Rattle.scaling_lists.specs.Answers.{lengths_refused as defaults_refused}
-use Rattle.scaling_lists_taken.specs.Held.{held}
+use Rattle.scaling_lists_taken.specs.Held.{defaults_refused, held}
 use Rattle.scaling_lists_written.specs.Same.{every, has_dc, used_count, entry, list_at}
 use Rattle.scaling_lists_written.specs.Written.{written_lists}
-use Rattle.scaling_lists_writer.specs.declared.WriteAnswer.{WriteAnswer}
-use Rattle.scaling_lists_writer.specs.declared.WriteAnswer.TheVariants.{Written, Refused}
-
-abbrev pub write_outcome : WriteAnswer → Outcome ℕ
-write_outcome (Written bits) = accepted bits
-write_outcome (Refused e) = refused 0 e
-
-unfoldable pub lengths_refused : ℕ → ℕ → ℕ → ℕ → ℕ → Bool
-lengths_refused lists dcs four intra inter = defaults_refused four intra inter || (ltb lists 1280 || ltb dcs 20)
+use Rattle.scaling_lists_put.specs.Lists.{set_refused}
 
 unfoldable pub nonzero : ℕ → FactorList → Bool
 nonzero s l = every (used_count s) (λ i. not (eqb (entry l i) 0)) && cond (has_dc s) (not (eqb l.dc 0)) true
@@ -51,10 +40,10 @@ written out bits =
 
 unfoldable pub lists_written : Defaults → List ℕ → List ℕ → List ℕ → ListsWritten
 lists_written lent lists dcs out =
-    cond (lengths_refused (length lists) (length dcs) (length lent.four) (length lent.intra) (length lent.inter)) (untouched out ListLengthInvalid)
+    cond (defaults_refused lent || set_refused (length lists) (length dcs)) (untouched out ListLengthInvalid)
     (cond (values_refused (held 20 lists dcs)) (untouched out (ListValueInvalid 0))
     (written out (written_lists lent (held 20 lists dcs))))
 
-pub record Writes (r : WriteAnswer) (out : List ℕ) (w : ListsWritten) : Type 0 where
-  pub answered : write_outcome r ≡ w.answer
+pub record Writes (r : Result ℕ Refusal) (out : List ℕ) (w : ListsWritten) : Type 0 where
+  pub answered : outcome 0 r ≡ w.answer
   pub out_is : out ≡ w.out

@@ -1,25 +1,11 @@
 // Row 16: whether an entry that is used or a DC number is 0, which no bitstream can say.
-ghost use Rattle.std.specs.Prelude.{◌≡◌, true, cond, not, ◌+◌, ◌*◌, ◌≤◌, ◌<◌, eqb, length, get_or};
+ghost use Rattle.std.specs.Prelude.{◌≡◌, true, cond, not, eqb};
 ghost use Rattle.scaling_lists_codes.specs.Syntax.{size_id};
-ghost use Rattle.scaling_lists_taken.specs.Held.{held};
-ghost use Rattle.scaling_lists_written.specs.Same.{every, has_dc, list_at};
-ghost use Rattle.scaling_lists_put.specs.Lists.{Set};
+ghost use Rattle.scaling_lists_written.specs.Same.{has_dc};
+ghost use Rattle.scaling_lists_put.specs.Lists.{factor_list, set_lists};
 ghost use Rattle.scaling_lists_writer.specs.Answers.{nonzero, values_refused};
 
-// Whether none of n entries from an index on is 0.
-fn nonzero_entries(lists: &[u8], from: usize, n: usize) -> bool
-    requires { from + n ≤ length lists.now }
-    ensures { result ≡ every n (λ i. not (eqb (get_or lists.now (from + i) 0) 0)) }
-{
-    let mut i: usize = 0;
-    while i < n {
-        if lists[from + i] == 0 {
-            return false;
-        }
-        i += 1;
-    }
-    true
-}
+use scaling_lists_put::{HeldList, ListSet};
 
 fn nonzero_dc(j: usize, dc: u8) -> bool
     ensures { result ≡ cond (has_dc (size_id j)) (not (eqb dc 0)) true }
@@ -31,27 +17,24 @@ fn nonzero_dc(j: usize, dc: u8) -> bool
     }
 }
 
-// Whether list j can be written.
-fn nonzero_list(lists: &[u8], dcs: &[u8], j: usize) -> bool
-    requires { Set lists.now dcs.now × (j < 20) }
-    ensures { result ≡ nonzero (size_id j) (list_at (held 20 lists.now dcs.now) j) }
+// Whether a list can be written to the size of list j.
+fn nonzero_list(list: HeldList, j: usize) -> bool
+    ensures { result ≡ nonzero (size_id j) (factor_list list.entry) }
 {
-    if nonzero_entries(lists, 64 * j, scaling_lists_put::used_count(j)) {
-        return nonzero_dc(j, dcs[j]);
+    let n = scaling_lists_put::used_count(j);
+    if list.entries[..n].contains(&0) {
+        return false;
     }
-    false
+    nonzero_dc(j, list.dc)
 }
 
-pub(crate) fn values_refused(lists: &[u8], dcs: &[u8]) -> bool
-    requires { Set lists.now dcs.now }
-    ensures { result ≡ values_refused (held 20 lists.now dcs.now) }
+pub(crate) fn values_refused(set: ListSet) -> bool
+    ensures { result ≡ values_refused (set_lists set.entry) }
 {
-    let mut j: usize = 0;
-    while j < 20 {
-        if !nonzero_list(lists, dcs, j) {
+    for j in 0..20 {
+        if !nonzero_list(set.list(j), j) {
             return true;
         }
-        j += 1;
     }
     false
 }

@@ -16,14 +16,13 @@ use borrow.Author.Tests.{ltb-true, ltb-false, le-ltb, ne_eqb}
 use lib.Dec.{ltb}
 use lib.IntN.{ℤ, pos, negsuc, neg_ℤ}
 use lib.ListN.{length, get_or, set, length-append}
-use Rattle.bits.specs.declared.Code.TheVariants.{Number}
+use Rattle.std.specs.Prelude.{Ok}
 use Rattle.bits.specs.ExpGolomb.{unsigned_code}
 use Rattle.bits_written.specs.Codes.{code_number, signed_bits}
 use Rattle.bits_written.specs.Bytes.{Begins}
 use Rattle.bits_written.proofs.BytesLaws.{begins_first, begins_second}
 use Rattle.bits_written.proofs.CodesLaws.{unsigned_read, code_number_signed}
-use Rattle.scaling_lists_codes.specs.Syntax.{outside_of, added, next_coef, delta_code, entries_from, dc_code}
-use Rattle.scaling_lists_codes.specs.Syntax.Reading.{got}
+use Rattle.scaling_lists_codes.specs.Syntax.{number_at, outside_of, added, next_coef, delta_code, entries_from, dc_code}
 use Rattle.scaling_lists_written.specs.Written.{difference, delta_from, delta_bits}
 
 -- ---- differences
@@ -84,19 +83,19 @@ module _ (next v : ℕ) (n : next ≤ 255) (h : v ≤ 255) where
 
 -- ---- codes
 pub signed_read : (k : ℤ) → code_number k ≤ 510 → (bytes : List ℕ) (at : ℕ) → Begins bytes at (signed_bits k)
-    → unsigned_code bytes at ≡ Number (code_number k) (at + length (signed_bits k))
+    → unsigned_code bytes at ≡ Ok (code_number k, at + length (signed_bits k))
 unfolding signed_bits
 signed_read k h bytes at g = unsigned_read (code_number k) (omega arith) bytes at g
 
 pub delta_read : (bytes : List ℕ) (next v at : ℕ) → next ≤ 255 → 1 ≤ v → v ≤ 255 → Begins bytes at (signed_bits (delta_from next v))
-    → delta_code bytes next at ≡ got v (at + length (signed_bits (delta_from next v)))
-unfolding delta_code
+    → delta_code bytes next at ≡ Ok (v, at + length (signed_bits (delta_from next v)))
+unfolding number_at delta_code
 delta_read bytes next v at n l h g =
     rw (signed_read (delta_from next v) (omega (arith, delta_code_lem next v n h)) bytes at g, code_number_signed, delta_inside next v n h, delta_next next v n h, ne_eqb v 0 (λ e. omega arith))
 
 pub dc_read : (bytes : List ℕ) (dc at : ℕ) → 1 ≤ dc → dc ≤ 255 → Begins bytes at (signed_bits (difference dc 8))
-    → dc_code bytes at ≡ got dc (at + length (signed_bits (difference dc 8)))
-unfolding dc_code
+    → dc_code bytes at ≡ Ok (dc, at + length (signed_bits (difference dc 8)))
+unfolding number_at dc_code
 dc_read bytes dc at l h g =
     let e : 8 + dc - 8 ≡ dc = omega arith in
     rw (
@@ -117,13 +116,13 @@ placed [] es to = to
 placed (p ∷ ps) es to = placed ps es (set to p (get_or es p 0))
 
 pub entries_read : (bytes ps es : List ℕ) (next at : ℕ) (to : List ℕ) → next ≤ 255 → Entries ps es → Begins bytes at (delta_bits ps next es)
-    → entries_from bytes ps next at to ≡ got (placed ps es to) (at + length (delta_bits ps next es))
+    → entries_from bytes ps next at to ≡ Ok (placed ps es to, at + length (delta_bits ps next es))
 unfolding entries_from delta_bits
-entries_read bytes [] es next at to n f g = ap (got to) (omega arith)
+entries_read bytes [] es next at to n f g = ap (λ (k : ℕ). Ok (to, k)) (omega arith)
 entries_read bytes (p ∷ ps) es next at to n f g =
     let v = get_or es p 0 in
     let a = signed_bits (delta_from next v) in
     let b = delta_bits ps v es in
     rw (delta_read bytes next v at n f.0 f.1 (begins_first a b g))
     (entries_read bytes ps es v (at + length a) (set to p v) f.1 f.2 (begins_second a b g)
-    ∙ ap (got (placed ps es (set to p v))) (omega (arith, length-append a b)))
+    ∙ ap (λ (k : ℕ). Ok (placed ps es (set to p v), k)) (omega (arith, length-append a b)))

@@ -10,6 +10,7 @@ use mathlib.Core.List.{List, [], ◌∷◌, ◌++◌, map}
 use Prim.Native.Nat.{ℕ, zero, suc}
 use lib.IntN.{pos, negsuc}
 use lib.ListN.{replicate}
+use Rattle.std.specs.Prelude.{Ok}
 use Rattle.integers.specs.Lists.{tabulate_from, tabulate}
 use Rattle.integers.specs.Search.{first_where}
 use Rattle.bits.specs.Bits.{is_there, bit_at, bits_number}
@@ -17,8 +18,7 @@ use Rattle.bits.specs.ExpGolomb.{leading_zeros, code_of, unsigned_code, signed_n
 use Rattle.bits_written.specs.Codes.{bits_of, zeros_of, unsigned_bits, code_number, signed_bits}
 use Rattle.bits_written.specs.Bytes.{bits_value, byte_count, byte_of, bytes_of}
 use Rattle.diagonal.specs.Scan.{inside, diagonal, diagonals, up_right}
-use Rattle.scaling_lists_codes.specs.Syntax.{FactorList, Defaults, matrix_step, size_id, matrix_id, list_number, default_for, outside_of, added, next_coef, delta_code, entries_from, dc_code, positions, coded_entries, coded_list, reference_code, referred, taken_over, list_by, list_code, lists_from, scaling_list_data}
-use Rattle.scaling_lists_codes.specs.Syntax.Reading.{got}
+use Rattle.scaling_lists_codes.specs.Syntax.{number_at, FactorList, Defaults, matrix_step, size_id, matrix_id, list_number, default_for, outside_of, added, next_coef, delta_code, entries_from, dc_code, positions, coded_entries, coded_list, reference_code, referred, taken_over, list_by, list_code, lists_from, scaling_list_data}
 use Rattle.scaling_lists_written.specs.Same.{every, has_dc, used_count, same_list}
 use Rattle.scaling_lists_written.specs.Written.{difference, delta_from, delta_bits, full_bits, earlier, nearest, form_of, form_bits, list_bits, written_up_to, written_lists}
 
@@ -82,6 +82,6 @@ unfolding first_where bits_of zeros_of unsigned_bits code_number signed_bits ins
 full_holds = refl
 
 pub reader_holds : scaling_list_data lent (bytes_of (written_lists lent (set (four bump 0) sixteens 0)))
-    ≡ got (set (record { entries = bump ++ replicate 48 0; dc = 16 }) sixteens 16) 225
-unfolding first_where bits_of zeros_of unsigned_bits code_number signed_bits inside diagonal diagonals up_right matrix_step size_id matrix_id default_for positions every has_dc used_count same_list difference delta_from delta_bits full_bits earlier nearest form_of form_bits list_bits written_up_to written_lists tabulate tabulate_from bits_value byte_count byte_of bytes_of is_there bit_at bits_number leading_zeros code_of unsigned_code signed_number list_number outside_of added next_coef delta_code entries_from dc_code coded_entries coded_list reference_code referred taken_over list_by list_code lists_from scaling_list_data
+    ≡ Ok (set (record { entries = bump ++ replicate 48 0; dc = 16 }) sixteens 16, 225)
+unfolding first_where bits_of zeros_of unsigned_bits code_number signed_bits inside diagonal diagonals up_right matrix_step size_id matrix_id default_for positions every has_dc used_count same_list difference delta_from delta_bits full_bits earlier nearest form_of form_bits list_bits written_up_to written_lists tabulate tabulate_from bits_value byte_count byte_of bytes_of is_there bit_at bits_number leading_zeros code_of unsigned_code signed_number list_number outside_of added next_coef number_at delta_code entries_from dc_code coded_entries coded_list reference_code referred taken_over list_by list_code lists_from scaling_list_data
 reader_holds = refl

@@ -15,6 +15,7 @@ use native.Mathlib.Omega.{arith}
 use borrow.Author.Tests.{eqb-true, eqb-false, eq-eqb, ne_eqb, ltb-true, le-ltb}
 use lib.Dec.{T, eqb, ltb, lit<, ltb→lt}
 use lib.ListN.{length, length-append}
+use Rattle.std.specs.Prelude.{Ok}
 use Rattle.integers.specs.Lists.{tabulate, tabulate_from}
 use Rattle.integers.proofs.ListsLaws.{tabulate-length, tabulate-get_or}
 use Rattle.integers.proofs.SearchLaws.{first_where_first}
@@ -23,8 +24,7 @@ use Rattle.bits_written.specs.Bytes.{Begins}
 use Rattle.bits_written.proofs.BytesLaws.{begins_first, begins_second, begins_there, begins_bit, begins_rest}
 use Rattle.bits_written.proofs.CodesLaws.{unsigned_read}
 use Rattle.diagonal.specs.Scan.{inside, diagonal, diagonals, up_right}
-use Rattle.scaling_lists_codes.specs.Syntax.{FactorList, Defaults, and_then, matrix_step, size_id, matrix_id, list_number, default_for, positions, blank, coded_entries, dc_code, coded_list, reference_code, referred, taken_over, none, list_by, list_code}
-use Rattle.scaling_lists_codes.specs.Syntax.Reading.{got}
+use Rattle.scaling_lists_codes.specs.Syntax.{number_at, FactorList, Defaults, and_then, matrix_step, size_id, matrix_id, list_number, default_for, positions, blank, coded_entries, dc_code, coded_list, reference_code, referred, taken_over, none, list_by, list_code}
 use Rattle.scaling_lists.proofs.ListLaws.{all_below, below_both}
 use Rattle.scaling_lists_written.specs.Same.{has_dc, used_count, entry, same_list, used_list, Proper, list_at}
 use Rattle.scaling_lists_written.specs.Written.{difference, delta_bits, full_bits, default_list, earlier, nearest, form_of, form_bits, list_bits, read_list, Whole}
@@ -61,12 +61,12 @@ module _ (s : ℕ) (l : FactorList) where
 
 module _ (bytes : List ℕ) (s : ℕ) (l : FactorList) (proper : Proper s l) where
   coded_read : (dc next at : ℕ) → next ≤ 255 → Begins bytes at (delta_bits (positions s) next l.entries)
-      → coded_entries bytes s dc next at ≡ got (record { entries = (used_list s l).entries; dc = dc }) (at + length (delta_bits (positions s) next l.entries))
+      → coded_entries bytes s dc next at ≡ Ok (record { entries = (used_list s l).entries; dc = dc }, at + length (delta_bits (positions s) next l.entries))
   unfolding coded_entries
   coded_read dc next at n g =
       rw (entries_read bytes (positions s) l.entries next at blank n (positions_entries s l proper) g, positions_placed s l)
 
-  pub full_read : (at : ℕ) → Begins bytes at (full_bits s l) → coded_list bytes s at ≡ got (used_list s l) (at + length (full_bits s l))
+  pub full_read : (at : ℕ) → Begins bytes at (full_bits s l) → coded_list bytes s at ≡ Ok (used_list s l, at + length (full_bits s l))
   unfolding coded_list full_bits has_dc used_list
   full_read at g = by_size (ltb 1 s) refl g
     where
@@ -75,13 +75,13 @@ module _ (bytes : List ℕ) (s : ℕ) (l : FactorList) (proper : Proper s l) whe
 
       by_size : (b : Bool) → ltb 1 s ≡ b → Begins bytes at (full_by b)
           → cond b (and_then (dc_code bytes at) (λ dc behind. coded_entries bytes s dc dc behind)) (coded_entries bytes s 16 8 at)
-          ≡ got (record { entries = (used_list s l).entries; dc = cond b l.dc 16 }) (at + length (full_by b))
+          ≡ Ok (record { entries = (used_list s l).entries; dc = cond b l.dc 16 }, at + length (full_by b))
       by_size true e h =
           let a = signed_bits (difference l.dc 8) in
           let b = delta_bits (positions s) l.dc l.entries in
           rw (dc_read bytes l.dc at (proper.dc_least e) (proper.dc_most e) (begins_first a b h))
           (coded_read l.dc l.dc (at + length a) (proper.dc_most e) (begins_second a b h)
-          ∙ ap (got (record { entries = (used_list s l).entries; dc = l.dc })) (omega (arith, length-append a b)))
+          ∙ ap (λ (k : ℕ). Ok (record { entries = (used_list s l).entries; dc = l.dc }, k)) (omega (arith, length-append a b)))
       by_size false e h = coded_read 16 8 at (omega arith) h
 
 -- ---- a list that is taken over
@@ -107,8 +107,8 @@ unfolding matrix_id earlier list_number size_id
 number_back j d h = ap (λ (k : ℕ). 6 * (j / 6) + k) (multiple (j % 6) d (matrix_step (j / 6)) (step_least (j / 6))) ∙ omega arith
 
 pub taken_read : (lent : Defaults) (bytes : List ℕ) (read : List FactorList) (j d at : ℕ) → d ≤ earlier j → Begins bytes at (unsigned_bits d)
-    → taken_over lent bytes read (size_id j) (matrix_id j) at ≡ got (referred lent read (size_id j) (matrix_id j) d) (at + length (unsigned_bits d))
-unfolding taken_over reference_code earlier
+    → taken_over lent bytes read (size_id j) (matrix_id j) at ≡ Ok (referred lent read (size_id j) (matrix_id j) d, at + length (unsigned_bits d))
+unfolding taken_over number_at reference_code earlier
 taken_read lent bytes read j d at h g =
     rw (unsigned_read d (omega arith) bytes at g, earlier_is j, le-ltb (earlier j) d h)
 
@@ -150,17 +150,17 @@ module _ (lent : Defaults) (long : Whole lent) (s : ℕ) where
 -- ---- one list
 module _ (lent : Defaults) (bytes : List ℕ) (read : List FactorList) (j at : ℕ) where
   by_taken : (d : ℕ) → d ≤ earlier j → Begins bytes at (0 ∷ unsigned_bits d)
-      → list_by lent bytes read (size_id j) (matrix_id j) at ≡ got (referred lent read (size_id j) (matrix_id j) d) (at + length (0 ∷ unsigned_bits d))
+      → list_by lent bytes read (size_id j) (matrix_id j) at ≡ Ok (referred lent read (size_id j) (matrix_id j) d, at + length (0 ∷ unsigned_bits d))
   unfolding list_by
   by_taken d h g =
       rw (begins_there g, begins_bit g, taken_read lent bytes read j d (at + 1) h (begins_rest g))
-      (ap (got (referred lent read (size_id j) (matrix_id j) d)) (omega arith))
+      (ap (λ (k : ℕ). Ok (referred lent read (size_id j) (matrix_id j) d, k)) (omega arith))
 
   by_full : (l : FactorList) → Proper (size_id j) l → Begins bytes at (1 ∷ full_bits (size_id j) l)
-      → list_by lent bytes read (size_id j) (matrix_id j) at ≡ got (used_list (size_id j) l) (at + length (1 ∷ full_bits (size_id j) l))
+      → list_by lent bytes read (size_id j) (matrix_id j) at ≡ Ok (used_list (size_id j) l, at + length (1 ∷ full_bits (size_id j) l))
   unfolding list_by
   by_full l p g =
-      rw (begins_there g, begins_bit g, full_read bytes (size_id j) l p (at + 1) (begins_rest g)) (ap (got (used_list (size_id j) l)) (omega arith))
+      rw (begins_there g, begins_bit g, full_read bytes (size_id j) l p (at + 1) (begins_rest g)) (ap (λ (k : ℕ). Ok (used_list (size_id j) l, k)) (omega arith))
 
 -- the lists read before list j
 abbrev pub read_before : Defaults → List FactorList → ℕ → List FactorList
@@ -202,26 +202,26 @@ module _ (lent : Defaults) (long : Whole lent) (lists : List FactorList) (j : �
 
   by_nearest : (t : Bool) → ltb (nearest lists j) (earlier j) ≡ t → same_list s l (default_list lent s (matrix_id j)) ≡ false
       → Begins bytes at (form_bits s l (cond t (taken (nearest lists j + 1)) full))
-      → list_by lent bytes (read_before lent lists j) s (matrix_id j) at ≡ got (used_list s l) (at + length (form_bits s l (cond t (taken (nearest lists j + 1)) full)))
+      → list_by lent bytes (read_before lent lists j) s (matrix_id j) at ≡ Ok (used_list s l, at + length (form_bits s l (cond t (taken (nearest lists j + 1)) full)))
   unfolding form_bits
   by_nearest true e own g =
       let h = ltb-true (nearest lists j) (earlier j) e in
       by_taken lent bytes (read_before lent lists j) j at (nearest lists j + 1) (omega arith) g
-      ∙ ap (λ (r : FactorList). got r (at + length (0 ∷ unsigned_bits (nearest lists j + 1))))
+      ∙ ap (λ (r : FactorList). Ok (r, at + length (0 ∷ unsigned_bits (nearest lists j + 1))))
       (referred_back lent long lists j (nearest lists j) h ∙ back_read lent long lists j (nearest lists j) h (nearest_same lent long lists j h) own)
   by_nearest false e own g = by_full lent bytes (read_before lent lists j) j at l proper g
 
   by_default : (t : Bool) → same_list s l (default_list lent s (matrix_id j)) ≡ t
       → Begins bytes at (form_bits s l (cond t (taken 0) (cond (ltb (nearest lists j) (earlier j)) (taken (nearest lists j + 1)) full)))
       → list_by lent bytes (read_before lent lists j) s (matrix_id j) at
-      ≡ got (cond t (default_list lent s (matrix_id j)) (used_list s l)) (at + length (form_bits s l (cond t (taken 0) (cond (ltb (nearest lists j) (earlier j)) (taken (nearest lists j + 1)) full))))
+      ≡ Ok (cond t (default_list lent s (matrix_id j)) (used_list s l), at + length (form_bits s l (cond t (taken 0) (cond (ltb (nearest lists j) (earlier j)) (taken (nearest lists j + 1)) full))))
   unfolding form_bits
   by_default true e g =
       by_taken lent bytes (read_before lent lists j) j at 0 (omega arith) g
-      ∙ ap (λ (r : FactorList). got r (at + length (0 ∷ unsigned_bits 0))) (referred_default lent long lists j (read_before lent lists j))
+      ∙ ap (λ (r : FactorList). Ok (r, at + length (0 ∷ unsigned_bits 0))) (referred_default lent long lists j (read_before lent lists j))
   by_default false e g = by_nearest (ltb (nearest lists j) (earlier j)) refl e g
 
-  pub list_read : Begins bytes at (list_bits lent lists j) → list_code lent bytes (read_before lent lists j) at ≡ got (read_list lent j l) (at + length (list_bits lent lists j))
+  pub list_read : Begins bytes at (list_bits lent lists j) → list_code lent bytes (read_before lent lists j) at ≡ Ok (read_list lent j l, at + length (list_bits lent lists j))
   unfolding list_code list_bits form_of read_list
   list_read g = rw tabulate-length (by_default (same_list s l (default_list lent s (matrix_id j))) refl g)
 

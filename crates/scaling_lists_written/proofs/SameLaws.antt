@@ -2,13 +2,14 @@
 --   both                               where two tests hold together, each holds
 --   every-at, every-all, every_fails   a test that holds of all numbers below a bound, and one that fails somewhere
 --   every-none, every_more, every_cong   the invariant of a loop that tests; tests that agree
+--   every_pointwise, every_not_any       two lists compared, and no element that passes a test
 --   same_used, used_same               the same: equal as the size uses them
 --   same_cong                          whether two lists are the same is told by what their size uses
 --   used_few                           no size uses more than 64 entries
 --   used_entry, used_idem, used_whole  entries of a list as its size uses it; used twice; a list of 64 entries that are all used
 use mathlib.Core.Path.{◌≡◌, refl, sym, ap, ap₂, ◌∙◌, subst}
-use mathlib.Core.Bool.{Bool, true, false, cond, ◌&&◌}
-use mathlib.Core.List.{List}
+use mathlib.Core.Bool.{Bool, true, false, cond, not, ◌&&◌, ◌||◌}
+use mathlib.Core.List.{List, [], ◌∷◌}
 use Prim.Native.Nat.{ℕ, zero, suc, ◌+◌, ◌≤◌, ◌<◌}
 use native.Mathlib.Nat.{not-suc-le-zero}
 use native.Mathlib.Decide.{ℕ_discrete}
@@ -16,8 +17,10 @@ use native.Mathlib.Numerals.{add-one}
 use native.Mathlib.Omega.{arith}
 use borrow.Author.Tests.{eqb-true, eq-eqb, ne_eqb, ltb-true, lt-ltb}
 use lib.Dec.{T, eqb, ltb}
-use lib.ListN.{length}
+use lib.ListN.{length, get_or}
 use lib.Seq.{ext_get_or}
+use Rattle.std.specs.List.{list_any}
+use Rattle.std.specs.Cmp.Lexicographic.{pointwise}
 use Rattle.integers.specs.Lists.{tabulate}
 use Rattle.integers.proofs.ListsLaws.{tabulate-length, tabulate-get_or, tabulate_cong}
 use Rattle.scaling_lists_codes.specs.Syntax.{FactorList}
@@ -59,6 +62,41 @@ pub every_cong : (n : ℕ) (p q : ℕ → Bool) → ((i : ℕ) → i < n → p i
 unfolding every
 every_cong zero p q h = refl
 every_cong (suc n) p q h = ap₂ ◌&&◌ (every_cong n p q (λ i l. h i (omega arith))) (h n (omega arith))
+
+-- ---- tests of the elements of lists
+and_true : (b : Bool) → b && true ≡ b
+and_true true = refl
+and_true false = refl
+
+and_assoc : (a b c : Bool) → (a && b) && c ≡ a && (b && c)
+and_assoc true b c = refl
+and_assoc false b c = refl
+
+not_or : (a b : Bool) → not (a || b) ≡ not a && not b
+not_or true b = refl
+not_or false b = refl
+
+every_front : (n : ℕ) (p : ℕ → Bool) → every (suc n) p ≡ p 0 && every n (λ i. p (suc i))
+unfolding every
+every_front zero p = sym (and_true (p 0))
+every_front (suc n) p = ap (λ (b : Bool). b && p (suc n)) (every_front n p) ∙ and_assoc (p 0) (every n (λ i. p (suc i))) (p (suc n))
+
+pub every_pointwise : (E : ℕ → ℕ → Bool) (xs ys : List ℕ) → length xs ≡ length ys → pointwise E xs ys ≡ every (length xs) (λ i. E (get_or xs i 0) (get_or ys i 0))
+unfolding every
+every_pointwise E [] [] h = refl
+every_pointwise E [] (y ∷ ys) h = absurd (let b : ⊥ = omega arith in b)
+every_pointwise E (x ∷ xs) [] h = absurd (let b : ⊥ = omega arith in b)
+every_pointwise E (x ∷ xs) (y ∷ ys) h =
+    ap (λ (b : Bool). E x y && b) (every_pointwise E xs ys (omega arith))
+    ∙ sym (every_front (length xs) (λ i. E (get_or (x ∷ xs) i 0) (get_or (y ∷ ys) i 0)))
+
+pub every_not_any : (p : ℕ → Bool) (xs : List ℕ) → not (list_any p xs) ≡ every (length xs) (λ i. not (p (get_or xs i 0)))
+unfolding every
+every_not_any p [] = refl
+every_not_any p (x ∷ xs) =
+    not_or (p x) (list_any p xs)
+    ∙ ap (λ (b : Bool). not (p x) && b) (every_not_any p xs)
+    ∙ sym (every_front (length xs) (λ i. not (p (get_or (x ∷ xs) i 0))))
 
 -- ---- lists that are the same
 pub used_few : (s : ℕ) → used_count s ≤ 64

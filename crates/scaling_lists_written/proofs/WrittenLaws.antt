@@ -9,6 +9,7 @@ use native.Mathlib.Nat.{zero-add}
 use native.Mathlib.Omega.{arith}
 use lib.Dec.{eqb, ltb, lit<}
 use lib.ListN.{length, get_or, length-append}
+use Rattle.std.specs.Prelude.{Ok, Err}
 use Rattle.integers.specs.Lists.{tabulate, tabulate_from}
 use Rattle.integers.proofs.ListsLaws.{tabulate-get_or, tabulate_cong, tabulate_suc}
 use Rattle.integers.proofs.SearchLaws.{first_where_cong}
@@ -17,8 +18,7 @@ use Rattle.bits_written.specs.Bytes.{bytes_of, Binary, Begins}
 use Rattle.bits_written.proofs.BytesLaws.{binary_none, binary_more, binary_append, begins_first, begins_second, begins_own}
 use Rattle.bits_written.proofs.CodesLaws.{unsigned_binary}
 use Rattle.diagonal.specs.Scan.{inside, diagonal, diagonals, up_right}
-use Rattle.scaling_lists_codes.specs.Syntax.{FactorList, Defaults, none, size_id, matrix_id, positions, lists_from, scaling_list_data}
-use Rattle.scaling_lists_codes.specs.Syntax.Reading.{got}
+use Rattle.scaling_lists_codes.specs.Syntax.{Reading, FactorList, Defaults, none, size_id, matrix_id, positions, lists_from, scaling_list_data}
 use Rattle.scaling_lists_written.specs.Same.{has_dc, used_count, entry, used_list, list_at, used_lists, Writable}
 use Rattle.scaling_lists_written.specs.Written.{Form, difference, delta_from, delta_bits, full_bits, default_list, earlier, nearest, form_of, form_bits, list_bits, written_up_to, written_lists, read_list, read_lists, Whole}
 use Rattle.scaling_lists_written.specs.Written.Form.{taken, full}
@@ -38,7 +38,7 @@ module _ (lent : Defaults) (long : Whole lent) (lists : List FactorList) (writab
   begins_at k j e = rw zero-add at (begins_second (written_up_to lent lists j) (list_bits lent lists j) (begins_up_to k (suc j) (omega arith)))
 
   lists_read_lem : (k j : ℕ) → j + k ≡ 20
-      → lists_from k lent bytes (read_before lent lists j) (length (written_up_to lent lists j)) ≡ got (read_before lent lists 20) (length (written_up_to lent lists 20))
+      → lists_from k lent bytes (read_before lent lists j) (length (written_up_to lent lists j)) ≡ Ok (read_before lent lists 20, length (written_up_to lent lists 20))
   unfolding lists_from written_up_to
   lists_read_lem zero j e = let t : j ≡ 20 = omega arith in rw t
   lists_read_lem (suc k) j e =
@@ -46,7 +46,7 @@ module _ (lent : Defaults) (long : Whole lent) (lists : List FactorList) (writab
       (ap₂ (lists_from k lent bytes) (sym (tabulate_suc j (λ k. read_list lent k (list_at lists k)))) (sym (length-append (written_up_to lent lists j) (list_bits lent lists j)))
       ∙ lists_read_lem k (suc j) (omega arith))
 
-  all_read : scaling_list_data lent bytes ≡ got (read_lists lent lists) (length (written_lists lent lists))
+  all_read : scaling_list_data lent bytes ≡ Ok (read_lists lent lists, length (written_lists lent lists))
   unfolding scaling_list_data read_lists written_lists tabulate tabulate_from written_up_to
   all_read = lists_read_lem 20 0 refl
 
@@ -154,8 +154,12 @@ module _ (lent : Defaults) (a b : List FactorList) (e : used_lists a ≡ used_li
   equal_bits = up_to_eq 20 (omega arith)
 
 -- ---- equal bits mean equal lists
-same_got : {A : Type 0} (a b : A) (m n : ℕ) → got a m ≡ got b n → a ≡ b
-same_got a b m n e = cc
+abbrev value_or : {A : Type 0} → A → Reading A → A
+value_or d (Ok (v, at)) = v
+value_or d (Err e) = d
+
+same_got : {A : Type 0} (a b : A) (m n : ℕ) → ◌≡◌ {A = Reading A} (Ok (a, m)) (Ok (b, n)) → a ≡ b
+same_got a b m n e = ap (value_or a) e
 
 equal_lists : (lent : Defaults) (a b : List FactorList) → Whole lent → Writable a → Writable b → written_lists lent a ≡ written_lists lent b → used_lists a ≡ used_lists b
 equal_lists lent a b long f h e =

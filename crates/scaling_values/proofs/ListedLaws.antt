@@ -261,14 +261,14 @@ module _ (k : ListedParams) (m : ℕ) (level : ℤ) where
   limited_between a b = rw (a, b) (or_false outside)
 
 module _ {p : DequantParams} {k : ListedParams} (h : ListedFor p k) (m : ℕ) (level : ℤ) where
-  compact_value : compact_level k m level ≡ listed_level p m level
+  pub compact_value : compact_level k m level ≡ listed_level p m level
   unfolding listed_level level_by listed_result result_by
   compact_value =
       compact_clip h.compact m level
       ∙ ap (λ (z : ℤ). clip3 (negsuc 32767) (pos 32767) z) (sym (h.result m level))
       ∙ ap₂ (λ (a : ℤ) (b : ℤ). clip3 a b (listed_result p m level)) (sym h.least) (sym h.most)
 
-  compact_limited_lem : compact_limited k m level ≡ listed_limited p m level
+  pub compact_limited_lem : compact_limited k m level ≡ listed_limited p m level
   unfolding compact_limited listed_limited outside_by
   compact_limited_lem =
       ap₂ (λ (x : Bool) (y : Bool). (lt_z level (negsuc 32767) || lt_z (pos 32767) level) || (x || y))

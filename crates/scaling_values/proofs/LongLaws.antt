@@ -164,14 +164,14 @@ module _ (k : LongParams) (m : ℕ) (level : ℤ) where
 
 -- ---- the block's
 module _ {p : DequantParams} {k : LongParams} (h : LongFor p k) (m : ℕ) (level : ℤ) where
-  long_value : long_level k m level ≡ listed_level p m level
+  pub long_value : long_level k m level ≡ listed_level p m level
   unfolding listed_level level_by listed_result result_by
   long_value =
       long_clip h.long m level
       ∙ ap (λ (z : ℤ). clip3 k.least k.most z) (sym (h.result m level))
       ∙ ap₂ (λ (a : ℤ) (b : ℤ). clip3 a b (listed_result p m level)) (sym h.least) (sym h.most)
 
-  long_limited_lem : long_limited k m level ≡ listed_limited p m level
+  pub long_limited_lem : long_limited k m level ≡ listed_limited p m level
   unfolding long_limited listed_limited outside_by
   long_limited_lem =
       ap₂ (λ (x : Bool) (y : Bool). (lt_z level k.least || lt_z k.most level) || (x || y))

@@ -6,6 +6,7 @@ pub mod flat;
 pub mod level;
 pub mod listed;
 pub mod long;
+mod range;
 pub mod skip;
 
 // The coefficient of a level, whether the level was limited, and whether the result was.
@@ -16,7 +17,8 @@ pub struct ScaledLevel {
     pub result_limited: bool,
 }
 
-// The coefficient of a level in 32 bits, and 1 where the level or the result was limited.
+// The coefficient of a level in 32 bits, and 1 where the level or the result was limited: a number and no flag, since the loops add it up, and the compiler
+// adds several at once.
 #[derive(Clone, Copy)]
 pub struct FlatLevel {
     pub value: i32,

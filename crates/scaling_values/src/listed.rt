@@ -7,34 +7,8 @@ ghost use Rattle.integers.specs.Shift.{shift_right};
 ghost use Rattle.scaling_values.specs.Level.{Manageable};
 ghost use Rattle.scaling_values.specs.Listed.{compact_result, scale_by, lowered_by, raised_by, Listable, ListedFor, Compact, CompactScaled};
 
-use crate::{FlatLevel, ListedParams};
+use crate::{FlatLevel, ListedParams, range};
 use parameters::DequantParams;
-
-// A level limited to the range.
-fn limited_level(level: i32) -> i32
-    ensures { result ≡ clip3 (negsuc 32767) (pos 32767) level }
-{
-    if level < 0 - 32768 {
-        return 0 - 32768;
-    }
-    if 32767 < level {
-        return 32767;
-    }
-    level
-}
-
-// 1 where it lies outside it.
-fn outside(level: i32) -> u32
-    ensures { result ≡ cond (lt_z level (negsuc 32767) || lt_z (pos 32767) level) 1 0 }
-{
-    if level < 0 - 32768 {
-        return 1;
-    }
-    if 32767 < level {
-        return 1;
-    }
-    0
-}
 
 // What m is multiplied by.
 pub(crate) fn scale_of(by: DequantParams) -> u32
@@ -64,7 +38,7 @@ fn lowered(base: i32, down: u32) -> ListedParams
         add: 1i32 << (down - 1),
         down,
         up: 0,
-        low: 0 - 32768,
+        low: -32768,
         top: 32767,
     }
 }
@@ -79,7 +53,7 @@ fn raised(base: i32, up: u32) -> ListedParams
         add: 0,
         down: 0,
         up,
-        low: (0 - 32768) >> up,
+        low: (-32768) >> up,
         top: 32767 >> up,
     }
 }
@@ -104,7 +78,7 @@ fn compact_result(level: i32, m: u8, by: ListedParams) -> i32
     requires { Compact by }
     ensures { result ≡ compact_result by m level }
 {
-    let near = limited_level(level);
+    let near = range::limited_level(level, -32768, 32767);
     (near * ((m as i32) * by.base) + by.add) >> by.down
 }
 
@@ -116,7 +90,7 @@ pub fn scaled_compact(level: i32, m: u8, by: ListedParams) -> FlatLevel
     let shifted = compact_result(level, m, by);
     if shifted < by.low {
         return FlatLevel {
-            value: 0 - 32768,
+            value: -32768,
             limited: 1,
         };
     }
@@ -128,6 +102,6 @@ pub fn scaled_compact(level: i32, m: u8, by: ListedParams) -> FlatLevel
     }
     FlatLevel {
         value: shifted << by.up,
-        limited: outside(level),
+        limited: range::outside(level, -32768, 32767),
     }
 }

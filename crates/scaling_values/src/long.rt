@@ -9,35 +9,8 @@ ghost use Rattle.integers.specs.Within.{Within};
 ghost use Rattle.scaling_values.specs.Level.{Manageable};
 ghost use Rattle.scaling_values.specs.Long.{rest_of, long_by, PartsOf, Near, Longable, Long, LongFor, LongScaled};
 
-use crate::{FlatLevel, LongParams, Parts, listed};
+use crate::{FlatLevel, LongParams, Parts, listed, range};
 use parameters::DequantParams;
-
-// A level limited to the range.
-fn limited_level(level: i32, least: i32, most: i32) -> i32
-    requires { least ≤ℤ most }
-    ensures { result ≡ clip3 least most level }
-{
-    if level < least {
-        return least;
-    }
-    if most < level {
-        return most;
-    }
-    level
-}
-
-// 1 where it lies outside it.
-fn outside(level: i32, least: i32, most: i32) -> u32
-    ensures { result ≡ cond (lt_z level least || lt_z most level) 1 0 }
-{
-    if level < least {
-        return 1;
-    }
-    if most < level {
-        return 1;
-    }
-    0
-}
 
 // What a number has beside the multiple of 128 below it.
 fn rest_of(x: i32) -> i32
@@ -77,7 +50,7 @@ pub fn scaled_long(level: i32, m: u8, by: LongParams) -> FlatLevel
     requires { Long by }
     ensures { LongScaled by m level result }
 {
-    let near = limited_level(level, by.least, by.most);
+    let near = range::limited_level(level, by.least, by.most);
     let made = product(near, (m as i32) * by.base, by.add);
     if made.over < by.low {
         return FlatLevel {
@@ -93,7 +66,7 @@ pub fn scaled_long(level: i32, m: u8, by: LongParams) -> FlatLevel
     }
     FlatLevel {
         value: (whole(made) >> by.down) << by.up,
-        limited: outside(level, by.least, by.most),
+        limited: range::outside(level, by.least, by.most),
     }
 }
 

@@ -5,10 +5,9 @@ ghost use Rattle.std.specs.Prelude.{◌≡◌};
 ghost use Rattle.h265.specs.ScalingFactor.ScalingList.{flat, listed};
 ghost use Rattle.scaling_blocks.specs.Blocks.{bits32, dequantized, transform_skipped, CountWrites};
 
-use parameters::{QpPrime, TransformSkipAnswer};
-use refusal::Answer;
-use scaling_blocks::{CountAnswer, refuse, wide};
-use scaling_values::flat;
+use parameters::QpPrime;
+use refusal::Refusal;
+use scaling_blocks::blocks;
 
 // The coefficients of a block without a list, and how many were limited.
 pub fn dequantize_into_scalar_i32(
@@ -18,26 +17,10 @@ pub fn dequantize_into_scalar_i32(
     bit_depth: u8,
     extended_precision: bool,
     out: &mut [i32],
-) -> CountAnswer
+) -> Result<u16, Refusal>
     ensures { CountWrites result out.new (dequantized bits32 flat n qp_prime.0 bit_depth extended_precision levels.now out.old) }
 {
-    let found = refuse::block_params(
-        false,
-        n,
-        qp_prime,
-        bit_depth,
-        extended_precision,
-        64,
-        levels.len(),
-        out.len(),
-    );
-    match found {
-        TransformSkipAnswer::Params(by) => {
-            let dequant = by.dequant;
-            CountAnswer::Limited(wide::scale_flat(levels, n * n, flat::flat_params(dequant), out))
-        }
-        TransformSkipAnswer::Refused(why) => CountAnswer::Refused(why),
-    }
+    blocks::dequantize(levels, n, qp_prime, bit_depth, extended_precision, out)
 }
 
 // The coefficients of a block with a list, and how many were limited.
@@ -50,23 +33,10 @@ pub fn dequantize_scaled_into_scalar_i32(
     list: &[u8],
     dc: u8,
     out: &mut [i32],
-) -> CountAnswer
+) -> Result<u16, Refusal>
     ensures { CountWrites result out.new (dequantized bits32 (listed list.now dc) n qp_prime.0 bit_depth extended_precision levels.now out.old) }
 {
-    let checked = refuse::block_refused(
-        false,
-        n,
-        bit_depth,
-        extended_precision,
-        list.len(),
-        levels.len(),
-        out.len(),
-    );
-    if let Answer::Refused(why) = checked {
-        return CountAnswer::Refused(why);
-    }
-    CountAnswer::Limited(wide::listed_block(
-        false,
+    blocks::dequantize_scaled(
         levels,
         n,
         qp_prime,
@@ -75,7 +45,7 @@ pub fn dequantize_scaled_into_scalar_i32(
         list,
         dc,
         out,
-    ))
+    )
 }
 
 // The residuals of a block without a list, and how many of its coefficients were limited.
@@ -86,29 +56,10 @@ pub fn dequantize_transform_skip_into_scalar_i32(
     bit_depth: u8,
     extended_precision: bool,
     out: &mut [i32],
-) -> CountAnswer
+) -> Result<u16, Refusal>
     ensures { CountWrites result out.new (transform_skipped bits32 flat n qp_prime.0 bit_depth extended_precision levels.now out.old) }
 {
-    let found = refuse::block_params(
-        false,
-        n,
-        qp_prime,
-        bit_depth,
-        extended_precision,
-        64,
-        levels.len(),
-        out.len(),
-    );
-    match found {
-        TransformSkipAnswer::Params(by) => {
-            let count = n * n;
-            let dequant = by.dequant;
-            let limited = wide::scale_flat(levels, count, flat::flat_params(dequant), out);
-            wide::skip_block(count, by, out);
-            CountAnswer::Limited(limited)
-        }
-        TransformSkipAnswer::Refused(why) => CountAnswer::Refused(why),
-    }
+    blocks::transform_skip(levels, n, qp_prime, bit_depth, extended_precision, out)
 }
 
 // The residuals of a block with a list, and how many of its coefficients were limited.
@@ -121,23 +72,10 @@ pub fn dequantize_transform_skip_scaled_into_scalar_i32(
     list: &[u8],
     dc: u8,
     out: &mut [i32],
-) -> CountAnswer
+) -> Result<u16, Refusal>
     ensures { CountWrites result out.new (transform_skipped bits32 (listed list.now dc) n qp_prime.0 bit_depth extended_precision levels.now out.old) }
 {
-    let checked = refuse::block_refused(
-        false,
-        n,
-        bit_depth,
-        extended_precision,
-        list.len(),
-        levels.len(),
-        out.len(),
-    );
-    if let Answer::Refused(why) = checked {
-        return CountAnswer::Refused(why);
-    }
-    CountAnswer::Limited(wide::listed_block(
-        true,
+    blocks::transform_skip_scaled(
         levels,
         n,
         qp_prime,
@@ -146,5 +84,5 @@ pub fn dequantize_transform_skip_scaled_into_scalar_i32(
         list,
         dc,
         out,
-    ))
+    )
 }

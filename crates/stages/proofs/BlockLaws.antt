@@ -38,7 +38,7 @@ use Rattle.transform_1d.proofs.RowsLaws.{row_unique, filled_cong, filled-overwri
 use Rattle.transform_1d.proofs.MatrixLaws.{transform_line_within, Laid}
 use Rattle.coefficients.specs.Rows.{RowsUsed}
 use Rattle.stages.specs.Passes.{shifted_residual, PassNeeds, column_value, row_value}
-use Rattle.stages.specs.Fits.{clip_fits}
+use Rattle.tiles.proofs.FitLaws.{clip_fits}
 
 pub transform_line-short : (t : ℕ → ℕ → ℤ) (n k : ℕ) (y : ℕ → ℤ) (m : ℕ) → k ≤ n → ((i : ℕ) → k ≤ i → i < n → y i ≡ pos 0)
     → transform_line t n y m ≡ transform_line t k y m

@@ -1,5 +1,4 @@
 -- Laws of stage two at both widths.
---   size_abs_sum       the entries of a column of the matrix add up to at most 1862
 --   rows_unlimited     where no sum is limited, stage two writes its lines as they are
 --   stored_16          what a stage stores in 16 bits, as numbers
 --   placed_copy        a copy of the first rows, by another name of their length
@@ -9,28 +8,17 @@ use Prim.Native.Nat.{ℕ, ◌+◌, ◌-◌, ◌*◌, ◌<◌}
 use lib.Dec.{T}
 use lib.IntN.{ℤ, pos}
 use lib.ListN.{get_or, replicate}
-use lib.Signed.{◌≤ℤ◌}
 use Rattle.std.specs.Prelude.{map}
 use Rattle.std.proofs.lemmas.List.{map-id}
 use Rattle.integers.specs.Shift.{pow2, round_shift}
 use Rattle.integers.specs.Within.{Within}
-use Rattle.integers.proofs.OrderLaws.{≤ℤ_trans}
-use Rattle.h265.specs.Matrix.{trans_matrix, abs_sum}
+use Rattle.h265.specs.Matrix.{trans_matrix}
 use Rattle.h265.specs.Range.{is_size}
 use Rattle.h265.specs.Transform.{block_at}
-use Rattle.h265.proofs.RangeLaws.{size_cases}
 use Rattle.transform_1d.specs.Rows.{Placed, Filled}
 use Rattle.transform_1d.proofs.RowsLaws.{filled_cong, filled-all}
-use Rattle.transform_1d.proofs.MatrixLaws.{transform_line_within, trans_matrix-abs_sum_4, trans_matrix-abs_sum_8, trans_matrix-abs_sum_16, trans_matrix-abs_sum_32}
+use Rattle.transform_1d.proofs.MatrixLaws.{transform_line_within, size_abs_sum}
 use Rattle.tiles.specs.Tile.{line_value}
-
-pub size_abs_sum : (n : ℕ) → T (is_size n) → (m : ℕ) → m < n → abs_sum (trans_matrix n) n m ≤ℤ pos 1862
-size_abs_sum =
-    size_cases (λ (n : ℕ). (m : ℕ) → m < n → abs_sum (trans_matrix n) n m ≤ℤ pos 1862)
-    (λ m l. ≤ℤ_trans {y = pos 247} (trans_matrix-abs_sum_4 m l) (record { le = tt }))
-    (λ m l. ≤ℤ_trans {y = pos 479} (trans_matrix-abs_sum_8 m l) (record { le = tt }))
-    (λ m l. ≤ℤ_trans {y = pos 940} (trans_matrix-abs_sum_16 m l) (record { le = tt }))
-    trans_matrix-abs_sum_32
 
 module _ {n : ℕ} (s : ℕ) (d : List ℤ) (made : ℤ → ℤ) (size : T (is_size n)) (keeps : (x : ℤ) → Within 61014016 x → made (round_shift x s) ≡ round_shift x s)
     (small : (c m : ℕ) → c < n → m < n → Within 32768 (get_or d (c * n + m) (pos 0))) where

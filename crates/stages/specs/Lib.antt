@@ -1,3 +1,2 @@
 pub mod Plain
 pub mod Passes
-pub mod Fits

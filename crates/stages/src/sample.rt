@@ -3,7 +3,7 @@ ghost use Rattle.std.specs.Prelude.{◌≡◌, true, ℕ, ◌<◌, ◌≤◌, �
 ghost use Rattle.integers.specs.Shift.{round_shift};
 ghost use Rattle.integers.specs.Within.{Within};
 ghost use Rattle.h265.specs.Range.{clip_coeff};
-ghost use Rattle.stages.specs.Fits.{sums_as_they_are, sums_unlimited};
+ghost use Rattle.tiles.proofs.FitLaws.{sums_as_they_are, sums_unlimited};
 
 use tiles::Output;
 use tiles_quarter::{rest_zero, rest_zero16};

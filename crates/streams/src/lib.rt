@@ -6,6 +6,7 @@ ghost use Rattle.std.specs.Prelude.{take};
 ghost use Rattle.std.specs.Counts.{IsPrefixLen};
 ghost use Rattle.std.specs.Io.KnownBytes.{Consumes};
 
+use std::fmt::Display;
 use std::io::Read;
 
 // Writes all bytes; answers whether that could be done. If not, some may have been written.
@@ -13,9 +14,9 @@ pub fn write_all(rt: &impl Print, bytes: &[u8]) -> bool {
     rt.write_all(bytes).is_ok()
 }
 
-// The number's decimal digits; answers as `write_all`.
-pub fn print_decimal(rt: &impl Print, n: u64) -> bool {
-    rt.print(n).is_ok()
+// A value's text; answers as `write_all`.
+pub fn print<T: Display + Drop>(rt: &impl Print, value: T) -> bool {
+    rt.print(value).is_ok()
 }
 
 // Reads until the buffer is full, the input ends or a read fails; answers how many bytes stand at the buffer's start.

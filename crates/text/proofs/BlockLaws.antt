@@ -7,7 +7,7 @@ use mathlib.Core.Path.{◌≡◌, refl, sym, ap, ◌∙◌}
 use mathlib.Core.Bool.{cond}
 use mathlib.Core.List.{List, [], ◌∷◌, ◌++◌}
 use Prim.Native.Nat.{ℕ, zero, suc, ◌+◌, ◌-◌, ◌*◌, ◌≤◌, ◌<◌}
-use native.Mathlib.Nat.{suc-mul, mul-le-mul_right, sub-zero}
+use native.Mathlib.Nat.{suc-mul, zero-mul, mul-le-mul_right, sub-zero}
 use native.Mathlib.Numerals.{add-one}
 use native.Mathlib.Omega.{arith}
 use borrow.Author.Tests.{lt-ltb, le-ltb}
@@ -61,9 +61,9 @@ pub rows_all : (k n : ℕ) → k ≤ n → n ≤ k → k * n ≡ n * n
 rows_all k n h g = ap (λ (x : ℕ). x * n) (omega arith)
 
 -- ---- the rows of a block
-pub rows_start : (l : List ℕ) (i n : ℕ) (zs : List ℤ) → Left l i (block_text n zs) l i (rows_text (n - 0) n (drop 0 zs))
+pub rows_start : (l : List ℕ) (i n : ℕ) (zs : List ℤ) → Left l i (block_text n zs) l i (rows_text (n - 0) n (drop (0 * n) zs))
 unfolding block_text
-rows_start l i n zs = rw (sub-zero n) (left_start l i (rows_text n n zs))
+rows_start l i n zs = rw (sub-zero n, zero-mul n) (left_start l i (rows_text n n zs))
 
 rows_step : (zs : List ℤ) (from k n : ℕ) → k < n
     → rows_text (n - k) n (drop from zs) ≡ row_text (take n (drop from zs)) ++ rows_text (n - (k + 1)) n (drop (from + n) zs)
@@ -73,11 +73,11 @@ rows_step zs from k n h = rw (one_less, drop-drop n from zs) refl
     one_less : n - k ≡ suc (n - (k + 1))
     one_less = omega arith
 
-pub rows_more : {l t m o : List ℕ} {i j e : ℕ} (zs : List ℤ) (from k n : ℕ) → k < n → Left l i t m j (rows_text (n - k) n (drop from zs))
-    → Wrote m j (row_text (take n (drop from zs))) o e → Left l i t o e (rows_text (n - (k + 1)) n (drop (from + n) zs))
-rows_more zs from k n h g w = left_more (rw (rows_step zs from k n h) at g) w
+pub rows_more : {l t m o : List ℕ} {i j e : ℕ} (zs : List ℤ) (k n : ℕ) → k < n → Left l i t m j (rows_text (n - k) n (drop (k * n) zs))
+    → Wrote m j (row_text (take n (drop (k * n) zs))) o e → Left l i t o e (rows_text (n - (k + 1)) n (drop ((k + 1) * n) zs))
+rows_more zs k n h g w = rw (next_row k n) (left_more (rw (rows_step zs (k * n) k n h) at g) w)
 
-pub block_done : {l t m : List ℕ} {i j : ℕ} (zs : List ℤ) (n k : ℕ) → n ≤ k → Left l i t m j (rows_text (n - k) n zs) → Wrote l i t m j
+pub block_done : {l t m : List ℕ} {i j : ℕ} (zs : List ℤ) (n k : ℕ) → n ≤ k → Left l i t m j (rows_text (n - k) n (drop (k * n) zs)) → Wrote l i t m j
 unfolding rows_text
 block_done zs n k h g = left_done (rw none at g)
   where

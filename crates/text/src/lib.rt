@@ -10,13 +10,8 @@ pub fn put_bytes(bytes: &[u8], out: &mut [u8], at: usize) -> usize
     requires { at + length bytes.now ≤ length out.old }
     ensures { Wrote out.old at bytes.now out.new result }
 {
-    let mut end = at;
-    let mut i = 0;
-    while i < bytes.len() {
-        out[end] = bytes[i];
-        end += 1;
-        i += 1;
-    }
+    let end = at + bytes.len();
+    out[at..end].copy_from_slice(bytes);
     end
 }
 
@@ -61,12 +56,10 @@ pub fn put_row(values: &[i32], from: usize, n: usize, out: &mut [u8], at: usize)
     ensures { WroteUpTo out.old at (row_text (take n (drop from values.now))) out.new result (at + 12 * n) }
 {
     let mut end = at;
-    let mut i = 0;
-    while i < n {
+    for i in 0..n {
         end = put_signed(values[from + i], out, end);
         out[end] = separator(i, n);
         end += 1;
-        i += 1;
     }
     end
 }
@@ -78,12 +71,8 @@ pub fn put_block(values: &[i32], n: usize, out: &mut [u8], at: usize) -> usize
     ensures { WroteUpTo out.old at (block_text n values.now) out.new result (at + 12 * (n * n)) }
 {
     let mut end = at;
-    let mut from = 0;
-    let mut row = 0;
-    while row < n {
-        end = put_row(values, from, n, out, end);
-        from += n;
-        row += 1;
+    for row in 0..n {
+        end = put_row(values, row * n, n, out, end);
     }
     end
 }

@@ -37,7 +37,7 @@ use Rattle.h265.specs.Transform.{transform_line, block_at}
 use Rattle.h265.proofs.TransformLaws.{transform_line_cong}
 use Rattle.transform_1d.specs.Rows.{Placed, Filled}
 use Rattle.transform_1d.proofs.RowsLaws.{filled_cong, zeros-get_or}
-use Rattle.transform_1d.proofs.MatrixLaws.{transform_line_within, trans_matrix-abs_sum_4, trans_matrix-abs_sum_8, trans_matrix-abs_sum_16, trans_matrix-abs_sum_32}
+use Rattle.transform_1d.proofs.MatrixLaws.{transform_line_within}
 use Rattle.h265.proofs.RangeLaws.{size_cases}
 use Rattle.tiles.specs.Tile.{line_value}
 use Rattle.wide_parts.specs.Split.{high_of, low_of, Narrow, JoinNeeds}
@@ -170,14 +170,6 @@ joined_rows {n} {f} {g} {e} {r} by {zs} {hs} {xs} {ys} {os} o p q j v =
     }
 
 -- ---- what the stages' proofs cite
-pub size_abs_sum : (n : ℕ) → T (is_size n) → (j : ℕ) → j < n → abs_sum (trans_matrix n) n j ≤ℤ pos 1862
-size_abs_sum =
-    size_cases (λ n. (j : ℕ) → j < n → abs_sum (trans_matrix n) n j ≤ℤ pos 1862)
-    (λ j l. ≤ℤ_trans {y = pos 247} (trans_matrix-abs_sum_4 j l) (record { le = tt }))
-    (λ j l. ≤ℤ_trans {y = pos 479} (trans_matrix-abs_sum_8 j l) (record { le = tt }))
-    (λ j l. ≤ℤ_trans {y = pos 940} (trans_matrix-abs_sum_16 j l) (record { le = tt }))
-    trans_matrix-abs_sum_32
-
 pub parts-rows : (n r s : ℕ) {w : ℕ} (xs : List ℤ) {h l : List ℤ} {b : ℤ} → 15 ≤ r → r ≤ s + 15 → b ≡ pow2 (s - 1)
     → Placed 0 w (λ j. high_of (r - 15) (get_or xs j (pos 0))) (replicate w (pos 0)) h → Placed 0 w (λ j. low_of (r - 15) (get_or xs j (pos 0))) (replicate w (pos 0)) l
     → (c m : ℕ) → line_value n (pow2 (s - 1)) s (limited_list r w xs) c m ≡ shift_right (line_value n b (r - 15) l c m +ℤ line_value n (pos 0) 0 h c m) (s + 15 - r)

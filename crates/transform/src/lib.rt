@@ -6,7 +6,7 @@ ghost use Rattle.refusal.specs.Written.{Writes};
 ghost use Rattle.transform_1d.specs.declared.Kind.TheVariants.{Dct, Dst};
 ghost use Rattle.transform_blocks.specs.Blocks.{bits16, bits32, plain_range, extended_range, inverted};
 
-use refusal::Answer;
+use refusal::Refusal;
 use transform_1d::Kind;
 
 // The inverse DCT of a block, plain range.
@@ -16,7 +16,7 @@ pub fn inv_transform_into_scalar(
     bit_depth: u8,
     nx: usize,
     out: &mut [i32],
-) -> Answer
+) -> Result<(), Refusal>
     ensures { Writes result out.new (inverted bits32 Dct n bit_depth plain_range nx coeff.now out.old) }
 {
     transform_blocks::invert_32(Kind::Dct, n, bit_depth, false, nx, coeff, out)
@@ -29,7 +29,7 @@ pub fn inv_transform_into_scalar_extended(
     bit_depth: u8,
     nx: usize,
     out: &mut [i32],
-) -> Answer
+) -> Result<(), Refusal>
     ensures { Writes result out.new (inverted bits32 Dct n bit_depth extended_range nx coeff.now out.old) }
 {
     transform_blocks::invert_32(Kind::Dct, n, bit_depth, true, nx, coeff, out)
@@ -42,14 +42,18 @@ pub fn inv_transform_into_scalar16(
     bit_depth: u8,
     nx: usize,
     out: &mut [i16],
-) -> Answer
+) -> Result<(), Refusal>
     ensures { Writes result out.new (inverted bits16 Dct n bit_depth plain_range nx coeff.now out.old) }
 {
     transform_blocks::invert_16(Kind::Dct, n, bit_depth, nx, coeff, out)
 }
 
 // The inverse 4×4 DST, plain range; it reads all four columns.
-pub fn inv_transform_dst_into_scalar(coeff: &[i32], bit_depth: u8, out: &mut [i32]) -> Answer
+pub fn inv_transform_dst_into_scalar(
+    coeff: &[i32],
+    bit_depth: u8,
+    out: &mut [i32],
+) -> Result<(), Refusal>
     ensures { Writes result out.new (inverted bits32 Dst 4 bit_depth plain_range 4 coeff.now out.old) }
 {
     transform_blocks::invert_32(Kind::Dst, 4, bit_depth, false, 4, coeff, out)
@@ -60,14 +64,18 @@ pub fn inv_transform_dst_into_scalar_extended(
     coeff: &[i32],
     bit_depth: u8,
     out: &mut [i32],
-) -> Answer
+) -> Result<(), Refusal>
     ensures { Writes result out.new (inverted bits32 Dst 4 bit_depth extended_range 4 coeff.now out.old) }
 {
     transform_blocks::invert_32(Kind::Dst, 4, bit_depth, true, 4, coeff, out)
 }
 
 // The inverse 4×4 DST, 16 bits wide.
-pub fn inv_transform_dst_into_scalar16(coeff: &[i16], bit_depth: u8, out: &mut [i16]) -> Answer
+pub fn inv_transform_dst_into_scalar16(
+    coeff: &[i16],
+    bit_depth: u8,
+    out: &mut [i16],
+) -> Result<(), Refusal>
     ensures { Writes result out.new (inverted bits16 Dst 4 bit_depth plain_range 4 coeff.now out.old) }
 {
     transform_blocks::invert_16(Kind::Dst, 4, bit_depth, 4, coeff, out)

@@ -2,6 +2,7 @@
 --   transform_line_within     |line| ≤ (sum of the absolute entries) × B, for data of at most B in size
 --   transform_line_cong       lines over matrices and data that agree
 --   transMatrix-absSum, dst_matrix-abs_sum   247, 479, 940, 1862 for n = 4, 8, 16, 32, and 242
+--   size_abs_sum   1862 for every size
 --   trans_matrix_mirror_32   the right half of a matrix mirrors the left
 --   Laid, laid, laid_32      all that a block needs of a layout: length, small entries, the matrix that it reads back as
 use mathlib.Core.Path.{◌≡◌, refl, sym, ap, ap₂, subst}
@@ -18,11 +19,13 @@ use mir.Facts.{and_yes}
 use Rattle.integers.specs.Sum.{sum}
 use Rattle.integers.specs.Within.{Within}
 use Rattle.integers.proofs.LinearLaws.{le_in}
-use Rattle.integers.proofs.OrderLaws.{≤ℤ_antisym}
+use Rattle.integers.proofs.OrderLaws.{≤ℤ_antisym, ≤ℤ_trans}
 use Rattle.integers.proofs.MachineLaws.{abs_add, abs_mul}
 use Rattle.integers.proofs.SumLaws.{sum_cong}
 use Rattle.h265.specs.Matrix.{folding_values, folding, folded_entry, folded_angle, trans_matrix32, trans_matrix, dst_entries, dst_matrix, abs_sum}
+use Rattle.h265.specs.Range.{is_size}
 use Rattle.h265.specs.Transform.{transform_line}
+use Rattle.h265.proofs.RangeLaws.{size_cases}
 use Rattle.integers.proofs.TestLaws.{all_below, all_below_at}
 use Rattle.transform_1d.specs.Lanes.{lanes, mirrored, lane_matrix, SmallEntries}
 use Rattle.transform_1d.proofs.LanesLaws.{lanes-length, lane_matrix-lanes, lanes_small, trans_matrix_within}
@@ -87,6 +90,15 @@ trans_matrix-abs_sum_16 = abs_sum_of (trans_matrix 16) 16 940 tt
 pub trans_matrix-abs_sum_32 : (m : ℕ) → m < 32 → abs_sum (trans_matrix 32) 32 m ≤ℤ pos 1862
 unfolding all_below abs_sum sum trans_matrix trans_matrix32 folded_entry folded_angle folding folding_values
 trans_matrix-abs_sum_32 = abs_sum_of (trans_matrix 32) 32 1862 tt
+
+-- the entries of a column of any size
+pub size_abs_sum : (n : ℕ) → T (is_size n) → (m : ℕ) → m < n → abs_sum (trans_matrix n) n m ≤ℤ pos 1862
+size_abs_sum =
+    size_cases (λ (n : ℕ). (m : ℕ) → m < n → abs_sum (trans_matrix n) n m ≤ℤ pos 1862)
+    (λ m l. ≤ℤ_trans {y = pos 247} (trans_matrix-abs_sum_4 m l) (record { le = tt }))
+    (λ m l. ≤ℤ_trans {y = pos 479} (trans_matrix-abs_sum_8 m l) (record { le = tt }))
+    (λ m l. ≤ℤ_trans {y = pos 940} (trans_matrix-abs_sum_16 m l) (record { le = tt }))
+    trans_matrix-abs_sum_32
 
 pub dst_matrix-abs_sum : (m : ℕ) → m < 4 → abs_sum dst_matrix 4 m ≤ℤ pos 242
 unfolding all_below abs_sum sum dst_matrix dst_entries

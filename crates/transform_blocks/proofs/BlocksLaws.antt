@@ -1,12 +1,15 @@
--- The ladder of `inverted`, step by step, and a column count above the size.
+-- The ladder of `inverted`, and a column count above the size.
 --   writes_refused           a refusal leaves the output as lent
 --   of_dct                   a DCT has any size
 --   Checked                  no condition before row 9 holds
---   inverted_size .. -output, -outside, -done   what each step answers
+--   rungs                    the conditions of the ladder
+--   ladder_refused, ladder_passed   what an answer of the ladder says
+--   inverted_outside, inverted_done   what each step below it answers
 --   residual_least, first_outside_least          a count above n means n
-use mathlib.Core.Path.{◌≡◌, sym, ap, ◌∙◌}
-use mathlib.Core.Bool.{Bool, true, false, ◌&&◌, cond}
-use mathlib.Core.List.{List}
+use Rattle.std.specs.Prelude.{Ok, Err}
+use mathlib.Core.Path.{◌≡◌, refl, sym, ap, ◌∙◌}
+use mathlib.Core.Bool.{Bool, false, ◌&&◌, cond}
+use mathlib.Core.List.{List, [], ◌∷◌}
 use Prim.Native.Nat.{ℕ, ◌*◌, ◌%◌, min, ◌≤◌, ◌<◌}
 use native.Mathlib.Decide.{dec_lt}
 use native.Mathlib.Omega.{arith}
@@ -20,21 +23,23 @@ use Rattle.integers.proofs.SearchLaws.{first_where_cong}
 use Rattle.h265.specs.Range.{transform_range, outside_range}
 use Rattle.h265.specs.Transform.{block_at, row_order, columns_read, stage_two_shift, residual}
 use Rattle.h265.proofs.TransformLaws.{intermediate_cong, stage_two_cong, cell_column, row_order_cong}
-use Rattle.refusal.specs.declared.Answer.TheVariants.{Done, Refused}
 use Rattle.refusal.specs.declared.Refusal.{Refusal}
 use Rattle.refusal.specs.declared.Refusal.TheVariants.{SizeInvalid, DepthInvalid, WidthTooNarrow, InputTooShort, OutputTooShort}
 use Rattle.refusal.specs.Condition.{size_refused, depth_refused, width_refused, block_refused}
+use Rattle.refusal.specs.Outcome.{accepted, refused, answer}
 use Rattle.refusal.specs.Written.{Written, left, wrote, Writes}
+use Rattle.refusal.proofs.LadderLaws.{Rung, first_accepted, first_refused}
+use Rattle.refusal.proofs.LadderLaws.Rung.{rung}
 use Rattle.coefficients.specs.Outside.{outside_at, first_outside, refusal_at}
 use Rattle.transform_1d.specs.declared.Kind.{Kind}
 use Rattle.transform_1d.specs.declared.Kind.TheVariants.{Dct}
 use Rattle.transform_1d.specs.MatrixOf.{matrix_of}
-use Rattle.transform_blocks.specs.Blocks.{inverted, OfKind}
+use Rattle.transform_blocks.specs.Blocks.{block_ladder, inverted, OfKind}
 
-pub writes_refused : {w : Written} {out : List ℤ} (e : Refusal) → w ≡ left out e → Writes (Refused e) out w
+pub writes_refused : {w : Written} {out : List ℤ} (e : Refusal) → w ≡ left out e → Writes (Err e) out w
 writes_refused e h = record { answered = sym (ap (λ (v : Written). v.answer) h); out = sym (ap (λ (v : Written). v.out) h) }
 
-pub writes_done : {w : Written} {out : List ℤ} → w ≡ wrote out → Writes Done out w
+pub writes_done : {w : Written} {out : List ℤ} → w ≡ wrote out → Writes (Ok tt) out w
 writes_done h = record { answered = sym (ap (λ (v : Written). v.answer) h); out = sym (ap (λ (v : Written). v.out) h) }
 
 -- the DCT has any size
@@ -48,26 +53,31 @@ pub record Checked (narrow : Bool) (n b : ℕ) (x : Bool) (coeff out : ℕ) : Ty
   pub input : block_refused n coeff ≡ false
   pub output : block_refused n out ≡ false
 
+-- the conditions of the ladder
+abbrev rungs : Bool → ℕ → ℕ → Bool → ℕ → ℕ → List Rung
+rungs narrow n b x coeff out =
+    rung (size_refused n) SizeInvalid
+    ∷ rung (depth_refused b) DepthInvalid
+    ∷ rung (narrow && width_refused b x) WidthTooNarrow
+    ∷ rung (block_refused n coeff) InputTooShort
+    ∷ rung (block_refused n out) OutputTooShort
+    ∷ []
+
 module _ (narrow : Bool) (kind : Kind) (n b : ℕ) (x : Bool) (nx : ℕ) (coeff out : List ℤ) where
-  pub inverted_size : size_refused n ≡ true → inverted narrow kind n b x nx coeff out ≡ left out SizeInvalid
+  pub ladder_refused : (e : Refusal) → answer (Err e) ≡ block_ladder (refused tt) (accepted tt) narrow n b x (length coeff) (length out)
+      → Writes (Err e) out (inverted narrow kind n b x nx coeff out)
   unfolding inverted
-  inverted_size s = rw s
+  ladder_refused e h =
+      let r = transform_range b x in
+      let first = first_outside r n nx coeff in
+      first_refused tt tt (left out)
+      (cond (ltb first (n * n)) (left out (refusal_at r n coeff first)) (wrote (overwrite (n * n) (row_order n (residual (matrix_of kind n) n b r nx coeff)) out)))
+      (λ w. Writes (Err e) out w) e (λ f k. record { answered = k; out = refl }) (rungs narrow n b x (length coeff) (length out)) h
 
-  pub inverted_depth : size_refused n ≡ false → depth_refused b ≡ true → inverted narrow kind n b x nx coeff out ≡ left out DepthInvalid
-  unfolding inverted
-  inverted_depth s d = rw (s, d)
-
-  pub inverted_width : size_refused n ≡ false → depth_refused b ≡ false → narrow && width_refused b x ≡ true → inverted narrow kind n b x nx coeff out ≡ left out WidthTooNarrow
-  unfolding inverted
-  inverted_width s d w = rw (s, d, w)
-
-  pub inverted_input : size_refused n ≡ false → depth_refused b ≡ false → narrow && width_refused b x ≡ false → block_refused n (length coeff) ≡ true → inverted narrow kind n b x nx coeff out ≡ left out InputTooShort
-  unfolding inverted
-  inverted_input s d w i = rw (s, d, w, i)
-
-  pub inverted_output : size_refused n ≡ false → depth_refused b ≡ false → narrow && width_refused b x ≡ false → block_refused n (length coeff) ≡ false → block_refused n (length out) ≡ true → inverted narrow kind n b x nx coeff out ≡ left out OutputTooShort
-  unfolding inverted
-  inverted_output s d w i o = rw (s, d, w, i, o)
+  pub ladder_passed : answer (Ok tt) ≡ block_ladder (refused tt) (accepted tt) narrow n b x (length coeff) (length out) → Checked narrow n b x (length coeff) (length out)
+  ladder_passed h =
+      let p = (first_accepted tt tt tt (rungs narrow n b x (length coeff) (length out)) h).0 in
+      record { size = p.0; depth = p.1.0; width = p.1.1.0; input = p.1.1.1.0; output = p.1.1.1.1.0 }
 
   pub inverted_outside : (first : ℕ) → Checked narrow n b x (length coeff) (length out) → first_outside (transform_range b x) n nx coeff ≡ first → first < n * n
       → inverted narrow kind n b x nx coeff out ≡ left out (refusal_at (transform_range b x) n coeff first)

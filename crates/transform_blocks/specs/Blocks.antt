@@ -1,6 +1,7 @@
 -- Whole blocks, refused calls included. docs/RULES.md, "Inverse transforms", and rows 1, 2, 3, 6, 7, 9, 19 of its table.
 -- Letters: n size, b depth, x extended precision, nx column count.
 --   bits16, bits32, plain_range, extended_range   names of the flags
+--   block_ladder stop go narrow n b x coeff out   the conditions before row 9, lowest number first
 --   inverted narrow kind n b x nx coeff out   what a transform answers and what its output holds afterwards; `narrow`: 16-bit output
 --   OfKind kind n                             what the functions below the refusals rely on: the DST has four points
 --   InRange                                   size, kind, depth, range and lengths are right, and the coefficients read lie in the range
@@ -11,6 +12,7 @@ use Rattle.std.proofs.Common.{SFits}
 use Rattle.integers.specs.Lists.{overwrite}
 use Rattle.h265.specs.Range.{is_size, transform_range, outside_range}
 use Rattle.h265.specs.Transform.{row_order, residual}
+use Rattle.refusal.specs.declared.Refusal.{Refusal}
 use Rattle.refusal.specs.declared.Refusal.TheVariants.{SizeInvalid, DepthInvalid, WidthTooNarrow, InputTooShort, OutputTooShort}
 use Rattle.refusal.specs.Condition.{size_refused, depth_refused, width_refused, block_refused}
 use Rattle.refusal.specs.Written.{Written, left, wrote}
@@ -33,17 +35,23 @@ plain_range = false
 abbrev pub extended_range : Bool
 extended_range = true
 
+-- by the lengths of the buffers; `stop` makes something of a refusal
+abbrev pub block_ladder : {A : Type 0} → (Refusal → A) → A → Bool → ℕ → ℕ → Bool → ℕ → ℕ → A
+block_ladder stop go narrow n b x coeff out =
+    cond (size_refused n) (stop SizeInvalid)
+    (cond (depth_refused b) (stop DepthInvalid)
+    (cond (narrow && width_refused b x) (stop WidthTooNarrow)
+    (cond (block_refused n coeff) (stop InputTooShort)
+    (cond (block_refused n out) (stop OutputTooShort) go))))
+
 unfoldable pub inverted : Bool → Kind → ℕ → ℕ → Bool → ℕ → List ℤ → List ℤ → Written
 inverted narrow kind n b x nx coeff out =
     let r : ℕ = transform_range b x in
     let first : ℕ = first_outside r n nx coeff in
-    cond (size_refused n) (left out SizeInvalid)
-    (cond (depth_refused b) (left out DepthInvalid)
-    (cond (narrow && width_refused b x) (left out WidthTooNarrow)
-    (cond (block_refused n (length coeff)) (left out InputTooShort)
-    (cond (block_refused n (length out)) (left out OutputTooShort)
+    block_ladder (left out)
     (cond (ltb first (n * n)) (left out (refusal_at r n coeff first))
-    (wrote (overwrite (n * n) (row_order n (residual (matrix_of kind n) n b r nx coeff)) out)))))))
+    (wrote (overwrite (n * n) (row_order n (residual (matrix_of kind n) n b r nx coeff)) out)))
+    narrow n b x (length coeff) (length out)
 
 pub record OfKind (kind : Kind) (n : ℕ) : Type 0 where
   pub dst : kind ≡ Dst → n ≡ 4

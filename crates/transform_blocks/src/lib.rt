@@ -2,32 +2,53 @@
 // Internal: callers meet each `requires`.
 #![tactic(auto)]
 
-ghost use Rattle.std.specs.Prelude.{◌≡◌, true, false, min, ◌*◌, ◌≤◌, length};
+ghost use Rattle.std.specs.Prelude.{◌≡◌, true, false, ◌*◌, ◌≤◌, length};
 ghost use Rattle.integers.specs.Lists.{overwrite};
 ghost use Rattle.h265.specs.Transform.{row_order, residual};
+ghost use Rattle.refusal.specs.Outcome.{answer, accepted, refused};
 ghost use Rattle.refusal.specs.Written.{Writes};
 ghost use Rattle.transform_1d.specs.MatrixOf.{matrix_of};
-ghost use Rattle.transform_blocks.specs.Blocks.{inverted, OfKind, Fit16, InRange, bits16, bits32, plain_range};
+ghost use Rattle.transform_blocks.specs.Blocks.{block_ladder, inverted, OfKind, Fit16, InRange, bits16, bits32, plain_range};
 
-use refusal::{Answer, Refusal};
+use refusal::Refusal;
 use transform_1d::Kind;
 
-// A count above n means n.
-fn least(nx: usize, n: usize) -> usize
-    ensures { result ≡ min nx n }
+// The refusals of both widths, lowest number first, by the lengths of the buffers. Row 3 is of 16-bit output alone.
+fn block_refusal(
+    narrow: bool,
+    n: usize,
+    bit_depth: u8,
+    extended_precision: bool,
+    coeff: usize,
+    out: usize,
+) -> Result<(), Refusal>
+    ensures { answer result ≡ block_ladder (refused tt) (accepted tt) narrow n bit_depth extended_precision coeff out }
 {
-    if nx < n { nx } else { n }
+    if refusal::size_refused(n) {
+        return Err(Refusal::SizeInvalid);
+    }
+    if refusal::depth_refused(bit_depth) {
+        return Err(Refusal::DepthInvalid);
+    }
+    if narrow && refusal::width_refused(bit_depth, extended_precision) {
+        return Err(Refusal::WidthTooNarrow);
+    }
+    if coeff < n * n {
+        return Err(Refusal::InputTooShort);
+    }
+    if out < n * n {
+        return Err(Refusal::OutputTooShort);
+    }
+    Ok(())
 }
 
-// Reads each element, since only what is read is known to fit its type. The loop does nothing, and the compiler leaves it out.
+// Reads each element: of a slice of signed numbers, only what is read is known to fit its type. The loop does nothing, and the compiler leaves it out.
 fn elements_fit(xs: &[i16], len: usize)
     requires { len ≤ length xs.now }
     ensures { Fit16 len xs.now }
 {
-    let mut i: usize = 0;
-    while i < len {
+    for i in 0..len {
         let _value = xs[i];
-        i += 1;
     }
 }
 
@@ -39,28 +60,14 @@ pub fn invert_16(
     nx: usize,
     coeff: &[i16],
     out: &mut [i16],
-) -> Answer
+) -> Result<(), Refusal>
     requires { OfKind kind n }
     ensures { Writes result out.new (inverted bits16 kind n bit_depth plain_range nx coeff.now out.old) }
 {
-    if refusal::size_refused(n) {
-        return Answer::Refused(Refusal::SizeInvalid);
-    }
-    if refusal::depth_refused(bit_depth) {
-        return Answer::Refused(Refusal::DepthInvalid);
-    }
-    if refusal::width_refused(bit_depth, false) {
-        return Answer::Refused(Refusal::WidthTooNarrow);
-    }
-    if coeff.len() < n * n {
-        return Answer::Refused(Refusal::InputTooShort);
-    }
-    if out.len() < n * n {
-        return Answer::Refused(Refusal::OutputTooShort);
-    }
+    block_refusal(true, n, bit_depth, false, coeff.len(), out.len())?;
     elements_fit(coeff, n * n);
-    stages::residual_plain16(kind, n, bit_depth, least(nx, n), coeff, out);
-    Answer::Done
+    stages::residual_plain16(kind, n, bit_depth, nx.min(n), coeff, out);
+    Ok(())
 }
 
 // Both stages in the range given; the plain range has its own, on 16-bit data.
@@ -92,28 +99,24 @@ pub fn invert_32(
     nx: usize,
     coeff: &[i32],
     out: &mut [i32],
-) -> Answer
+) -> Result<(), Refusal>
     requires { OfKind kind n }
     ensures { Writes result out.new (inverted bits32 kind n bit_depth extended_precision nx coeff.now out.old) }
 {
-    if refusal::size_refused(n) {
-        return Answer::Refused(Refusal::SizeInvalid);
-    }
-    if refusal::depth_refused(bit_depth) {
-        return Answer::Refused(Refusal::DepthInvalid);
-    }
-    if coeff.len() < n * n {
-        return Answer::Refused(Refusal::InputTooShort);
-    }
-    if out.len() < n * n {
-        return Answer::Refused(Refusal::OutputTooShort);
-    }
+    block_refusal(
+        false,
+        n,
+        bit_depth,
+        extended_precision,
+        coeff.len(),
+        out.len(),
+    )?;
     let range = coefficients::transform_range(bit_depth, extended_precision);
-    let columns = least(nx, n);
+    let columns = nx.min(n);
     let first = coefficients::first_outside(coeff, n, columns, range);
     if first < n * n {
-        return Answer::Refused(coefficients::refusal_at(coeff, n, first, range));
+        return Err(coefficients::refusal_at(coeff, n, first, range));
     }
     invert_in(kind, n, bit_depth, range, columns, coeff, out);
-    Answer::Done
+    Ok(())
 }

@@ -4,66 +4,107 @@
 // the output. tests/transform_cases.py writes cases and text.
 #![tactic(auto)]
 
-use refusal::Answer;
+use refusal::Refusal;
 use std::io::Read;
+
+// The function that a case is of, by its number.
+#[derive(Clone, Copy)]
+enum Function {
+    Wide(Wide),
+    Narrow(Narrow),
+}
+
+#[derive(Clone, Copy)]
+enum Wide {
+    Dct,
+    DctExtended,
+    Dst,
+    DstExtended,
+}
+
+#[derive(Clone, Copy)]
+enum Narrow {
+    Dct,
+    Dst,
+}
+
+// A number that a case gives no function.
+#[derive(Clone, Copy)]
+struct UnknownFunction;
+
+impl TryFrom<u8> for Function {
+    type Error = UnknownFunction;
+
+    fn try_from(number: u8) -> Result<Function, UnknownFunction> {
+        match number {
+            0 => Ok(Function::Wide(Wide::Dct)),
+            1 => Ok(Function::Wide(Wide::DctExtended)),
+            2 => Ok(Function::Wide(Wide::Dst)),
+            3 => Ok(Function::Wide(Wide::DstExtended)),
+            4 => Ok(Function::Narrow(Narrow::Dct)),
+            5 => Ok(Function::Narrow(Narrow::Dst)),
+            _ => Err(UnknownFunction),
+        }
+    }
+}
 
 #[derive(Clone, Copy)]
 struct Case {
-    which: u8,
     n: usize,
     nx: usize,
     bit_depth: u8,
 }
 
-fn call_wide(case: Case, coeff: &[i32], out: &mut [i32]) -> Answer {
-    let which = case.which;
+fn call_wide(what: Wide, case: Case, coeff: &[i32], out: &mut [i32]) -> Result<(), Refusal> {
     let n = case.n;
     let nx = case.nx;
     let depth = case.bit_depth;
-    match which {
-        0 => transform::inv_transform_into_scalar(coeff, n, depth, nx, out),
-        1 => transform::inv_transform_into_scalar_extended(coeff, n, depth, nx, out),
-        2 => transform::inv_transform_dst_into_scalar(coeff, depth, out),
-        _ => transform::inv_transform_dst_into_scalar_extended(coeff, depth, out),
+    match what {
+        Wide::Dct => transform::inv_transform_into_scalar(coeff, n, depth, nx, out),
+        Wide::DctExtended => transform::inv_transform_into_scalar_extended(
+            coeff, n, depth, nx, out,
+        ),
+        Wide::Dst => transform::inv_transform_dst_into_scalar(coeff, depth, out),
+        Wide::DstExtended => transform::inv_transform_dst_into_scalar_extended(coeff, depth, out),
     }
 }
 
-fn call_narrow(case: Case, coeff: &[i16], out: &mut [i16]) -> Answer {
+fn call_narrow(what: Narrow, case: Case, coeff: &[i16], out: &mut [i16]) -> Result<(), Refusal> {
     let n = case.n;
     let nx = case.nx;
     let depth = case.bit_depth;
-    if case.which == 4 {
-        return transform::inv_transform_into_scalar16(coeff, n, depth, nx, out);
+    match what {
+        Narrow::Dct => transform::inv_transform_into_scalar16(coeff, n, depth, nx, out),
+        Narrow::Dst => transform::inv_transform_dst_into_scalar16(coeff, depth, out),
     }
-    transform::inv_transform_dst_into_scalar16(coeff, depth, out)
 }
 
-fn show_wide(rt: &impl Print, case: Case, coeff: &[i32], out: &mut [i32]) {
-    cases::put_answer(rt, call_wide(case, coeff, out));
-    cases::put_wide(rt, out);
+fn show_wide(rt: &impl Print, what: Wide, case: Case, coeff: &[i32], out: &mut [i32]) {
+    cases::put_answer(rt, call_wide(what, case, coeff, out));
+    cases::put_all(rt, out);
 }
 
-fn show_narrow(rt: &impl Print, case: Case, coeff: &[i16], out: &mut [i16]) {
-    cases::put_answer(rt, call_narrow(case, coeff, out));
-    cases::put_narrow(rt, out);
+fn show_narrow(rt: &impl Print, what: Narrow, case: Case, coeff: &[i16], out: &mut [i16]) {
+    cases::put_answer(rt, call_narrow(what, case, coeff, out));
+    cases::put_all(rt, out);
 }
 
-fn wide(rt: &impl Print, stdin: &mut impl Read, case: Case) {
+fn run_wide(rt: &impl Print, stdin: &mut impl Read, what: Wide, case: Case) {
     let mut coeff = [0i32; 1024];
     let mut out = [7i32; 1040];
     let count = cases::next_length(stdin, 1024);
-    cases::read_first_wide(stdin, count, &mut coeff);
+    cases::read_first(stdin, count, &mut coeff);
     let len = cases::next_length(stdin, 1040);
-    show_wide(rt, case, &coeff[0..count], &mut out[0..len]);
+    show_wide(rt, what, case, &coeff[0..count], &mut out[0..len]);
 }
 
-fn narrow(rt: &impl Print, stdin: &mut impl Read, case: Case) {
+fn run_narrow(rt: &impl Print, stdin: &mut impl Read, what: Narrow, case: Case) {
     let mut coeff = [0i16; 1024];
     let mut out = [7i16; 1040];
     let count = cases::next_length(stdin, 1024);
-    cases::read_first_narrow(stdin, count, &mut coeff);
+    cases::read_first(stdin, count, &mut coeff);
     let len = cases::next_length(stdin, 1040);
-    show_narrow(rt, case, &coeff[0..count], &mut out[0..len]);
+    show_narrow(rt, what, case, &coeff[0..count], &mut out[0..len]);
 }
 
 // One case; answers whether there was one.
@@ -71,20 +112,17 @@ fn replay(rt: &impl Print, stdin: &mut impl Read) -> bool {
     if !cases::copy_text(rt, stdin) {
         return false;
     }
-    let which = cases::next_byte(stdin);
-    let n = cases::next_word(stdin);
-    let nx = cases::next_word(stdin);
-    let bit_depth = cases::next_byte(stdin);
-    let case = Case {
-        which,
-        n,
-        nx,
-        bit_depth,
+    let Ok(function) = Function::try_from(cases::next::<u8>(stdin)) else {
+        return false;
     };
-    if which < 4 {
-        wide(rt, stdin, case);
-    } else {
-        narrow(rt, stdin, case);
+    let case = Case {
+        n: cases::next(stdin),
+        nx: cases::next(stdin),
+        bit_depth: cases::next(stdin),
+    };
+    match function {
+        Function::Wide(what) => run_wide(rt, stdin, what, case),
+        Function::Narrow(what) => run_narrow(rt, stdin, what, case),
     }
     cases::put_end(rt);
     true
@@ -92,8 +130,9 @@ fn replay(rt: &impl Print, stdin: &mut impl Read) -> bool {
 
 fn main(rt: HostRuntime) {
     let mut stdin = rt.stdin();
-    let mut turns = u64::MAX;
-    while turns > 0 && replay(&rt, &mut stdin) {
-        turns -= 1;
+    for _ in 0..u64::MAX {
+        if !replay(&rt, &mut stdin) {
+            break;
+        }
     }
 }

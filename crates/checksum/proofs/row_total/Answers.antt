@@ -26,16 +26,16 @@ run_total-run-requires c =
     let m = c in
     let l = m in
     let s = l in (
-      omega (arith, c.run_length-count.ensures),
+      omega (arith, c.min-count.ensures),
       rw m.xor_mask-mask.ensures (xor_mask_lt l.loop-x.x s.args.y (omega arith) s.ranges.y.fits),
-      omega (arith, c.run_length-count.ensures),
+      omega (arith, c.min-count.ensures),
     )
 
 pub overflow_cast-sum : goal.overflow_cast-sum
-overflow_cast-sum c = omega (arith, c.run_total-run.ensures.1, c.run_length-count.ensures)
+overflow_cast-sum c = omega (arith, c.run_total-run.ensures.1, c.min-count.ensures)
 
 pub overflow_add-sum : goal.overflow_add-sum
-overflow_add-sum c = omega (arith, c.run_total-run.ensures.1, c.run_length-count.ensures)
+overflow_add-sum c = omega (arith, c.run_total-run.ensures.1, c.min-count.ensures)
 
 pub overflow_add-x : goal.overflow_add-x
 overflow_add-x c = omega arith
@@ -54,16 +54,16 @@ next_is c =
     let x = l.loop-x.x in
     let f = column_term a.bit_depth a.first a.y a.plane.now in
     let whole : min x a.width ≡ x = omega arith in
-    let next : x + n.run_length-count.result ≡ min (x + 128) a.width = omega (arith, n.run_length-count.ensures) in
+    let next : x + n.min-count.result ≡ min (x + 128) a.width = omega (arith, n.min-count.ensures) in
     ap₂ ◌+◌ (l.loop-x.invariant.0 ∙ ap (λ (k : ℕ). total k f) whole)
     (c.run_total-run.ensures.0
-    ∙ total_cong n.run_length-count.result _ (λ k. f (x + k))
-    (λ k h. run_term_eq a.bit_depth a.first x a.y k a.plane.now m.xor_mask-mask.ensures l.loop-x.invariant.2 (omega (arith, n.run_length-count.ensures))))
-    ∙ sym (total_add x n.run_length-count.result f)
+    ∙ total_cong n.min-count.result _ (λ k. f (x + k))
+    (λ k h. run_term_eq a.bit_depth a.first x a.y k a.plane.now m.xor_mask-mask.ensures l.loop-x.invariant.2 (omega (arith, n.min-count.ensures))))
+    ∙ sym (total_add x n.min-count.result f)
     ∙ ap (λ (k : ℕ). total k f) next
 
 pub loop-x-preserved : goal.loop-x-preserved
-loop-x-preserved c = (next_is c, omega (arith, c.run_total-run.ensures.1, c.run_length-count.ensures), omega arith, omega arith)
+loop-x-preserved c = (next_is c, omega (arith, c.run_total-run.ensures.1, c.min-count.ensures), omega arith, omega arith)
 
 pub returns : goal.returns
 unfolding row_total

@@ -26,15 +26,6 @@ row_total-row-requires c =
     let s = c in
     (s.requires.0, omega (arith, row_below c.loop-y.y s.args.height s.args.stride c.loop-y-test.true))
 
-pub wrapping_add_u32-next-requires : goal.wrapping_add_u32-next-requires
-wrapping_add_u32-next-requires c = tt
-
-pub overflow_add-y : goal.overflow_add-y
-overflow_add-y c = omega arith
-
-pub loop-y-smaller : goal.loop-y-smaller
-loop-y-smaller c = omega arith
-
 pub returns : goal.returns
 unfolding picture_checksum
 returns c =
@@ -48,8 +39,7 @@ loop-y-preserved c =
     let l = r in
     let a = l.args in
     let f : ℕ → ℕ = λ k. row_total a.bit_depth a.width (k * a.stride) k a.plane.now in (
-      c.wrapping_add_u32-next.ensures.value
-          ∙ ap₂ (λ (s t : ℕ). (s + t) % 2 ^ 32) l.loop-y.invariant.0 r.row_total-row.ensures
+      ap₂ (λ (s t : ℕ). (s + t) % 2 ^ 32) l.loop-y.invariant.0 r.row_total-row.ensures
           ∙ mod-add-mod (total l.loop-y.y f) (2 ^ 32) (f l.loop-y.y)
           ∙ ap (λ (k : ℕ). k % 2 ^ 32) (sym (total_suc l.loop-y.y f)),
       omega arith,

@@ -5,6 +5,3 @@ use Rattle.checksum.proofs.rows_total.Given as goal
 
 abbrev pub invariant-loop-y : goal.invariant-loop-y
 invariant-loop-y l = (l.sum ≡ total l.y (λ k. row_total l.bit_depth l.width (k * l.stride) k l.plane) % 2 ^ 32) × (l.y ≤ l.height)
-
-abbrev pub decreases-loop-y : goal.decreases-loop-y
-decreases-loop-y l = l.height - l.y

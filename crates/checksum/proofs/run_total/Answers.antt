@@ -27,12 +27,6 @@ sample_term-term-requires c =
 pub overflow_add-sum : goal.overflow_add-sum
 overflow_add-sum c = omega (arith, c.sample_term-term.ensures.1)
 
-pub overflow_add-k : goal.overflow_add-k
-overflow_add-k c = omega arith
-
-pub loop-k-smaller : goal.loop-k-smaller
-loop-k-smaller c = omega arith
-
 pub loop-k-preserved : goal.loop-k-preserved
 unfolding run_term
 loop-k-preserved c =

@@ -5,6 +5,3 @@ use Rattle.checksum.proofs.run_total.Given as goal
 
 abbrev pub invariant-loop-k : goal.invariant-loop-k
 invariant-loop-k l = (l.sum ≡ total l.k (run_term l.bit_depth l.at l.mask l.plane)) × (l.sum ≤ 510 * l.k) × (l.k ≤ l.count)
-
-abbrev pub decreases-loop-k : goal.decreases-loop-k
-decreases-loop-k l = l.count - l.k

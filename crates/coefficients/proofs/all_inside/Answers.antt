@@ -15,7 +15,7 @@ use Rattle.coefficients.proofs.OutsideLaws.{reaches_mag, all_reach_zero, all_rea
 use Rattle.coefficients.proofs.all_inside.Goals as goal
 
 pub loop-i-init : goal.loop-i-init
-loop-i-init c = (omega arith, all_reach_zero)
+loop-i-init c = all_reach_zero
 
 pub offset_bounds-coeff-i : goal.offset_bounds-coeff-i
 offset_bounds-coeff-i c = omega arith
@@ -23,19 +23,13 @@ offset_bounds-coeff-i c = omega arith
 pub bounds-coeff-i : goal.bounds-coeff-i
 bounds-coeff-i c = omega arith
 
-pub overflow_add-i : goal.overflow_add-i
-overflow_add-i c = omega arith
-
-pub loop-i-smaller : goal.loop-i-smaller
-loop-i-smaller c = omega arith
-
 pub loop-i-preserved : goal.loop-i-preserved
 loop-i-preserved c =
     let l = c in
     let xs = l.args.coeff.now in
     let f : SFits w32 (get_or xs l.loop-i.i (pos 0)) = record { sfits = c.reach-arg-1.given } in
     let e : c.reach-bits.result ≡ mag (get_or xs l.loop-i.i (pos 0)) = rw (round_trip f) at c.reach-bits.ensures in
-    (omega arith, all_reach_suc l.loop-i.bits c.reach-bits.result l.loop-i.invariant.1 (rw e (reaches_mag (get_or xs l.loop-i.i (pos 0)))))
+    all_reach_suc l.loop-i.bits c.reach-bits.result l.loop-i.invariant (rw e (reaches_mag (get_or xs l.loop-i.i (pos 0))))
 
 pub overflow_shl-result : goal.overflow_shl-result
 overflow_shl-result c = omega (arith, c.requires.1)
@@ -48,5 +42,5 @@ pub returns : goal.returns
 returns c e i h =
     let l = c in
     let a = l in
-    (l.loop-i.invariant.1.at i (omega arith)).inside a.args.range
+    (l.loop-i.invariant.at i (omega arith)).inside a.args.range
     (rw (end_is a.args.range a.requires.1) at (ltb-true l.loop-i.bits ((1 * 2 ^ a.args.range) % 4294967296) e))

@@ -1,10 +1,6 @@
 -- `coefficients::all_inside` meets its contract. The loop's invariant: the bits gathered reach every coefficient passed.
-use Prim.Native.Nat.{◌-◌, ◌≤◌}
 use Rattle.coefficients.proofs.OutsideLaws.{AllReach}
 use Rattle.coefficients.proofs.all_inside.Given as goal
 
 abbrev pub invariant-loop-i : goal.invariant-loop-i
-invariant-loop-i l = (l.i ≤ l.len) × AllReach l.coeff l.i l.bits
-
-abbrev pub decreases-loop-i : goal.decreases-loop-i
-decreases-loop-i l = l.len - l.i
+invariant-loop-i l = AllReach l.coeff l.i l.bits

@@ -13,7 +13,7 @@ use Rattle.coefficients.proofs.row_outside.Goals as goal
 use Rattle.coefficients.proofs.row_outside.Goals.{After-is_outside}
 
 pub loop-c-init : goal.loop-c-init
-loop-c-init c = (omega arith, none_zero)
+loop-c-init c = none_zero
 
 pub overflow_add-base : goal.overflow_add-base
 overflow_add-base c = omega arith
@@ -38,20 +38,12 @@ pub returns-then-is_outside : goal.returns-then-is_outside
 returns-then-is_outside c =
     let l = c in
     let a = l in
-    sym (first_where_found a.args.nx l.loop-c.c (omega arith) l.loop-c.invariant.1 (sym (tested (goal.at.returns-then-is_outside c).After-is_outside) ∙ c.if-is_outside.true))
-
-pub overflow_add-c : goal.overflow_add-c
-overflow_add-c c = omega arith
-
-pub loop-c-smaller : goal.loop-c-smaller
-loop-c-smaller c = omega arith
+    sym (first_where_found a.args.nx l.loop-c.c (omega arith) l.loop-c.invariant (sym (tested (goal.at.returns-then-is_outside c).After-is_outside) ∙ c.if-is_outside.true))
 
 pub loop-c-preserved : goal.loop-c-preserved
 loop-c-preserved c =
     let l = c in
-    (omega arith, none_suc l.loop-c.invariant.1 (sym (tested (goal.at.loop-c-preserved c).After-is_outside) ∙ c.if-is_outside.false))
+    none_suc l.loop-c.invariant (sym (tested (goal.at.loop-c-preserved c).After-is_outside) ∙ c.if-is_outside.false)
 
 pub returns : goal.returns
-returns c =
-    let e : c.loop-c.c ≡ c.args.nx = omega arith in
-    e ∙ sym (first_where-none c.args.nx (omega arith) c.loop-c.invariant.1)
+returns c = sym (first_where-none c.args.nx (omega arith) c.loop-c.invariant)

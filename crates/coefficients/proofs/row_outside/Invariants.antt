@@ -1,5 +1,5 @@
 -- `coefficients::row_outside` meets its contract. The loop's invariant: no coefficient before c lies outside the range.
-use Prim.Native.Nat.{◌+◌, ◌-◌, ◌≤◌}
+use Prim.Native.Nat.{◌+◌}
 use lib.IntN.{pos}
 use lib.ListN.{get_or}
 use Rattle.integers.proofs.SearchLaws.{None}
@@ -7,7 +7,4 @@ use Rattle.h265.specs.Range.{outside_range}
 use Rattle.coefficients.proofs.row_outside.Given as goal
 
 abbrev pub invariant-loop-c : goal.invariant-loop-c
-invariant-loop-c l = (l.c ≤ l.nx) × None (λ i. outside_range l.range (get_or l.coeff (l.base + i) (pos 0))) l.c
-
-abbrev pub decreases-loop-c : goal.decreases-loop-c
-decreases-loop-c l = l.nx - l.c
+invariant-loop-c l = None (λ i. outside_range l.range (get_or l.coeff (l.base + i) (pos 0))) l.c

@@ -29,7 +29,7 @@ found : (c : After-row_outside-c) → First c.args.nx (λ i. outside_range c.arg
 found c = rw c.row_outside-c.ensures (first_where_first _ _)
 
 pub loop-k-init : goal.loop-k-init
-loop-k-init c = (omega arith, rw (zero-mul c.args.n) none_zero)
+loop-k-init c = rw (zero-mul c.args.n) none_zero
 
 pub overflow_mul-k : goal.overflow_mul-k
 overflow_mul-k c = fits_below _ _ c.requires.0 (omega arith)
@@ -54,20 +54,14 @@ returns-then-c-nx c =
     let a = l in
     let f = found (goal.at.returns-then-c-nx c).After-row_outside-c in
     sym (first_where_found (a.args.n * a.args.n) _ (digits_lt {q = l.loop-k.k} {m = a.args.n} {r = c.row_outside-c.result} {c = a.args.n} (omega arith) (omega (arith, a.requires.1)))
-    (none-part a.args.range a.args.n a.args.nx a.args.coeff.now l.loop-k.k c.row_outside-c.result (omega arith) a.requires.1 l.loop-k.invariant.1 f.before)
+    (none-part a.args.range a.args.n a.args.nx a.args.coeff.now l.loop-k.k c.row_outside-c.result (omega arith) a.requires.1 l.loop-k.invariant f.before)
     (outside_at-row a.args.range a.args.n a.args.nx a.args.coeff.now l.loop-k.k c.row_outside-c.result c.if-c-nx.true a.requires.1 ∙ f.holds c.if-c-nx.true))
-
-pub overflow_add-k : goal.overflow_add-k
-overflow_add-k c = omega (arith, size_bound c.args.n c.requires.0)
-
-pub loop-k-smaller : goal.loop-k-smaller
-loop-k-smaller c = omega arith
 
 pub loop-k-preserved : goal.loop-k-preserved
 loop-k-preserved c =
     let l = c in
     let a = l in
-    (omega arith, none_row a.args.range a.args.n a.args.nx a.args.coeff.now l.loop-k.k (omega (arith, size_bound a.args.n a.requires.0)) a.requires.1 l.loop-k.invariant.1 (none_le (omega arith) (found (goal.at.loop-k-preserved c).After-row_outside-c).before))
+    none_row a.args.range a.args.n a.args.nx a.args.coeff.now l.loop-k.k (omega (arith, size_bound a.args.n a.requires.0)) a.requires.1 l.loop-k.invariant (none_le (omega arith) (found (goal.at.loop-k-preserved c).After-row_outside-c).before)
 
 pub overflow_mul-result-2 : goal.overflow_mul-result-2
 overflow_mul-result-2 c = record { fits = omega (arith, size_square c.args.n c.requires.0) }
@@ -76,4 +70,4 @@ pub returns : goal.returns
 unfolding first_outside
 returns c =
     let a = c in
-    sym (first_where-none (a.args.n * a.args.n) (mul-le-mul_right a.args.n (omega arith)) c.loop-k.invariant.1)
+    sym (first_where-none (a.args.n * a.args.n) (mul-le-mul_right a.args.n (omega arith)) c.loop-k.invariant)

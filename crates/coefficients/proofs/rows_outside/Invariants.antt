@@ -1,11 +1,8 @@
 -- `coefficients::rows_outside` meets its contract. The loop's invariant: no coefficient of the rows before k lies outside the range.
-use Prim.Native.Nat.{◌*◌, ◌-◌, ◌≤◌}
+use Prim.Native.Nat.{◌*◌}
 use Rattle.integers.proofs.SearchLaws.{None}
 use Rattle.coefficients.specs.Outside.{outside_at}
 use Rattle.coefficients.proofs.rows_outside.Given as goal
 
 abbrev pub invariant-loop-k : goal.invariant-loop-k
-invariant-loop-k l = (l.k ≤ l.n) × None (outside_at l.range l.n l.nx l.coeff) (l.k * l.n)
-
-abbrev pub decreases-loop-k : goal.decreases-loop-k
-decreases-loop-k l = l.n - l.k
+invariant-loop-k l = None (outside_at l.range l.n l.nx l.coeff) (l.k * l.n)

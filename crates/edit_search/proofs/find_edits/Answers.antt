@@ -3,6 +3,7 @@ use mathlib.Core.Path.{◌≡◌, sym, ap, ◌∙◌}
 use Prim.Native.Nat.{◌≤◌}
 use native.Mathlib.Omega.{arith}
 use lib.ListN.{length}
+use Rattle.std.proofs.Common.{rules, Err}
 use Rattle.h265.specs.Range.{transform_range}
 use Rattle.h265.proofs.RangeLaws.{size_square, transform_range_most}
 use Rattle.refusal.specs.Outcome.{answer}
@@ -11,16 +12,16 @@ use Rattle.refusal.proofs.LadderLaws.{Passed}
 use Rattle.coefficients.specs.Outside.{first_outside}
 use Rattle.edit_search.proofs.FoundLaws.{rungs, edits_refused, edits_passed, edits_outside, edits_done, edits_ask}
 use Rattle.edit_search.proofs.find_edits.Goals as goal
-use Rattle.edit_search.proofs.find_edits.Goals.{After-first_outside-first, After-transform_range-range, In_default}
+use Rattle.edit_search.proofs.find_edits.Goals.{After-first_outside-first, After-transform_range-range, In_ok-edit_refusal}
 
 -- no condition of the ladder holds
-passed : (c : In_default)
+passed : (c : In_ok-edit_refusal)
     → let a = c.args in
     Passed (rungs a.kind a.n a.bit_depth (length a.coeff.now) (length a.target.now) (length a.wanted.now) (length a.least.now) (length a.most.now))
 passed c =
     let a = c.args in
     edits_passed a.kind a.n a.bit_depth a.extended_precision a.coeff.now a.target.now a.wanted.now a.least.now a.most.now
-    (ap answer (sym c.in_default.is) ∙ c.edit_refusal-checked.ensures)
+    (ap answer (sym c.in_ok-edit_refusal.was) ∙ c.edit_refusal.ensures)
 
 pub transform_range-range-requires : goal.transform_range-range-requires
 transform_range-range-requires c = (depth_accepted c.args.bit_depth (passed c).1.0).1
@@ -28,18 +29,18 @@ transform_range-range-requires c = (depth_accepted c.args.bit_depth (passed c).1
 range_most : (c : After-transform_range-range) → c.transform_range-range.result ≤ 22
 range_most c =
     let a = c.args in
-    rw c.transform_range-range.ensures (transform_range_most a.bit_depth a.extended_precision (depth_accepted a.bit_depth (passed (goal.at.first_outside-first-requires c).In_default).1.0).1)
+    rw c.transform_range-range.ensures (transform_range_most a.bit_depth a.extended_precision (depth_accepted a.bit_depth (passed (goal.at.first_outside-first-requires c).In_ok-edit_refusal).1.0).1)
 
 pub first_outside-first-requires : goal.first_outside-first-requires
 first_outside-first-requires c =
     let s = c in
-    let p = passed (goal.at.first_outside-first-requires c).In_default in
+    let p = passed (goal.at.first_outside-first-requires c).In_ok-edit_refusal in
     (size_accepted s.args.n p.0, omega arith, block_room s.args.n _ p.1.1.1.0, range_most c)
 
 pub overflow_mul-n : goal.overflow_mul-n
 overflow_mul-n c =
     let n = c.args.n in
-    record { fits = omega (arith, size_square n (size_accepted n (passed (goal.at.overflow_mul-n c).In_default).0)) }
+    record { fits = omega (arith, size_square n (size_accepted n (passed (goal.at.overflow_mul-n c).In_ok-edit_refusal).0)) }
 
 -- what the search found, for the range as defined
 first_is : (c : After-first_outside-first)
@@ -51,7 +52,7 @@ pub refusal_at-requires : goal.refusal_at-requires
 refusal_at-requires c =
     let f = c in
     let s = f in
-    let p = passed (goal.at.refusal_at-requires c).In_default in
+    let p = passed (goal.at.refusal_at-requires c).In_ok-edit_refusal in
     (size_accepted s.args.n p.0, c.if-first-n.true, block_room s.args.n _ p.1.1.1.0, range_most (goal.at.refusal_at-requires c).After-transform_range-range)
 
 pub returns-then-first-n : goal.returns-then-first-n
@@ -60,7 +61,7 @@ returns-then-first-n c =
     let s = f in
     let r = f.transform_range-range.ensures in
     let a = s.args in
-    edits_outside a.kind a.n a.bit_depth a.extended_precision a.coeff.now a.target.now a.wanted.now a.least.now a.most.now (passed (goal.at.returns-then-first-n c).In_default)
+    edits_outside a.kind a.n a.bit_depth a.extended_precision a.coeff.now a.target.now a.wanted.now a.least.now a.most.now (passed (goal.at.returns-then-first-n c).In_ok-edit_refusal)
     (rw (first_is (goal.at.returns-then-first-n c).After-first_outside-first) at c.if-first-n.true) (c.refusal_at.ensures ∙ rw (r, first_is (goal.at.returns-then-first-n c).After-first_outside-first))
 
 pub find-requires : goal.find-requires
@@ -69,7 +70,7 @@ find-requires c =
     let f = l in
     let s = f in
     let a = s.args in
-    edits_ask a.kind a.n a.bit_depth a.extended_precision a.coeff.now a.target.now a.wanted.now a.least.now a.most.now (passed (goal.at.find-requires c).In_default) (rw (first_is (goal.at.find-requires c).After-first_outside-first) at l.if-first-n.false)
+    edits_ask a.kind a.n a.bit_depth a.extended_precision a.coeff.now a.target.now a.wanted.now a.least.now a.most.now (passed (goal.at.find-requires c).In_ok-edit_refusal) (rw (first_is (goal.at.find-requires c).After-first_outside-first) at l.if-first-n.false)
 
 pub returns : goal.returns
 returns c =
@@ -78,12 +79,14 @@ returns c =
     let f = l in
     let s = f in
     let a = s.args in
-    edits_done a.kind a.n a.bit_depth a.extended_precision a.coeff.now a.target.now a.wanted.now a.least.now a.most.now (passed (goal.at.returns c).In_default)
+    edits_done a.kind a.n a.bit_depth a.extended_precision a.coeff.now a.target.now a.wanted.now a.least.now a.most.now (passed (goal.at.returns c).In_ok-edit_refusal)
     (rw (first_is (goal.at.returns c).After-first_outside-first) at l.if-first-n.false) e.find.ensures.0 e.find.ensures.1
 
-pub returns-in-Refused : goal.returns-in-Refused
-returns-in-Refused c =
+pub returns-in_err-edit_refusal : goal.returns-in_err-edit_refusal
+returns-in_err-edit_refusal c =
     let s = c in
-    let r = c.edit_refusal-checked.ensures in
+    let r = c.edit_refusal.ensures in
     let a = s.args in
-    edits_refused a.kind a.n a.bit_depth a.extended_precision a.coeff.now a.target.now a.wanted.now a.least.now a.most.now c.in-Refused.why (ap answer (sym c.in-Refused.is) ∙ r)
+    let told : c.from_residual.result ≡ Err c.in_err-edit_refusal.field-0.0 = search rules in
+    rw told
+    (edits_refused a.kind a.n a.bit_depth a.extended_precision a.coeff.now a.target.now a.wanted.now a.least.now a.most.now c.in_err-edit_refusal.field-0.0 (ap answer (sym c.in_err-edit_refusal.was) ∙ r))

@@ -1,8 +1,9 @@
 -- `edited_block::refresh_residual` meets its contract: the refusals are the ladder's, and what passes them meets what stage two asks.
-use mathlib.Core.Path.{refl, sym, ap, ◌∙◌}
+use mathlib.Core.Path.{◌≡◌, refl, sym, ap, ◌∙◌}
 use Prim.Native.Nat.{ℕ, ◌*◌}
 use native.Mathlib.Omega.{arith}
 use lib.ListN.{length}
+use Rattle.std.proofs.Common.{rules, Err}
 use Rattle.integers.specs.Lists.{overwrite}
 use Rattle.h265.specs.Transform.{row_order}
 use Rattle.refusal.specs.Outcome.{answer}
@@ -12,34 +13,36 @@ use Rattle.block_rules.specs.Opening.{Opening, range_of}
 use Rattle.block_laws.proofs.OpeningLaws.{Fits}
 use Rattle.block_laws.proofs.LadderLaws.{ladder_passed, fits_ask, staged, refresh_refused, refresh_done}
 use Rattle.edited_block.proofs.refresh_residual.Goals as goal
-use Rattle.edited_block.proofs.refresh_residual.Goals.{In_default, Start}
+use Rattle.edited_block.proofs.refresh_residual.Goals.{In_ok-block_refusal, Start}
 
 abbrev opening : Start → Opening
 opening s = record { kind = s.args.kind; size = s.args.n; depth = s.args.bit_depth; extended = s.args.extended_precision; source = zero_source }
 
-pub returns-in-Refused : goal.returns-in-Refused
-returns-in-Refused c =
+pub returns-in_err-block_refusal : goal.returns-in_err-block_refusal
+returns-in_err-block_refusal c =
     let s = c in
-    rw (refresh_refused (opening (goal.at.returns-in-Refused c).Start) s.args.inter.now s.args.residual.now c.in-Refused.why (ap answer (sym c.in-Refused.is) ∙ c.block_refusal-checked.ensures))
-    (record { answered = refl; out = refl })
+    let told : c.from_residual.result ≡ Err c.in_err-block_refusal.field-0.0 = search rules in
+    rw told
+    (rw (refresh_refused (opening (goal.at.returns-in_err-block_refusal c).Start) s.args.inter.now s.args.residual.now c.in_err-block_refusal.field-0.0 (ap answer (sym c.in_err-block_refusal.was) ∙ c.block_refusal.ensures))
+    (record { answered = refl; out = refl }))
 
 -- no condition of the ladder holds
-fits : (c : In_default) → Fits (opening (goal.at.In_default c).Start) (staged c.args.inter.now c.args.residual.now)
+fits : (c : In_ok-block_refusal) → Fits (opening (goal.at.In_ok-block_refusal c).Start) (staged c.args.inter.now c.args.residual.now)
 fits c =
     let s = c in
-    ladder_passed (opening (goal.at.In_default c).Start) (staged s.args.inter.now s.args.residual.now) (ap answer (sym c.in_default.is) ∙ c.block_refusal-checked.ensures)
+    ladder_passed (opening (goal.at.In_ok-block_refusal c).Start) (staged s.args.inter.now s.args.residual.now) (ap answer (sym c.in_ok-block_refusal.was) ∙ c.block_refusal.ensures)
 
-ask : (c : In_default) → EditNeeds c.args.kind c.args.n c.args.bit_depth (range_of (opening (goal.at.In_default c).Start)) 1024 (length c.args.inter.now) (length c.args.residual.now)
+ask : (c : In_ok-block_refusal) → EditNeeds c.args.kind c.args.n c.args.bit_depth (range_of (opening (goal.at.In_ok-block_refusal c).Start)) 1024 (length c.args.inter.now) (length c.args.residual.now)
 ask c =
     let s = c in
-    fits_ask (opening (goal.at.In_default c).Start) (staged s.args.inter.now s.args.residual.now) (fits c)
+    fits_ask (opening (goal.at.In_ok-block_refusal c).Start) (staged s.args.inter.now s.args.residual.now) (fits c)
 
 pub transform_range-range-requires : goal.transform_range-range-requires
 transform_range-range-requires c = (ask c).depth.1
 
 pub residual_of-requires : goal.residual_of-requires
 residual_of-requires c =
-    let a = ask (goal.at.residual_of-requires c).In_default in
+    let a = ask (goal.at.residual_of-requires c).In_ok-block_refusal in
     rw c.transform_range-range.ensures (
       record { size = a.size; dst = a.dst; least = a.range.0; most = a.range.1; source = a.inter; room = a.res },
       record { least = a.depth.0; most = a.depth.1; above = a.range.2; below = omega (arith, a.range.3) },
@@ -50,7 +53,7 @@ unfolding residual_of
 returns c =
     let r = c in
     let s = r in
-    rw (refresh_done (opening (goal.at.returns c).Start) s.args.inter.now s.args.residual.now (fits (goal.at.returns c).In_default))
+    rw (refresh_done (opening (goal.at.returns c).Start) s.args.inter.now s.args.residual.now (fits (goal.at.returns c).In_ok-block_refusal))
     (record {
       answered = refl;
       out = c.residual_of.ensures

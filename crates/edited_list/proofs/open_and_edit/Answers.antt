@@ -1,13 +1,15 @@
 -- `edited_list::open_and_edit` meets its contract: the opening and the edits after it are what `listed` says.
-use mathlib.Core.Path.{refl}
+use mathlib.Core.Path.{◌≡◌, refl}
 use mathlib.Core.List.{List}
 use Prim.Native.Nat.{ℕ}
 use lib.ListN.{length}
+use Rattle.std.proofs.Common.{rules, Err}
 use Rattle.block_rules.specs.Edit.{Buffers, buffers}
 use Rattle.block_rules.specs.Opening.{Opening, on_coefficients}
+use Rattle.block_rules.specs.Level.{levels_opened}
 use Rattle.edited_history.specs.History.{Edit}
 use Rattle.edited_steps.specs.Steps.{Slices, slices, edit_count, edits_of}
-use Rattle.edited_list.proofs.ListedLaws.{opens_held, lists_after}
+use Rattle.edited_list.proofs.ListedLaws.{opens_held, opens_held-refused, lists_after, lists-refused}
 use Rattle.edited_list.proofs.open_and_edit.Goals as goal
 use Rattle.edited_list.proofs.open_and_edit.Goals.{Start}
 
@@ -27,10 +29,16 @@ count s = edit_count (length s.args.rows.now) (length s.args.columns.now) (lengt
 abbrev edits : Start → List Edit
 edits s = edits_of (count s) s.args.rows.now s.args.columns.now s.args.values.now s.args.ways.now
 
+pub returns-in_err-opening : goal.returns-in_err-opening
+returns-in_err-opening c =
+    let s = c in
+    let is : c.from_residual.result ≡ Err c.in_err-opening.field-0.0 = search rules in
+    rw is
+    (lists-refused (opening (goal.at.returns-in_err-opening c).Start) s.args.levels.now (lent (goal.at.returns-in_err-opening c).Start) (edits (goal.at.returns-in_err-opening c).Start) (told (goal.at.returns-in_err-opening c).Start) c.in_err-opening.field-0.0 s.args.coeff.now c.open_block-opening.new.inter c.open_block-opening.new.residual
+    (opens_held-refused (opening (goal.at.returns-in_err-opening c).Start) s.args.levels.now (lent (goal.at.returns-in_err-opening c).Start) c.open_block-opening.new.inter c.open_block-opening.new.residual refl c.in_err-opening.field-0.0 (rw c.in_err-opening.was at c.open_block-opening.ensures)))
+
 pub returns : goal.returns
 returns c =
     let s = c in
-    let called = c.open_block-opening in
-    let after = c.edit_after in
-    lists_after (opening (goal.at.returns c).Start) s.args.levels.now (lent (goal.at.returns c).Start) (edits (goal.at.returns c).Start) (told (goal.at.returns c).Start) after.result c.uncounted-given.result called.result.block s.args.coeff.now called.new.inter called.new.residual _ _ _ _ _
-    (opens_held (opening (goal.at.returns c).Start) s.args.levels.now (lent (goal.at.returns c).Start) called.result.answer called.result.block called.new.inter called.new.residual refl called.ensures c.uncounted-given.result c.uncounted-given.ensures) after.ensures
+    lists_after (opening (goal.at.returns c).Start) s.args.levels.now (lent (goal.at.returns c).Start) (edits (goal.at.returns c).Start) (told (goal.at.returns c).Start) c.edit_after.result (levels_opened 0 c.in_ok-opening.field-0) s.args.coeff.now c.open_block-opening.new.inter c.open_block-opening.new.residual _ _ _ _ _
+    (opens_held (opening (goal.at.returns c).Start) s.args.levels.now (lent (goal.at.returns c).Start) c.open_block-opening.new.inter c.open_block-opening.new.residual refl c.in_ok-opening.field-0 (rw c.in_ok-opening.was at c.open_block-opening.ensures)) c.edit_after.ensures

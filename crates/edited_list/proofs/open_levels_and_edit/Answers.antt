@@ -1,14 +1,16 @@
 -- `edited_list::open_levels_and_edit` meets its contract: the opening and the edits after it are what `listed` says.
+use mathlib.Core.Path.{◌≡◌}
 use mathlib.Core.List.{List}
 use Prim.Native.Nat.{ℕ}
 use lib.ListN.{length}
+use Rattle.std.proofs.Common.{rules, Err}
 use Rattle.block_rules.specs.Edit.{Buffers, buffers}
 use Rattle.block_rules.specs.Opening.{Opening}
 use Rattle.block_rules.specs.Level.{on_levels}
 use Rattle.edited_history.specs.History.{Edit}
 use Rattle.edited_history.specs.Run.{held_opened}
 use Rattle.edited_steps.specs.Steps.{Slices, slices, edit_count, edits_of}
-use Rattle.edited_list.proofs.ListedLaws.{lists_after}
+use Rattle.edited_list.proofs.ListedLaws.{lists_after, lists-refused}
 use Rattle.edited_list.proofs.open_levels_and_edit.Goals as goal
 use Rattle.edited_list.proofs.open_levels_and_edit.Goals.{Start}
 
@@ -28,11 +30,18 @@ count s = edit_count (length s.args.rows.now) (length s.args.columns.now) (lengt
 abbrev edits : Start → List Edit
 edits s = edits_of (count s) s.args.rows.now s.args.columns.now s.args.values.now s.args.ways.now
 
+pub returns-in_err-opened : goal.returns-in_err-opened
+unfolding held_opened
+returns-in_err-opened c =
+    let s = c in
+    let is : c.from_residual.result ≡ Err c.in_err-opened.field-0.0 = search rules in
+    rw is
+    (lists-refused (opening (goal.at.returns-in_err-opened c).Start) s.args.levels.now (lent (goal.at.returns-in_err-opened c).Start) (edits (goal.at.returns-in_err-opened c).Start) (told (goal.at.returns-in_err-opened c).Start) c.in_err-opened.field-0.0 c.open_levels.new.coeff c.open_levels.new.inter c.open_levels.new.residual
+    (rw c.in_err-opened.was at c.open_levels.ensures))
+
 pub returns : goal.returns
 unfolding held_opened
 returns c =
     let s = c in
-    let called = c.open_levels-opening in
-    let after = c.edit_after in
-    lists_after (opening (goal.at.returns c).Start) s.args.levels.now (lent (goal.at.returns c).Start) (edits (goal.at.returns c).Start) (told (goal.at.returns c).Start) after.result called.result.answer called.result.block called.new.coeff called.new.inter called.new.residual _ _ _ _ _
-    called.ensures after.ensures
+    lists_after (opening (goal.at.returns c).Start) s.args.levels.now (lent (goal.at.returns c).Start) (edits (goal.at.returns c).Start) (told (goal.at.returns c).Start) c.edit_after.result c.in_ok-opened.opened c.open_levels.new.coeff c.open_levels.new.inter c.open_levels.new.residual _ _ _ _ _
+    (rw c.in_ok-opened.was at c.open_levels.ensures) c.edit_after.ensures

@@ -1,8 +1,11 @@
 -- `edited_steps::answer_row` meets its contract: a refusal's row is the answer's.
+use Rattle.std.specs.Prelude.{Result}
 use mathlib.Core.Path.{sym, ap, ◌∙◌}
-use Rattle.block_rules.specs.declared.LimitsAnswer.{LimitsAnswer}
-use Rattle.block_rules.specs.Level.{limits_outcome}
+use Rattle.refusal.specs.Outcome.{outcome}
+use Rattle.refusal.specs.declared.Refusal.{Refusal}
+use Rattle.block_rules.specs.declared.Limits.{Limits}
+use Rattle.block_rules.specs.Level.{no_limits}
 use Rattle.edited_steps.proofs.answer_row.Goals as goal
 
-pub returns-in-Refused : goal.returns-in-Refused
-returns-in-Refused c = c.row.ensures ∙ sym (ap (λ (a : LimitsAnswer). (limits_outcome a).row) c.in-Refused.is)
+pub returns-in-Err : goal.returns-in-Err
+returns-in-Err c = c.row.ensures ∙ sym (ap (λ (a : Result Limits Refusal). (outcome no_limits a).row) c.in-Err.is)

@@ -1,4 +1,4 @@
--- `edited_steps::edit_after` meets its contract: after a refused opening nothing is done, and after any other the loop makes every edit.
+-- `edited_steps::edit_after` meets its contract: the loop makes every edit.
 use mathlib.Core.Path.{sym, ◌∙◌}
 use mathlib.Core.List.{List}
 use Prim.Native.Nat.{ℕ}
@@ -7,7 +7,7 @@ use Rattle.block_rules.specs.Edit.{Buffers, buffers}
 use Rattle.edited_history.specs.History.{Edit}
 use Rattle.edited_steps.specs.Steps.{Slices, slices, edit_count, edits_of}
 use Rattle.edited_steps.proofs.GoingLaws.{edits_of-length}
-use Rattle.edited_steps.proofs.StepsLaws.{count_ask, runs_none, runs_all}
+use Rattle.edited_steps.proofs.StepsLaws.{count_ask, runs_all}
 use Rattle.edited_steps.proofs.edit_after.Goals as goal
 use Rattle.edited_steps.proofs.edit_after.Goals.{Start}
 
@@ -24,20 +24,14 @@ count s = edit_count (length s.args.rows.now) (length s.args.columns.now) (lengt
 abbrev edits : Start → List Edit
 edits s = edits_of (count s) s.args.rows.now s.args.columns.now s.args.values.now s.args.ways.now
 
-pub returns-in-Refused : goal.returns-in-Refused
-returns-in-Refused c =
+pub edit_each-requires : goal.edit_each-requires
+edit_each-requires c =
     let s = c in
-    runs_none s.args.block s.args.levels.now (lent (goal.at.returns-in-Refused c).Start) (edits (goal.at.returns-in-Refused c).Start) (told (goal.at.returns-in-Refused c).Start) s.args.given c.in-Refused.why c.in-Refused.is
-
-pub edit_each-last-requires : goal.edit_each-last-requires
-edit_each-last-requires c =
-    let s = c in
-    rw c.edit_count-edits.ensures (count_ask (length s.args.rows.now) (length s.args.columns.now) (length s.args.values.now) (length s.args.ways.now) (told (goal.at.edit_each-last-requires c).Start))
+    rw c.edit_count-edits.ensures (count_ask (length s.args.rows.now) (length s.args.columns.now) (length s.args.values.now) (length s.args.ways.now) (told (goal.at.edit_each-requires c).Start))
 
 pub returns : goal.returns
 returns c =
     let s = c in
-    let each = c.edit_each-last in
     let counted = c.edit_count-edits in
-    runs_all s.args.block s.args.levels.now (lent (goal.at.returns c).Start) (edits (goal.at.returns c).Start) (told (goal.at.returns c).Start) s.args.given c.in_default.field-0 counted.result each.result _ _ _ _ _ c.in_default.is
-    (counted.ensures ∙ sym (edits_of-length (count (goal.at.returns c).Start) s.args.rows.now s.args.columns.now s.args.values.now s.args.ways.now)) (rw counted.ensures at each.ensures)
+    runs_all s.args.opened s.args.levels.now (lent (goal.at.returns c).Start) (edits (goal.at.returns c).Start) (told (goal.at.returns c).Start) counted.result _ _ _ _ _ _
+    (counted.ensures ∙ sym (edits_of-length (count (goal.at.returns c).Start) s.args.rows.now s.args.columns.now s.args.values.now s.args.ways.now)) (rw counted.ensures at c.edit_each.ensures)

@@ -7,5 +7,5 @@ use Rattle.edited_steps.proofs.edit_count.Goals as goal
 pub returns : goal.returns
 unfolding edit_count
 returns c =
-    c.least-7.ensures
-    ∙ ap₂ min (c.least-3.ensures ∙ ap₂ min c.least.ensures c.least-2.ensures) (c.least-6.ensures ∙ ap₂ min c.least-4.ensures c.least-5.ensures)
+    c.min-7.ensures
+    ∙ ap₂ min (c.min-3.ensures ∙ ap₂ min c.min.ensures c.min-2.ensures) (c.min-6.ensures ∙ ap₂ min c.min-4.ensures c.min-5.ensures)

@@ -1,6 +1,7 @@
 -- `edited_steps::edit_each` meets its contract: what is left of the run at the loop's head ends as the whole run does.
 use mathlib.Core.Path.{◌≡◌}
 use native.Mathlib.Omega.{arith}
+use Rattle.std.proofs.Common.{rules}
 use lib.IntN.{pos}
 use lib.ListN.{length, get_or}
 use mir.Syntax.{w32}
@@ -47,24 +48,18 @@ put_answer-requires c =
     let ks : length test.loop-i.limits ≡ length test.args.limits.now = going.limits_long in
     (omega (arith, h, ask.numbers_long, ns), omega (arith, h, ask.named_long, rs), omega (arith, h, ask.across_long, cs), omega (arith, h, ask.limits_long, ks))
 
-pub overflow_add-i : goal.overflow_add-i
-overflow_add-i c = record { fits = omega (arith, c.ranges.count.fits, c.loop-i-test.true) }
-
-pub loop-i-smaller : goal.loop-i-smaller
-loop-i-smaller c = omega (arith, c.loop-i-test.true)
-
 pub loop-i-preserved : goal.loop-i-preserved
 loop-i-preserved c =
     let called = c in
-    let r = called.edit_one-e in
+    let r = called.edit_one-given in
     let at = called in
     let a = at.args in
     let h = called.loop-i-test.true in
     let z = get_or a.values.now at.loop-i.i (pos 0) in
-    let v : to_z w32 (of_z w32 z) ≡ z = to_z-of_z w32 z (record { sfits = called.edit_one-arg-in-loop-i-4-1.given }) in
+    let v : to_z w32 (of_z w32 z) ≡ z = to_z-of_z w32 z (search rules) in
     going_on at.loop-i.invariant (edit_at a.rows.now a.columns.now a.values.now a.ways.now at.loop-i.i)
     (rw edits_of-length h) (edits_of-get_or a.count a.rows.now a.columns.now a.values.now a.ways.now at.loop-i.i h)
-    r.result.answer r.result.block r.new.levels r.new.coeff r.new.inter r.new.residual (rw v at r.ensures)
+    r.result r.new.block r.new.levels r.new.coeff r.new.inter r.new.residual (rw v at r.ensures)
     r.auto.levels r.auto.coeff r.auto.inter r.auto.residual _ c.put_answer.ensures
 
 pub shape_of-levels : goal.shape_of-levels

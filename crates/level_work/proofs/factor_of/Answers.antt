@@ -3,7 +3,7 @@ use mathlib.Core.Path.{◌≡◌, sym, ap, ◌∙◌}
 use borrow.Author.Rules.{rules}
 use lib.ListN.{length}
 use Rattle.h265.specs.ScalingFactor.{factor_source, factor_by, scaling_factor}
-use Rattle.scaling.specs.Answers.{factor_outcome}
+use Rattle.refusal.specs.Outcome.{outcome}
 use Rattle.level_work.proofs.ScaledLaws.{factor-listed, factor-refused}
 use Rattle.level_work.proofs.factor_of.Goals as goal
 use Rattle.level_work.proofs.factor_of.Goals.{Start}
@@ -12,22 +12,22 @@ use Rattle.level_work.proofs.factor_of.Goals.{Start}
 whole : (s : Start) → length s.args.source.entries ≡ 64
 whole s = search rules
 
-pub returns-in-Factor : goal.returns-in-Factor
-returns-in-Factor c =
+pub returns-in-Ok : goal.returns-in-Ok
+returns-in-Ok c =
     let f = c in
     let l = f in
     let t = l in
     let s = t in
-    factor-listed s.args.source s.args.n s.args.index t.if-listed.true (whole (goal.at.returns-in-Factor c).Start) s.requires.0 s.requires.1 f.in-Factor.m
-    (ap factor_outcome (sym f.in-Factor.is) ∙ l.scaling_coeff-found.ensures)
+    factor-listed s.args.source s.args.n s.args.index t.if-listed.true (whole (goal.at.returns-in-Ok c).Start) s.requires.0 s.requires.1 f.in-Ok.m
+    (ap (outcome 0) (sym f.in-Ok.is) ∙ l.scaling_coeff-found.ensures)
 
-pub returns-in-Refused : goal.returns-in-Refused
-returns-in-Refused c =
+pub returns-in-Err : goal.returns-in-Err
+returns-in-Err c =
     let l = c in
     let t = l in
     let s = t in
-    factor-refused s.args.source s.args.n s.args.index t.if-listed.true (whole (goal.at.returns-in-Refused c).Start) s.requires.0 s.requires.1 c.in-Refused.field-0 0
-    (ap factor_outcome (sym c.in-Refused.is) ∙ l.scaling_coeff-found.ensures)
+    factor-refused s.args.source s.args.n s.args.index t.if-listed.true (whole (goal.at.returns-in-Err c).Start) s.requires.0 s.requires.1 c.in-Err.field-0 0
+    (ap (outcome 0) (sym c.in-Err.is) ∙ l.scaling_coeff-found.ensures)
 
 pub returns : goal.returns
 unfolding scaling_factor factor_source factor_by

@@ -5,7 +5,7 @@ use Rattle.integers.proofs.ListsLaws.{stored_none, stored_more, stored_length, s
 use Rattle.list_places.proofs.entries_out.Goals as goal
 
 pub loop-i-init : goal.loop-i-init
-loop-i-init c = (stored_none, omega arith)
+loop-i-init c = stored_none
 
 pub overflow_add-out : goal.overflow_add-out
 overflow_add-out c = omega arith
@@ -17,19 +17,13 @@ pub bounds-table-at : goal.bounds-table-at
 bounds-table-at c = omega arith
 
 pub bounds-out-i : goal.bounds-out-i
-bounds-out-i c = omega (arith, stored_length c.loop-i.invariant.0)
-
-pub overflow_add-i : goal.overflow_add-i
-overflow_add-i c = omega arith
-
-pub loop-i-smaller : goal.loop-i-smaller
-loop-i-smaller c = omega arith
+bounds-out-i c = omega (arith, stored_length c.loop-i.invariant)
 
 pub loop-i-preserved : goal.loop-i-preserved
-loop-i-preserved c = (stored_more c.loop-i.invariant.0 (omega arith) refl, omega arith)
+loop-i-preserved c = stored_more c.loop-i.invariant (omega arith) refl
 
 pub shape_of-out : goal.shape_of-out
-shape_of-out c = stored_length c.loop-i.invariant.0
+shape_of-out c = stored_length c.loop-i.invariant
 
 pub returns : goal.returns
-returns c = stored_all c.loop-i.invariant.0 (omega arith)
+returns c = stored_all c.loop-i.invariant (omega arith)

@@ -29,12 +29,6 @@ overflow_add-table-in-loop-i-2 c = omega arith
 pub bounds-table-at-in-loop-i : goal.bounds-table-at-in-loop-i
 bounds-table-at-in-loop-i c = let s = c.loop-i.invariant in omega (arith, put-length s, s.room)
 
-pub overflow_add-i : goal.overflow_add-i
-overflow_add-i c = omega arith
-
-pub loop-i-smaller : goal.loop-i-smaller
-loop-i-smaller c = omega arith
-
 pub loop-i-preserved : goal.loop-i-preserved
 loop-i-preserved c = put_more c.loop-i.invariant c.loop-i-test.true
 

@@ -22,10 +22,10 @@ returns-then-depth_refused c = rw (sym c.depth_refused.ensures ∙ c.if-depth_re
 pub qp_prime_of-requires : goal.qp_prime_of-requires
 qp_prime_of-requires c = depth_accepted c.args.bit_depth (depth_ok (goal.at.qp_prime_of-requires c).Else-depth_refused)
 
-pub returns : goal.returns
+pub returns-else-depth_refused : goal.returns-else-depth_refused
 unfolding qp_prime_of
-returns c =
+returns-else-depth_refused c =
     let a = c in
     let q : ℤ = a.args.qp.0 in
     let f : SFits w32 q = search a.well_formed in
-    rw (depth_ok (goal.at.returns c).Else-depth_refused, round_trip (sfits_of c.qp_prime_of.type_inv), c.qp_prime_of.ensures, round_trip f)
+    rw (depth_ok (goal.at.returns-else-depth_refused c).Else-depth_refused, round_trip (sfits_of c.qp_prime_of.type_inv), c.qp_prime_of.ensures, round_trip f)

@@ -1,28 +1,19 @@
 -- `scaling_lists_codes::reference_code` meets its contract: by what stands at the offset.
-use mathlib.Core.Path.{sym, ap, ◌∙◌}
+use mathlib.Core.Path.{◌∙◌}
 use native.Mathlib.Omega.{arith}
+use Rattle.std.proofs.lemmas.Result.{err_from_is_err_and, IfOk-weaker}
 use Rattle.scaling_lists_codes.specs.Syntax.{reference_of, reference_code}
+use Rattle.scaling_lists_codes.proofs.ReadingLaws.{then_stop, then_read}
 use Rattle.scaling_lists_codes.proofs.reference_code.Goals as goal
 
-pub returns-in-Number : goal.returns-in-Number
+pub returns-in_err-number : goal.returns-in_err-number
 unfolding reference_code
-returns-in-Number c =
-    let u = c in
-    let a = u.args in
-    let e = c.in-Number.is in
-    let b = rw e at u.unsigned_code-code.ensures.1 in
-    (c.reference_of.ensures.0 ∙ ap (reference_of a.size_id a.matrix_id a.at) (sym e ∙ u.unsigned_code-code.ensures.0), omega (arith, b, c.reference_of.ensures.1), c.reference_of.ensures.2)
+returns-in_err-number c =
+    let p = err_from_is_err_and c.from_residual.result c.from_residual.ensures.1 in
+    rw (p.1, p.2) (then_stop (reference_of c.args.size_id c.args.matrix_id c.args.at) c.in_err-number.ensures.0, tt)
 
-pub returns-in-TooLong : goal.returns-in-TooLong
+pub returns : goal.returns
 unfolding reference_code
-returns-in-TooLong c =
-    let u = c in
-    let a = u.args in
-    (ap (reference_of a.size_id a.matrix_id a.at) (sym c.in-TooLong.is ∙ u.unsigned_code-code.ensures.0), omega arith, omega arith)
-
-pub returns-in-Ended : goal.returns-in-Ended
-unfolding reference_code
-returns-in-Ended c =
-    let u = c in
-    let a = u.args in
-    (ap (reference_of a.size_id a.matrix_id a.at) (sym c.in-Ended.is ∙ u.unsigned_code-code.ensures.0), omega arith, omega arith)
+returns c =
+    let n = c.in_ok-number.ensures in
+    (c.reference_of.ensures.0 ∙ then_read (reference_of c.args.size_id c.args.matrix_id c.args.at) n.0, IfOk-weaker c.reference_of.result _ _ (λ r e. (omega (arith, e.0, n.1), e.1)) c.reference_of.ensures.1)

@@ -1,54 +1,6 @@
--- `scaling_wide::dequantize_into_scalar_i32` meets its contract: refused where the numbers of the block are, else what was written and counted is
--- what the definition says.
-use mathlib.Core.Path.{◌≡◌, sym, ap, ◌∙◌}
-use native.Mathlib.Omega.{arith}
-use lib.ListN.{length}
-use Rattle.h265.specs.ScalingFactor.ScalingList.{flat}
-use Rattle.h265.specs.Scaling.{scaled_at}
-use Rattle.refusal.specs.Outcome.{refused}
-use Rattle.parameters.specs.Answers.{no_transform_skip, transform_skip_outcome}
-use Rattle.scaling_blocks.specs.Blocks.{bits32, dequantized, block_params}
-use Rattle.scaling_blocks.proofs.BlockLaws.{Ready, block_ready, ready_regular, block_refused_lem, flat_writes}
-use Rattle.scaling_values.proofs.FlatLaws.{flat_for_short, flat_counted}
+-- `scaling_wide::dequantize_into_scalar_i32` meets its contract: what is read of a i32 is the i32 itself.
+use Rattle.std.proofs.lemmas.List.{map-id}
 use Rattle.scaling_wide.proofs.dequantize_into_scalar_i32.Goals as goal
-use Rattle.scaling_wide.proofs.dequantize_into_scalar_i32.Goals.{In-Params, In-Refused}
 
--- what the numbers answered
-ready : (c : In-Params)
-    → let a = c.args in Ready bits32 a.n a.qp_prime.0 a.bit_depth a.extended_precision 64 (length a.levels.now) (length a.out.now) c.in-Params.by
-ready c =
-    let a = c.args in
-    block_ready bits32 a.n a.qp_prime.0 a.bit_depth a.extended_precision 64 (length a.levels.now) (length a.out.now) c.in-Params.by
-    (sym (ap transform_skip_outcome c.in-Params.is) ∙ c.block_params-found.ensures)
-
-is_refused : (c : In-Refused)
-    → let a = c.args in refused no_transform_skip c.in-Refused.why ≡ block_params bits32 a.n a.qp_prime.0 a.bit_depth a.extended_precision 64 (length a.levels.now) (length a.out.now)
-is_refused c = sym (ap transform_skip_outcome c.in-Refused.is) ∙ c.block_params-found.ensures
-
-pub overflow_mul-n : goal.overflow_mul-n
-overflow_mul-n c = omega (arith, (ready (goal.at.overflow_mul-n c).In-Params).square)
-
-pub flat_params-requires : goal.flat_params-requires
-flat_params-requires c = let r = ready (goal.at.flat_params-requires c).In-Params in record { manageable = r.skippable.scaling; regular = ready_regular r }
-
-pub scale_flat-requires : goal.scale_flat-requires
-scale_flat-requires c =
-    let f = c in
-    let r = ready (goal.at.scale_flat-requires c).In-Params in
-    record { short = flat_for_short (ready_regular r) c.flat_params.ensures r.skippable.scaling; room = r.room; count_bound = r.square }
-
-pub returns-in-Params : goal.returns-in-Params
-returns-in-Params c =
-    let w = c in
-    let f = w in
-    let a = f.args in
-    flat_writes bits32 a.n a.qp_prime.0 a.bit_depth a.extended_precision a.levels.now a.out.now _ f.in-Params.by _ (ready (goal.at.returns-in-Params c).In-Params)
-    (flat_counted (ready_regular (ready (goal.at.returns-in-Params c).In-Params)) w.flat_params.ensures a.levels.now w.scale_flat.ensures)
-
-pub returns-in-Refused : goal.returns-in-Refused
-unfolding dequantized
-returns-in-Refused c =
-    let f = c in
-    let a = f.args in
-    block_refused_lem bits32 flat a.n a.qp_prime.0 a.bit_depth a.extended_precision a.levels.now a.out.now
-    (scaled_at flat a.n a.bit_depth a.extended_precision a.qp_prime.0 a.levels.now) f.in-Refused.why (is_refused (goal.at.returns-in-Refused c).In-Refused)
+pub returns : goal.returns
+returns c = rw (map-id c.args.out.now, map-id c.dequantize.new.out) at c.dequantize.ensures

@@ -1,5 +1,4 @@
 -- `text::put_block` meets its contract: the rows from the present one on are left to write, and each took at most 12 bytes a number.
-use mathlib.Core.Path.{◌≡◌}
 use Prim.Native.Nat.{◌+◌, ◌-◌, ◌*◌, ◌≤◌}
 use lib.ListN.{drop}
 use Rattle.text.specs.Text.{rows_text, block_text}
@@ -7,8 +6,5 @@ use Rattle.text.proofs.WroteLaws.{Left}
 use Rattle.text.proofs.put_block.Given as goal
 
 abbrev pub invariant-loop-row : goal.invariant-loop-row
-invariant-loop-row l = (l.row ≤ l.n) × (l.from ≡ l.row * l.n) × (l.end ≤ l.at + 12 * (l.row * l.n))
-    × Left l.initial.out l.at (block_text l.n l.values) l.out l.end (rows_text (l.n - l.row) l.n (drop l.from l.values))
-
-abbrev pub decreases-loop-row : goal.decreases-loop-row
-decreases-loop-row l = l.n - l.row
+invariant-loop-row l = (l.end ≤ l.at + 12 * (l.row * l.n))
+    × Left l.initial.out l.at (block_text l.n l.values) l.out l.end (rows_text (l.n - l.row) l.n (drop (l.row * l.n) l.values))

@@ -1,33 +1,15 @@
--- `text::put_bytes` meets its contract: the bytes from i on are left to write at the end reached.
+-- `text::put_bytes` meets its contract: the bytes stand between what was before and behind them.
+use mathlib.Core.Path.{◌≡◌, refl, sym}
+use mathlib.Core.List.{append_assoc}
+use Prim.Native.Nat.{◌+◌, ◌-◌}
 use native.Mathlib.Omega.{arith}
-use Rattle.text.proofs.WroteLaws.{left_start, bytes_more, bytes_done}
+use lib.ListN.{length}
+use lib.Seq.{drop-drop}
+use Rattle.std.proofs.lemmas.List.Edits.{sets-eq}
 use Rattle.text.proofs.put_bytes.Goals as goal
 
-pub loop-i-init : goal.loop-i-init
-loop-i-init c = (omega arith, omega arith, left_start _ _ _)
-
-pub bounds-bytes-i : goal.bounds-bytes-i
-bounds-bytes-i c = omega arith
-
-pub bounds-out-end : goal.bounds-out-end
-bounds-out-end c = omega (arith, c.loop-i.invariant.2.long)
-
-pub overflow_add-end : goal.overflow_add-end
-overflow_add-end c = omega (arith, c.loop-i.invariant.2.long)
-
-pub overflow_add-i : goal.overflow_add-i
-overflow_add-i c = omega arith
-
-pub loop-i-smaller : goal.loop-i-smaller
-loop-i-smaller c = omega arith
-
-pub loop-i-preserved : goal.loop-i-preserved
-loop-i-preserved c =
-    let l = c.loop-i in
-    (omega arith, omega arith, bytes_more c.args.bytes.now l.i (omega arith) l.invariant.2)
-
-pub shape_of-out : goal.shape_of-out
-shape_of-out c = c.loop-i.invariant.2.long
-
 pub returns : goal.returns
-returns c = bytes_done c.args.bytes.now c.loop-i.i c.loop-i-test.false c.loop-i.invariant.2
+returns c =
+    let a = c.args in
+    let n : a.at + length a.bytes.now - a.at ≡ length a.bytes.now = omega arith in
+    record { is = rw (c.copy_from_slice.ensures.after, n, drop-drop (length a.bytes.now) a.at a.out.now) (simp append_assoc at (sym (sets-eq a.bytes.now a.out.now a.at c.requires))); end = refl }

@@ -11,8 +11,9 @@ use mir.Facts.{to_z-of_z}
 use Rattle.std.proofs.lemmas.List.{length-replicate}
 use Rattle.integers.proofs.BoundLaws.{within_eq}
 use Rattle.h265.proofs.RangeLaws.{size_bound}
+use Rattle.transform_1d.proofs.MatrixLaws.{size_abs_sum}
 use Rattle.tiles.proofs.TileLaws.{filled_same}
-use Rattle.tiles_wide.proofs.PassLaws.{size_abs_sum, highs_within, lows_within, join_ask, joined_rows, parts-rows, pass_gives}
+use Rattle.tiles_wide.proofs.PassLaws.{highs_within, lows_within, join_ask, joined_rows, parts-rows, pass_gives}
 use Rattle.tiles_wide.proofs.parts.Goals as goal
 
 pub join-requires : goal.join-requires

@@ -1,63 +1,36 @@
 -- `transform_blocks::invert_32` meets its contract: each test is the next condition of the ladder, and what is left lies in the range.
-use mathlib.Core.Path.{◌≡◌, refl, sym, ap, ap₂, ◌∙◌, subst}
+use mathlib.Core.Path.{◌≡◌, sym, ap, ap₂, ◌∙◌, subst}
 use mathlib.Core.Bool.{false}
 use Prim.Native.Nat.{ℕ, ◌*◌, ◌≤◌}
 use native.Mathlib.Omega.{arith}
-use borrow.Author.Tests.{lt-ltb, le-ltb}
 use lib.ListN.{length}
+use Rattle.std.proofs.Common.{rules, Err}
 use Rattle.integers.specs.Lists.{overwrite}
 use Rattle.h265.specs.Range.{transform_range}
 use Rattle.h265.specs.Transform.{row_order, residual}
 use Rattle.h265.proofs.RangeLaws.{size_square, transform_range_least, transform_range_most, transform_range_depth}
-use Rattle.refusal.specs.declared.Refusal.TheVariants.{SizeInvalid, DepthInvalid, InputTooShort, OutputTooShort}
-use Rattle.refusal.specs.Condition.{size_refused, depth_refused, block_refused}
+use Rattle.refusal.specs.Outcome.{answer}
 use Rattle.refusal.specs.Written.{left, wrote}
-use Rattle.refusal.proofs.ConditionLaws.{size_accepted, depth_accepted}
+use Rattle.refusal.proofs.ConditionLaws.{size_accepted, depth_accepted, block_room}
 use Rattle.coefficients.specs.Outside.{first_outside, refusal_at}
 use Rattle.coefficients.proofs.OutsideLaws.{first_outside-inside}
 use Rattle.transform_1d.specs.MatrixOf.{matrix_of}
-use Rattle.transform_blocks.proofs.BlocksLaws.{writes_refused, writes_done, Checked, inverted_size, inverted_depth, inverted_input, inverted_output, inverted_outside, inverted_done, block_least, first_outside_least}
+use Rattle.transform_blocks.proofs.BlocksLaws.{writes_refused, writes_done, Checked, ladder_refused, ladder_passed, inverted_outside, inverted_done, block_least, first_outside_least}
 use Rattle.transform_blocks.proofs.invert_32.Goals as goal
-use Rattle.transform_blocks.proofs.invert_32.Goals.{After-first_outside-first, After-transform_range-range, Else-depth_refused, Else-out-n, Else-size_refused}
+use Rattle.transform_blocks.proofs.invert_32.Goals.{After-first_outside-first, After-transform_range-range, In_ok-block_refusal}
 
-size_ok : (c : Else-size_refused) → size_refused c.args.n ≡ false
-size_ok c = sym c.size_refused.ensures ∙ c.if-size_refused.false
-
-pub returns-then-size_refused : goal.returns-then-size_refused
-returns-then-size_refused c = writes_refused SizeInvalid (inverted_size false _ _ _ _ _ _ _ (sym c.size_refused.ensures ∙ c.if-size_refused.true))
-
-depth_ok : (c : Else-depth_refused) → depth_refused c.args.bit_depth ≡ false
-depth_ok c = sym c.depth_refused.ensures ∙ c.if-depth_refused.false
-
-pub returns-then-depth_refused : goal.returns-then-depth_refused
-returns-then-depth_refused c = writes_refused DepthInvalid (inverted_depth false _ _ _ _ _ _ _ (size_ok (goal.at.returns-then-depth_refused c).Else-size_refused) (sym c.depth_refused.ensures ∙ c.if-depth_refused.true))
-
-pub overflow_mul-n : goal.overflow_mul-n
-overflow_mul-n c =
-    let n = c.args.n in
-    record { fits = omega (arith, size_square n (size_accepted n (size_ok (goal.at.overflow_mul-n c).Else-size_refused))) }
-
-pub returns-then-coeff-n : goal.returns-then-coeff-n
-unfolding block_refused
-returns-then-coeff-n c =
-    let d = c in
-    writes_refused InputTooShort (inverted_input false _ _ _ _ _ _ _ (size_ok (goal.at.returns-then-coeff-n c).Else-size_refused) (depth_ok (goal.at.returns-then-coeff-n c).Else-depth_refused) refl (lt-ltb _ _ c.if-coeff-n.true))
-
-pub overflow_mul-n-2 : goal.overflow_mul-n-2
-overflow_mul-n-2 c = overflow_mul-n (goal.at.overflow_mul-n-2 c).Else-depth_refused
-
-pub returns-then-out-n : goal.returns-then-out-n
-unfolding block_refused
-returns-then-out-n c =
-    let d = c in
-    writes_refused OutputTooShort (inverted_output false _ _ _ _ _ _ _ (size_ok (goal.at.returns-then-out-n c).Else-size_refused) (depth_ok (goal.at.returns-then-out-n c).Else-depth_refused) refl (le-ltb _ _ c.if-coeff-n.false) (lt-ltb _ _ c.if-out-n.true))
+pub returns-in_err-block_refusal : goal.returns-in_err-block_refusal
+returns-in_err-block_refusal c =
+    let a = c.args in
+    let told : c.from_residual.result ≡ Err c.in_err-block_refusal.field-0.0 = search rules in
+    rw told
+    (ladder_refused false a.kind a.n a.bit_depth a.extended_precision a.nx a.coeff.now a.out.now c.in_err-block_refusal.field-0.0 (ap answer (sym c.in_err-block_refusal.was) ∙ c.block_refusal.ensures))
 
 -- nothing before row 9 holds
-checked : (c : Else-out-n) → Checked false c.args.n c.args.bit_depth c.args.extended_precision (length c.args.coeff.now) (length c.args.out.now)
-unfolding block_refused
+checked : (c : In_ok-block_refusal) → Checked false c.args.n c.args.bit_depth c.args.extended_precision (length c.args.coeff.now) (length c.args.out.now)
 checked c =
-    let d = c in
-    record { size = size_ok (goal.at.transform_range-range-requires c).Else-size_refused; depth = depth_ok (goal.at.transform_range-range-requires c).Else-depth_refused; width = refl; input = le-ltb _ _ c.if-coeff-n.false; output = le-ltb _ _ c.if-out-n.false }
+    let a = c.args in
+    ladder_passed false a.kind a.n a.bit_depth a.extended_precision a.nx a.coeff.now a.out.now (ap answer (sym c.in_ok-block_refusal.was) ∙ c.block_refusal.ensures)
 
 pub transform_range-range-requires : goal.transform_range-range-requires
 transform_range-range-requires c = (depth_accepted c.args.bit_depth (checked c).depth).1
@@ -65,30 +38,32 @@ transform_range-range-requires c = (depth_accepted c.args.bit_depth (checked c).
 range_most : (c : After-transform_range-range) → c.transform_range-range.result ≤ 22
 range_most c =
     let s = c in
-    rw c.transform_range-range.ensures (transform_range_most s.args.bit_depth s.args.extended_precision (depth_accepted s.args.bit_depth (sym c.depth_refused.ensures ∙ c.if-depth_refused.false)).1)
+    rw c.transform_range-range.ensures (transform_range_most s.args.bit_depth s.args.extended_precision (depth_accepted s.args.bit_depth (checked (goal.at.After-transform_range-range c).In_ok-block_refusal).depth).1)
 
 pub first_outside-first-requires : goal.first_outside-first-requires
 first_outside-first-requires c =
     let e = c in
     let s = e in
-    (size_accepted s.args.n (checked (goal.at.first_outside-first-requires c).Else-out-n).size, rw c.least-columns.ensures (omega arith), e.if-coeff-n.false, range_most (goal.at.first_outside-first-requires c).After-transform_range-range)
+    (size_accepted s.args.n (checked (goal.at.first_outside-first-requires c).In_ok-block_refusal).size, rw c.min-columns.ensures (omega arith), block_room s.args.n _ (checked (goal.at.first_outside-first-requires c).In_ok-block_refusal).input, range_most (goal.at.first_outside-first-requires c).After-transform_range-range)
 
-pub overflow_mul-n-3 : goal.overflow_mul-n-3
-overflow_mul-n-3 c = overflow_mul-n (goal.at.overflow_mul-n-3 c).Else-depth_refused
+pub overflow_mul-n : goal.overflow_mul-n
+overflow_mul-n c =
+    let n = c.args.n in
+    record { fits = omega (arith, size_square n (size_accepted n (checked (goal.at.overflow_mul-n c).In_ok-block_refusal).size)) }
 
 -- what the search found, for the count as given
 first_is : (c : After-first_outside-first) → first_outside (transform_range c.args.bit_depth c.args.extended_precision) c.args.n c.args.nx c.args.coeff.now ≡ c.first_outside-first.result
 first_is c =
     let s = c in
     sym (c.first_outside-first.ensures
-    ∙ ap₂ (λ (r k : ℕ). first_outside r s.args.n k s.args.coeff.now) c.transform_range-range.ensures c.least-columns.ensures
+    ∙ ap₂ (λ (r k : ℕ). first_outside r s.args.n k s.args.coeff.now) c.transform_range-range.ensures c.min-columns.ensures
     ∙ first_outside_least _ s.args.n s.args.nx s.args.coeff.now)
 
 pub refusal_at-requires : goal.refusal_at-requires
 refusal_at-requires c =
     let e = c in
     let s = e in
-    (size_accepted s.args.n (checked (goal.at.refusal_at-requires c).Else-out-n).size, c.if-first-n.true, e.if-coeff-n.false, range_most (goal.at.refusal_at-requires c).After-transform_range-range)
+    (size_accepted s.args.n (checked (goal.at.refusal_at-requires c).In_ok-block_refusal).size, c.if-first-n.true, block_room s.args.n _ (checked (goal.at.refusal_at-requires c).In_ok-block_refusal).input, range_most (goal.at.refusal_at-requires c).After-transform_range-range)
 
 pub returns-then-first-n : goal.returns-then-first-n
 returns-then-first-n c =
@@ -96,7 +71,7 @@ returns-then-first-n c =
     let r = f in
     let s = r in
     writes_refused c.refusal_at.result
-    (inverted_outside false _ _ _ _ _ _ _ f.first_outside-first.result (checked (goal.at.returns-then-first-n c).Else-out-n) (first_is (goal.at.returns-then-first-n c).After-first_outside-first) c.if-first-n.true
+    (inverted_outside false _ _ _ _ _ _ _ f.first_outside-first.result (checked (goal.at.returns-then-first-n c).In_ok-block_refusal) (first_is (goal.at.returns-then-first-n c).After-first_outside-first) c.if-first-n.true
     ∙ ap (left s.args.out.now) (sym (c.refusal_at.ensures ∙ ap (λ (q : ℕ). refusal_at q s.args.n s.args.coeff.now f.first_outside-first.result) r.transform_range-range.ensures)))
 
 pub invert_in-requires : goal.invert_in-requires
@@ -106,9 +81,9 @@ invert_in-requires c =
     let r = l in
     let e = r in
     let s = e in
-    let d = depth_accepted s.args.bit_depth (checked (goal.at.invert_in-requires c).Else-out-n).depth in
+    let d = depth_accepted s.args.bit_depth (checked (goal.at.invert_in-requires c).In_ok-block_refusal).depth in
     record {
-      size = size_accepted s.args.n (checked (goal.at.invert_in-requires c).Else-out-n).size;
+      size = size_accepted s.args.n (checked (goal.at.invert_in-requires c).In_ok-block_refusal).size;
       dst = s.requires.dst;
       depth = d;
       range = (
@@ -117,10 +92,10 @@ invert_in-requires c =
         rw r.transform_range-range.ensures (transform_range_depth s.args.bit_depth s.args.extended_precision d.0),
         rw r.transform_range-range.ensures (omega (arith, transform_range_least s.args.bit_depth s.args.extended_precision, d.1)),
       );
-      columns = rw l.least-columns.ensures (omega arith);
-      long = e.if-coeff-n.false;
-      room = e.if-out-n.false;
-      inside = first_outside-inside r.transform_range-range.result s.args.n l.least-columns.result s.args.coeff.now (rw l.least-columns.ensures (omega arith)) (subst (λ (k : ℕ). s.args.n * s.args.n ≤ k) f.first_outside-first.ensures c.if-first-n.false);
+      columns = rw l.min-columns.ensures (omega arith);
+      long = block_room s.args.n _ (checked (goal.at.invert_in-requires c).In_ok-block_refusal).input;
+      room = block_room s.args.n _ (checked (goal.at.invert_in-requires c).In_ok-block_refusal).output;
+      inside = first_outside-inside r.transform_range-range.result s.args.n l.min-columns.result s.args.coeff.now (rw l.min-columns.ensures (omega arith)) (subst (λ (k : ℕ). s.args.n * s.args.n ≤ k) f.first_outside-first.ensures c.if-first-n.false);
     }
 
 pub returns : goal.returns
@@ -131,8 +106,8 @@ returns c =
     let r = l in
     let e = r in
     let s = e in
-    writes_done (inverted_done false s.args.kind s.args.n s.args.bit_depth s.args.extended_precision s.args.nx s.args.coeff.now s.args.out.now (checked (goal.at.returns c).Else-out-n)
+    writes_done (inverted_done false s.args.kind s.args.n s.args.bit_depth s.args.extended_precision s.args.nx s.args.coeff.now s.args.out.now (checked (goal.at.returns c).In_ok-block_refusal)
     (rw (first_is (goal.at.returns c).After-first_outside-first) g.if-first-n.false)
     ∙ ap wrote (sym (g.invert_in.ensures
-    ∙ ap₂ (λ (q k : ℕ). overwrite (s.args.n * s.args.n) (row_order s.args.n (residual (matrix_of s.args.kind s.args.n) s.args.n s.args.bit_depth q k s.args.coeff.now)) s.args.out.now) r.transform_range-range.ensures l.least-columns.ensures
+    ∙ ap₂ (λ (q k : ℕ). overwrite (s.args.n * s.args.n) (row_order s.args.n (residual (matrix_of s.args.kind s.args.n) s.args.n s.args.bit_depth q k s.args.coeff.now)) s.args.out.now) r.transform_range-range.ensures l.min-columns.ensures
     ∙ block_least (matrix_of s.args.kind s.args.n) s.args.n s.args.bit_depth _ s.args.nx s.args.coeff.now s.args.out.now)))

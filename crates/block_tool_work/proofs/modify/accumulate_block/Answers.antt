@@ -20,8 +20,8 @@ use Rattle.block_tool_work.proofs.modify.accumulate_block.Goals.{then-back-gt0, 
 pub loop-i-init : goal.loop-i-init
 loop-i-init c = (stored_none, omega arith)
 
-pub overflow_mul-n : goal.overflow_mul-n
-overflow_mul-n c = omega (arith, size_square c.args.n c.requires.0)
+pub overflow_mul-i-end : goal.overflow_mul-i-end
+overflow_mul-i-end c = omega (arith, size_square c.args.n c.requires.0)
 
 positive : (c : Start) → 0 < c.args.n
 positive c = omega (arith, (size_bound c.args.n c.requires.0).0)
@@ -104,12 +104,6 @@ offset_bounds-out-i-then-back-gt0-2 c = offset_bounds-out-i (goal.at.offset_boun
 
 pub bounds-out-i : goal.bounds-out-i
 bounds-out-i c = held (goal.at.bounds-out-i c).In-loop-i
-
-pub overflow_add-i : goal.overflow_add-i
-overflow_add-i c = omega (arith, size_square c.args.n c.requires.0, c.loop-i-test.true)
-
-pub loop-i-smaller : goal.loop-i-smaller
-loop-i-smaller c = omega (arith, c.loop-i-test.true)
 
 pub loop-i-preserved : goal.loop-i-preserved
 loop-i-preserved c =

@@ -7,6 +7,3 @@ use Rattle.block_tool_work.proofs.modify.accumulate_block.Given as goal
 
 abbrev pub invariant-loop-i : goal.invariant-loop-i
 invariant-loop-i l = Stored (accumulated l.accumulate l.n (at l.initial.out)) l.initial.out l.i l.out × (l.i ≤ l.n * l.n)
-
-abbrev pub decreases-loop-i : goal.decreases-loop-i
-decreases-loop-i l = l.n * l.n - l.i

@@ -1,4 +1,4 @@
--- `coefficients::rows::zero_run` meets its contract: the coefficients passed are zero. The measure is what is left of the run.
+-- `coefficients::rows::zero_run` meets its contract: the coefficients passed are zero.
 use mathlib.Core.Path.{sym, subst}
 use native.Mathlib.Omega.{arith}
 use mir.Syntax.{w32}
@@ -9,7 +9,7 @@ use Rattle.integers.proofs.MachineLaws.{eq_bits}
 use Rattle.coefficients.proofs.rows.zero_run.Goals as goal
 
 pub loop-c-init : goal.loop-c-init
-loop-c-init c = (omega arith, λ k l. absurd (not-suc-le-zero l))
+loop-c-init c = λ k l. absurd (not-suc-le-zero l)
 
 pub overflow_add-base : goal.overflow_add-base
 overflow_add-base c = omega arith
@@ -23,15 +23,9 @@ bounds-coeff-base c = omega arith
 pub returns-then-coeff-base-ne0 : goal.returns-then-coeff-base-ne0
 returns-then-coeff-base-ne0 c = λ e. absurd (subst T (sym e) tt)
 
-pub overflow_add-c : goal.overflow_add-c
-overflow_add-c c = omega arith
-
-pub loop-c-smaller : goal.loop-c-smaller
-loop-c-smaller c = omega arith
-
 pub loop-c-preserved : goal.loop-c-preserved
 loop-c-preserved c =
-    (omega arith, below_more _ _ c.loop-c.invariant.1 (eq_bits {w = w32} (record { sfits = c.t9-1.given }) c.if-coeff-base-ne0.false))
+    below_more _ _ c.loop-c.invariant (eq_bits {w = w32} (record { sfits = c.t9-1.given }) c.if-coeff-base-ne0.false)
 
 pub returns : goal.returns
-returns c = λ e k l. c.loop-c.invariant.1 k (omega arith)
+returns c = λ e k l. c.loop-c.invariant k (omega arith)

@@ -41,12 +41,6 @@ offset_bounds-r-k c = omega (arith, size_bound c.args.n c.requires.1)
 pub bounds-r-k : goal.bounds-r-k
 bounds-r-k c = omega (arith, size_bound c.args.n c.requires.1)
 
-pub overflow_add-k : goal.overflow_add-k
-overflow_add-k c = omega arith
-
-pub loop-k-smaller : goal.loop-k-smaller
-loop-k-smaller c = omega arith
-
 pub loop-k-preserved : goal.loop-k-preserved
 loop-k-preserved c =
     let f : SFits w16 (get_or c.args.t.now (c.loop-k.k * (1024 / c.args.n) + c.args.m) (pos 0)) = record { sfits = c.r-1.given } in (

@@ -9,6 +9,3 @@ use Rattle.contributions.proofs.matrix.dct_column.Given as goal
 
 abbrev pub invariant-loop-k : goal.invariant-loop-k
 invariant-loop-k l = (l.k ≤ l.n) × (l.stride ≡ 1024 / l.n) × Stored (λ i. trans_matrix l.n i l.m) (replicate 32 (pos 0)) l.k l.r
-
-abbrev pub decreases-loop-k : goal.decreases-loop-k
-decreases-loop-k l = l.n - l.k

@@ -38,12 +38,6 @@ offset_bounds-r-k c = omega arith
 pub bounds-r-k : goal.bounds-r-k
 bounds-r-k c = omega arith
 
-pub overflow_add-k : goal.overflow_add-k
-overflow_add-k c = omega arith
-
-pub loop-k-smaller : goal.loop-k-smaller
-loop-k-smaller c = omega arith
-
 pub loop-k-preserved : goal.loop-k-preserved
 loop-k-preserved c =
     let f : SFits w16 (get_or c.args.t.now (32 * (c.loop-k.k % 2) + 2 * c.args.m + c.loop-k.k / 2) (pos 0)) = record { sfits = c.r-1.given } in (

@@ -8,6 +8,3 @@ use Rattle.contributions.proofs.matrix.dst_column.Given as goal
 
 abbrev pub invariant-loop-k : goal.invariant-loop-k
 invariant-loop-k l = (l.k ≤ 4) × Stored (λ i. dst_matrix i l.m) (replicate 32 (pos 0)) l.k l.r
-
-abbrev pub decreases-loop-k : goal.decreases-loop-k
-decreases-loop-k l = 4 - l.k

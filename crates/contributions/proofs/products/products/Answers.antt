@@ -71,12 +71,6 @@ pub bounds-out-i : goal.bounds-out-i
 bounds-out-i c =
     omega (arith, stored_length c.loop-i.invariant.2, c.requires.2)
 
-pub overflow_add-i : goal.overflow_add-i
-overflow_add-i c = omega arith
-
-pub loop-i-smaller : goal.loop-i-smaller
-loop-i-smaller c = omega arith
-
 value_is : (c : After-product)
     → let l = c in
     let a = l.args in

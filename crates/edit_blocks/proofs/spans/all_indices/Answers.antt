@@ -51,12 +51,6 @@ offset_bounds-most-i c = omega (arith, at_most c)
 pub bounds-most-i : goal.bounds-most-i
 bounds-most-i c = let l = c in omega (arith, stored_length l.loop-i.invariant.3, l.requires.2)
 
-pub overflow_add-i : goal.overflow_add-i
-overflow_add-i c = omega arith
-
-pub loop-i-smaller : goal.loop-i-smaller
-loop-i-smaller c = omega arith
-
 -- the ends of what `index_span` leaves
 module _ (c : After-index_span-span) where
   abbrev given : Tables

@@ -8,6 +8,3 @@ use Rattle.edit_blocks.proofs.spans.all_indices.Given as goal
 abbrev pub invariant-loop-i : goal.invariant-loop-i
 invariant-loop-i l = let a = tables l.t l.d l.ones l.between l.twos l.target in
     (l.i ≤ l.n * l.n) × (l.count ≡ l.n * l.n) × Stored (least_by a l.wanted l.n l.range l.shift) l.initial.least l.i l.least × Stored (most_by a l.wanted l.n l.range l.shift) l.initial.most l.i l.most
-
-abbrev pub decreases-loop-i : goal.decreases-loop-i
-decreases-loop-i l = l.n * l.n - l.i

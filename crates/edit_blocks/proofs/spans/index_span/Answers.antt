@@ -23,12 +23,6 @@ row_span-left-requires c =
     let h = l.requires in
     (h.0, h.1, h.2, omega arith, l.loop-m.invariant.1.ordered, l.loop-m.invariant.1.most)
 
-pub overflow_add-m : goal.overflow_add-m
-overflow_add-m c = omega arith
-
-pub loop-m-smaller : goal.loop-m-smaller
-loop-m-smaller c = omega arith
-
 pub loop-m-preserved : goal.loop-m-preserved
 loop-m-preserved c =
     let l = c in

@@ -6,6 +6,3 @@ use Rattle.edit_blocks.proofs.spans.index_span.Given as goal
 
 abbrev pub invariant-loop-m : goal.invariant-loop-m
 invariant-loop-m l = (l.m ≤ l.n) × Sieved l.range (hit_by (tables l.t l.d l.ones l.between l.twos l.target) l.wanted l.n l.range l.shift l.k l.c) 0 (l.m * l.n) 0 (value_count l.range) (record { from = l.from; to = l.to })
-
-abbrev pub decreases-loop-m : goal.decreases-loop-m
-decreases-loop-m l = l.n - l.m

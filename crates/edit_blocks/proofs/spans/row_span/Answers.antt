@@ -12,12 +12,6 @@ sample_span-left-requires c =
     let h = l.requires in
     (h.0, h.1, h.2, h.3, omega arith, l.loop-j.invariant.1.ordered, omega (arith, l.loop-j.invariant.1.most, h.5))
 
-pub overflow_add-j : goal.overflow_add-j
-overflow_add-j c = omega arith
-
-pub loop-j-smaller : goal.loop-j-smaller
-loop-j-smaller c = omega arith
-
 pub loop-j-preserved : goal.loop-j-preserved
 loop-j-preserved c =
     let l = c in

@@ -5,6 +5,3 @@ use Rattle.edit_blocks.proofs.spans.row_span.Given as goal
 
 abbrev pub invariant-loop-j : goal.invariant-loop-j
 invariant-loop-j l = (l.j ≤ l.n) × Sieved l.range (hit_by (tables l.t l.d l.ones l.between l.twos l.target) l.wanted l.n l.range l.shift l.k l.c) (l.m * l.n) (l.m * l.n + l.j) l.initial.from l.initial.to (record { from = l.from; to = l.to })
-
-abbrev pub decreases-loop-j : goal.decreases-loop-j
-decreases-loop-j l = l.n - l.j

@@ -9,6 +9,3 @@ use Rattle.edit_tables.proofs.matrix.entries.Given as goal
 
 abbrev pub invariant-loop-i : goal.invariant-loop-i
 invariant-loop-i l = (l.i ≤ l.n * l.n) × (l.count ≡ l.n * l.n) × Stored (row_order l.n (lane_matrix l.t)) zeros l.i l.r
-
-abbrev pub decreases-loop-i : goal.decreases-loop-i
-decreases-loop-i l = l.n * l.n - l.i

@@ -33,12 +33,6 @@ offset_bounds-r-i c = omega (arith, size_square c.args.n c.requires.size)
 pub bounds-r-i : goal.bounds-r-i
 bounds-r-i c = omega (arith, size_square c.args.n c.requires.size)
 
-pub overflow_add-i : goal.overflow_add-i
-overflow_add-i c = omega arith
-
-pub loop-i-smaller : goal.loop-i-smaller
-loop-i-smaller c = omega arith
-
 pub loop-i-preserved : goal.loop-i-preserved
 loop-i-preserved c =
     let l = c in

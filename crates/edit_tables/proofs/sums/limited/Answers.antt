@@ -57,12 +57,6 @@ offset_bounds-r-i c = omega (arith, size_square c.args.n c.requires.0)
 pub bounds-r-i : goal.bounds-r-i
 bounds-r-i c = omega (arith, size_square c.args.n c.requires.0)
 
-pub overflow_add-i : goal.overflow_add-i
-overflow_add-i c = omega arith
-
-pub loop-i-smaller : goal.loop-i-smaller
-loop-i-smaller c = omega arith
-
 value_is : (c : After-stage_one)
     → let l = c in
     let a = l.args in

@@ -10,6 +10,3 @@ use Rattle.edit_tables.proofs.sums.limited.Given as goal
 
 abbrev pub invariant-loop-i : goal.invariant-loop-i
 invariant-loop-i l = (l.i ≤ l.n * l.n) × (l.count ≡ l.n * l.n) × Stored (row_order l.n (λ m c. clip_coeff l.range (round_shift (block_at l.n l.ones m c) 7))) zeros l.i l.r
-
-abbrev pub decreases-loop-i : goal.decreases-loop-i
-decreases-loop-i l = l.n * l.n - l.i

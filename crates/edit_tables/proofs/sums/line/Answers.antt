@@ -90,12 +90,6 @@ mac-more-requires c =
     rw (l.loop-k.invariant.1, round_trip (entry_fits c), round_trip (value_fits c))
     (within_le (omega arith) (so_far_within (goal.at.mac-more-requires c).At-loop-k), entry_within c, within_le (omega arith) (value_within c))
 
-pub overflow_add-k-in-loop-k : goal.overflow_add-k-in-loop-k
-overflow_add-k-in-loop-k c = omega arith
-
-pub loop-k-smaller : goal.loop-k-smaller
-loop-k-smaller c = omega arith
-
 pub loop-k-preserved : goal.loop-k-preserved
 unfolding block_at
 loop-k-preserved c =

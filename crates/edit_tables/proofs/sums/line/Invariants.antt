@@ -8,6 +8,3 @@ use Rattle.edit_tables.proofs.sums.line.Given as goal
 
 abbrev pub invariant-loop-k : goal.invariant-loop-k
 invariant-loop-k l = (l.k ≤ l.n) × (l.sum ≡ transform_line (block_at l.n l.t) l.k (λ i. get_or l.x (l.base + i * l.stride) (pos 0)) l.m)
-
-abbrev pub decreases-loop-k : goal.decreases-loop-k
-decreases-loop-k l = l.n - l.k

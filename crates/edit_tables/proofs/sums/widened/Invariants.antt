@@ -8,6 +8,3 @@ use Rattle.edit_tables.proofs.sums.widened.Given as goal
 
 abbrev pub invariant-loop-i : goal.invariant-loop-i
 invariant-loop-i l = (l.i ≤ l.n * l.n) × (l.count ≡ l.n * l.n) × Stored (row_order l.n (block_at l.n l.coeff)) zeros l.i l.r
-
-abbrev pub decreases-loop-i : goal.decreases-loop-i
-decreases-loop-i l = l.n * l.n - l.i

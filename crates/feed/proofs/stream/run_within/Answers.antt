@@ -84,7 +84,7 @@ turned : (c : After-take_record-taken)
 turned c =
     let l = c.loop-state in
     let k = c.take_record-taken.ensures in
-    turn feed_walk _ _ l.state _ c.record_length.result c.least-stop.result (input_fits c) c.loop-state-test.true c.record_length.ensures.value c.least-stop.ensures (record { is = k.answered }) k.state k.text (full_ample _ (full_after c))
+    turn feed_walk _ _ l.state _ c.record_length.result c.min-stop.result (input_fits c) c.loop-state-test.true c.record_length.ensures.value c.min-stop.ensures (record { is = k.answered }) k.state k.text (full_ample _ (full_after c))
 
 -- the buffer behind a record has room for a line
 room_behind : (c : After-take_record-taken) → c.take_record-taken.result.end + 40 ≤ length c.take_record-taken.new.out
@@ -95,25 +95,25 @@ room_behind c =
 pub put_refused-requires : goal.put_refused-requires
 put_refused-requires c = room_behind (goal.at.put_refused-requires c).After-take_record-taken
 
-pub shape_of-out-then-number-ne0 : goal.shape_of-out-then-number-ne0
-shape_of-out-then-number-ne0 c = c.put_refused.auto.out ∙ c.take_record-taken.auto.out ∙ c.loop-state.invariant.0.left.long
+pub shape_of-out-in-Err : goal.shape_of-out-in-Err
+shape_of-out-in-Err c = c.put_refused.auto.out ∙ c.take_record-taken.auto.out ∙ c.loop-state.invariant.0.left.long
 
-pub returns-then-number-ne0 : goal.returns-then-number-ne0
-returns-then-number-ne0 c =
+pub returns-in-Err : goal.returns-in-Err
+returns-in-Err c =
     let l = c.loop-state in
     let f = c.put_refused in (
-      told _ _ _ _ _ l.invariant.2 (left_last (feed_refused l.invariant.0 (turned (goal.at.returns-then-number-ne0 c).After-take_record-taken) c.number_of-number.ensures c.if-number-ne0.true) f.ensures.wrote),
-      counts _ _ (omega (arith, f.ensures.bound, f.auto.out, room_behind (goal.at.returns-then-number-ne0 c).After-take_record-taken)),
+      told _ _ _ _ _ l.invariant.2 (left_last (feed_refused l.invariant.0 (turned (goal.at.returns-in-Err c).After-take_record-taken) _ c.in-Err.is) (rw c.number.ensures at f.ensures.wrote)),
+      counts _ _ (omega (arith, f.ensures.bound, f.auto.out, room_behind (goal.at.returns-in-Err c).After-take_record-taken)),
     )
 
 pub loop-state-smaller : goal.loop-state-smaller
 loop-state-smaller c =
-    omega (arith, (turned (goal.at.loop-state-smaller c).After-take_record-taken).inside, (feed_passed c.loop-state.invariant.0 (turned (goal.at.loop-state-smaller c).After-take_record-taken) c.number_of-number.ensures c.if-number-ne0.false).next)
+    omega (arith, (turned (goal.at.loop-state-smaller c).After-take_record-taken).inside, (feed_passed c.loop-state.invariant.0 (turned (goal.at.loop-state-smaller c).After-take_record-taken) c.in_default.is).next)
 
 pub loop-state-preserved : goal.loop-state-preserved
 loop-state-preserved c =
     let l = c.loop-state in
-    (going_more l.invariant.0 (turned (goal.at.loop-state-preserved c).After-take_record-taken) (feed_passed l.invariant.0 (turned (goal.at.loop-state-preserved c).After-take_record-taken) c.number_of-number.ensures c.if-number-ne0.false), full_after (goal.at.loop-state-preserved c).After-take_record-taken, l.invariant.2)
+    (going_more l.invariant.0 (turned (goal.at.loop-state-preserved c).After-take_record-taken) (feed_passed l.invariant.0 (turned (goal.at.loop-state-preserved c).After-take_record-taken) c.in_default.is), full_after (goal.at.loop-state-preserved c).After-take_record-taken, l.invariant.2)
 
 room_last_line : (c : At-loop-state) → length c.args.input.now ≤ c.loop-state.state.offset → c.loop-state.end + 40 ≤ length c.loop-state.out
 room_last_line c h = let g = c.loop-state.invariant.0 in omega (arith, g.left.long, g.room, rw (drop_of_length-le c.args.input.now h, room_last record_room g.fuel) at g.room)

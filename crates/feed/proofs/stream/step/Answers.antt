@@ -10,7 +10,7 @@ use Rattle.feed_state.specs.Buffers.{Lent, lent, in_buffers}
 use Rattle.feed_state.specs.Taken.{state_of, Ample}
 use Rattle.feed_history.specs.Stepping.{too_short, stepping_by}
 use Rattle.feed_history.proofs.StepsLaws.{enough_room}
-use Rattle.feed.proofs.StepLaws.{long_buffers, steps_none, steps_done, steps_refused}
+use Rattle.feed.proofs.StepLaws.{long_buffers, steps_none, steps_taken, told}
 use Rattle.feed.proofs.stream.step.Goals as goal
 use Rattle.feed.proofs.stream.step.Goals.{Else-out-record_room, Else-too_short, Start}
 
@@ -48,12 +48,7 @@ take_record-taken-requires c = record {
   kind_in_bounds = omega (arith, room (goal.at.take_record-taken-requires c).Else-out-record_room);
 }
 
-pub returns-in-Done : goal.returns-in-Done
-returns-in-Done c =
-    rw (enough_room (record_effect in_buffers) record_room (state_of c.args.state (lent_at (goal.at.returns-in-Done c).Start)) c.args.kind c.args.body.now (length c.args.out.now) (room (goal.at.returns-in-Done c).Else-out-record_room) (ample (goal.at.returns-in-Done c).Else-too_short))
-    (steps_done c.take_record-taken.ensures (omega (arith, room (goal.at.returns-in-Done c).Else-out-record_room, c.take_record-taken.auto.out)) c.in-Done.is)
-
-pub returns-in-Refused : goal.returns-in-Refused
-returns-in-Refused c =
-    rw (enough_room (record_effect in_buffers) record_room (state_of c.args.state (lent_at (goal.at.returns-in-Refused c).Start)) c.args.kind c.args.body.now (length c.args.out.now) (room (goal.at.returns-in-Refused c).Else-out-record_room) (ample (goal.at.returns-in-Refused c).Else-too_short))
-    (steps_refused c.take_record-taken.ensures (omega (arith, room (goal.at.returns-in-Refused c).Else-out-record_room, c.take_record-taken.auto.out)) _ c.in-Refused.is)
+pub returns : goal.returns
+returns c =
+    rw (enough_room (record_effect in_buffers) record_room (state_of c.args.state (lent_at (goal.at.returns c).Start)) c.args.kind c.args.body.now (length c.args.out.now) (room (goal.at.returns c).Else-out-record_room) (ample (goal.at.returns c).Else-too_short))
+    (steps_taken c.take_record-taken.ensures (omega (arith, room (goal.at.returns c).Else-out-record_room, c.take_record-taken.auto.out)) _ (told _ _ c.map_err-answer.ensures.cases) c.map_err-answer.ensures.variant)

@@ -20,7 +20,7 @@ known c e = sym (c.is_unknown.ensures ∙ ap is_unknown c.kind_of.ensures) ∙ e
 
 pub returns-then-is_unknown : goal.returns-then-is_unknown
 unfolding feed_room
-returns-then-is_unknown c = c.capped_sum.ensures ∙ sym (room_unknown c.loop-at.invariant c.loop-at-test.true (known (goal.at.returns-then-is_unknown c).After-is_unknown c.if-is_unknown.true))
+returns-then-is_unknown c = c.saturating_add.ensures ∙ sym (room_unknown c.loop-at.invariant c.loop-at-test.true (known (goal.at.returns-then-is_unknown c).After-is_unknown c.if-is_unknown.true))
 
 pub overflow_add-at : goal.overflow_add-at
 overflow_add-at c = omega arith
@@ -29,12 +29,12 @@ pub overflow_add-at-in-loop-at : goal.overflow_add-at-in-loop-at
 overflow_add-at-in-loop-at c = omega arith
 
 pub loop-at-smaller : goal.loop-at-smaller
-loop-at-smaller c = omega (arith, c.least-at.ensures, c.loop-at-test.true)
+loop-at-smaller c = omega (arith, c.min-at.ensures, c.loop-at-test.true)
 
 pub loop-at-preserved : goal.loop-at-preserved
 loop-at-preserved c =
-    room_more c.loop-at.invariant _ c.loop-at-test.true (known (goal.at.loop-at-preserved c).After-is_unknown c.if-is_unknown.false) (rw c.record_length.ensures.value at c.least-at.ensures) _ (rw c.record_room.ensures.value at c.capped_sum-room.ensures)
+    room_more c.loop-at.invariant _ c.loop-at-test.true (known (goal.at.loop-at-preserved c).After-is_unknown c.if-is_unknown.false) (rw c.record_length.ensures.value at c.min-at.ensures) _ (rw c.record_room.ensures.value at c.saturating_add-room.ensures)
 
 pub returns : goal.returns
 unfolding feed_room
-returns c = c.capped_sum-2.ensures ∙ sym (room_end c.loop-at.invariant c.loop-at-test.false)
+returns c = c.saturating_add-2.ensures ∙ sym (room_end c.loop-at.invariant c.loop-at-test.false)

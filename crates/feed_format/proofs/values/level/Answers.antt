@@ -1,13 +1,15 @@
--- `feed_format::values::level` meets its contract: below 2^31 the bits are the number, from there on their complement is the number less one, negated.
+-- `feed_format::values::level` meets its contract: the four bytes are the bits of the number.
+use mathlib.Core.Path.{◌≡◌, ap, ◌∙◌}
+use Prim.Native.Nat.{◌+◌, ◌*◌}
 use native.Mathlib.Omega.{arith}
-use Rattle.feed_format.proofs.ValueLaws.{level_low, level_fits, level_high}
+use borrow.Author.Rules.{sfits_of}
+use mir.Syntax.{w32}
+use mir.Val.{to_z}
+use Rattle.integers.proofs.MachineLaws.{round_trip}
+use Rattle.feed_format.proofs.ValueLaws.{machine_is}
 use Rattle.feed_format.proofs.values.level.Goals as goal
 
-pub returns-then-bits-lt2147483648 : goal.returns-then-bits-lt2147483648
-returns-then-bits-lt2147483648 c = rw (← c.four_bytes-bits.ensures) (level_low _ c.if-bits-lt2147483648.true)
-
-pub overflow_sub-result-2 : goal.overflow_sub-result-2
-overflow_sub-result-2 c = level_fits _ c.if-bits-lt2147483648.false (omega arith)
-
 pub returns : goal.returns
-returns c = rw (← c.four_bytes-bits.ensures) (level_high _ c.if-bits-lt2147483648.false (omega arith))
+returns c =
+    let a = c.args in
+    round_trip {w = w32} (sfits_of c.from_le_bytes.type_inv) ∙ c.from_le_bytes.ensures ∙ ap (to_z w32) (omega arith) ∙ machine_is (a.a + 256 * (a.b + 256 * (a.c + 256 * a.d))) (omega arith)

@@ -14,28 +14,28 @@ use Rattle.feed_records.proofs.HeldLaws.{reading-closed, reading_sized, reading_
 use Rattle.feed_records.proofs.open_block.take_reading.Goals as goal
 use Rattle.feed_records.proofs.open_block.take_reading.Goals.{Else-size_refused, Start}
 
-pub returns-then-not-editing : goal.returns-then-not-editing
-returns-then-not-editing c =
+pub returns-in_default : goal.returns-in_default
+returns-in_default c =
     let e = c.args.residual.now in
-    record { leaves = λ ls d g. rw (reading-closed c.args.s (lent ls d g e) c.if-not-editing.true) (quiet_takes _ _ (c.kept.ensures.leaves (lent ls d g e))) }
+    record { leaves = λ ls d g. rw (reading-closed c.args.s (lent ls d g e) c.in_default.is) (quiet_takes _ _ (c.kept.ensures.leaves (lent ls d g e))) }
 
 pub returns-then-size_refused : goal.returns-then-size_refused
 returns-then-size_refused c =
     let e = c.args.residual.now in
     record {
       leaves = λ ls d g.
-          rw (reading_sized c.args.s (lent ls d g e) c.if-not-editing.false (sym c.size_refused.ensures ∙ c.if-size_refused.true))
+          rw (reading_sized c.args.s (lent ls d g e) c.in-Some.held c.in-Some.is (sym c.size_refused.ensures ∙ c.if-size_refused.true))
           (quiet_takes _ _ (c.kept-then-size_refused.ensures.leaves (lent ls d g e)));
     }
 
-sized : (c : Else-size_refused) → size_refused c.args.s.block.size ≡ false
+sized : (c : Else-size_refused) → size_refused c.in-Some.held.size ≡ false
 sized c = sym c.size_refused.ensures ∙ c.if-size_refused.false
 
-known : (c : Else-size_refused) → T (is_size c.args.s.block.size)
-known c = size_accepted c.args.s.block.size (sized c)
+known : (c : Else-size_refused) → T (is_size c.in-Some.held.size)
+known c = size_accepted c.in-Some.held.size (sized c)
 
-few : (c : Else-size_refused) → let n = c.args.s.block.size in n * n ≤ 1024
-few c = size_square c.args.s.block.size (known c)
+few : (c : Else-size_refused) → let n = c.in-Some.held.size in n * n ≤ 1024
+few c = size_square c.in-Some.held.size (known c)
 
 pub put_reading-end-requires : goal.put_reading-end-requires
 put_reading-end-requires c =
@@ -50,6 +50,6 @@ returns c =
     rw (c.moved.ensures, c.with_open.ensures)
     (record {
       leaves = λ ls d g.
-          reading_takes c.args.s (lent ls d g e) c.if-not-editing.false (sized (goal.at.returns c).Else-size_refused) (fits (goal.at.returns c).Start)
+          reading_takes c.args.s (lent ls d g e) c.in-Some.held c.in-Some.is (sized (goal.at.returns c).Else-size_refused) (fits (goal.at.returns c).Start)
           (record { wrote = c.put_reading-end.ensures.wrote; bound = omega (arith, few (goal.at.returns c).Else-size_refused, c.put_reading-end.ensures.bound) });
     })

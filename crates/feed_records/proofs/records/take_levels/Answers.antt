@@ -5,13 +5,13 @@ use Rattle.feed_state.specs.Taken.{state_of}
 use Rattle.feed_rules.specs.Record.{levels_by}
 use Rattle.feed_records.proofs.records.take_levels.Goals as goal
 
-pub returns-in-Nothing : goal.returns-in-Nothing
+pub returns-in-None : goal.returns-in-None
 unfolding levels_by
-returns-in-Nothing c =
+returns-in-None c =
     let a = c.args in
-    rw (levels_given in_buffers (state_of a.s (lent a.levels.now a.coeff.now a.inter.now a.residual.now)) a.n a.body.now c.in-Nothing.is) (quiet_takes _ _ (c.kept.ensures.leaves _))
+    rw (levels_given in_buffers (state_of a.s (lent a.levels.now a.coeff.now a.inter.now a.residual.now)) a.n a.body.now c.in-None.is) (quiet_takes _ _ (c.kept.ensures.leaves _))
 
-pub returns-in-These : goal.returns-in-These
-returns-in-These c =
+pub returns-in-Some : goal.returns-in-Some
+returns-in-Some c =
     let a = c.args in
-    rw (levels_given in_buffers (state_of a.s (lent a.levels.now a.coeff.now a.inter.now a.residual.now)) a.n a.body.now c.in-These.is) c.take_block.ensures
+    rw (levels_given in_buffers (state_of a.s (lent a.levels.now a.coeff.now a.inter.now a.residual.now)) a.n a.body.now c.in-Some.is) c.take_block.ensures

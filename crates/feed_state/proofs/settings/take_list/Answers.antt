@@ -20,4 +20,4 @@ unfolding list_effect
 returns c =
     let a = c.args in
     let with_entries : Lent → List ℕ → FeedState Buffered = λ w l. record { given = a.s.given; list = listed l (get_or a.body.now 64 0); block = closed_in (state_of a.s w).block; blocks = a.s.blocks; offset = c.behind.result } in
-    record { leaves = λ w. rw c.moved.ensures (quiet_moved a.s _ w _ a.at (fits (goal.at.returns c).Start) c.behind.ensures (ap (with_entries w) c.entries_of-entries.ensures)) }
+    record { leaves = λ w. rw c.moved.ensures (quiet_moved a.s _ w _ a.at (fits (goal.at.returns c).Start) c.behind.ensures (ap (with_entries w) c.entries_of.ensures)) }

@@ -13,4 +13,4 @@ overflow_mul-n-2 c = omega (arith, size_square c.args.n c.requires)
 
 pub returns : goal.returns
 unfolding capped
-returns c = λ w. rw (c.behind.ensures, c.one_more.ensures) refl
+returns c = λ w. rw (c.behind.ensures, c.saturating_add.ensures) refl

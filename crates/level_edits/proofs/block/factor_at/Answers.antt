@@ -2,12 +2,12 @@
 use Rattle.level_search.proofs.BlockLaws.{coeff_factor, coeff_refused}
 use Rattle.level_edits.proofs.block.factor_at.Goals as goal
 
-pub returns-in-Factor : goal.returns-in-Factor
-returns-in-Factor c =
+pub returns-in-Ok : goal.returns-in-Ok
+returns-in-Ok c =
     let a = c.args in
-    coeff_factor a.list.now a.dc a.n a.index c.requires.0 c.requires.1 (rw c.in-Factor.is at c.scaling_coeff.ensures)
+    coeff_factor a.list.now a.dc a.n a.index c.requires.0 c.requires.1 (rw c.in-Ok.is at c.scaling_coeff.ensures)
 
-pub returns-in-Refused : goal.returns-in-Refused
-returns-in-Refused c =
+pub returns-in-Err : goal.returns-in-Err
+returns-in-Err c =
     let a = c.args in
-    coeff_refused a.list.now a.dc a.n a.index c.requires.0 c.requires.1 c.in-Refused.field-0 (rw c.in-Refused.is at c.scaling_coeff.ensures)
+    coeff_refused a.list.now a.dc a.n a.index c.requires.0 c.requires.1 c.in-Err.field-0 (rw c.in-Err.is at c.scaling_coeff.ensures)

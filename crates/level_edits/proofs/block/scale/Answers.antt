@@ -38,12 +38,6 @@ offset_bounds-out-i c = omega (arith, size_square c.args.n c.requires.1.size)
 pub bounds-out-i : goal.bounds-out-i
 bounds-out-i c = omega (arith, size_square c.args.n c.requires.1.size)
 
-pub overflow_add-i : goal.overflow_add-i
-overflow_add-i c = omega arith
-
-pub loop-i-smaller : goal.loop-i-smaller
-loop-i-smaller c = omega arith
-
 value_is : (c : After-scaled_value-x)
     → let l = c in
     let a = l.args in

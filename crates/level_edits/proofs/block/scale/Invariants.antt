@@ -10,6 +10,3 @@ use Rattle.level_edits.proofs.block.scale.Given as goal
 
 abbrev pub invariant-loop-i : goal.invariant-loop-i
 invariant-loop-i l = (l.i ≤ l.n * l.n) × (l.count ≡ l.n * l.n) × Stored (λ k. scaling_by l.by (listed l.list l.dc) l.n k (get_or l.levels k (pos 0))) l.initial.out l.i l.out
-
-abbrev pub decreases-loop-i : goal.decreases-loop-i
-decreases-loop-i l = l.n * l.n - l.i

@@ -62,12 +62,6 @@ offset_bounds-most-i c = omega (arith, at_most (goal.at.offset_bounds-most-i c).
 pub bounds-most-i : goal.bounds-most-i
 bounds-most-i c = omega (arith, stored_length c.loop-i.invariant.3, c.requires.4)
 
-pub overflow_add-i : goal.overflow_add-i
-overflow_add-i c = omega arith
-
-pub loop-i-smaller : goal.loop-i-smaller
-loop-i-smaller c = omega arith
-
 -- what was found at an index
 found : (c : After-level_span-span)
     → let l = c in

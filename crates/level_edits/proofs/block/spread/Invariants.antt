@@ -13,6 +13,3 @@ abbrev pub invariant-loop-i : goal.invariant-loop-i
 invariant-loop-i l = (l.i ≤ l.n * l.n) × (l.count ≡ l.n * l.n)
     × Stored (λ k. least_scaling (scaling_by l.by (listed l.list l.dc) l.n k) l.range (get_or l.low k (pos 0)) (get_or l.high k (pos 0))) l.initial.least l.i l.least
     × Stored (λ k. most_scaling (scaling_by l.by (listed l.list l.dc) l.n k) l.range (get_or l.low k (pos 0)) (get_or l.high k (pos 0))) l.initial.most l.i l.most
-
-abbrev pub decreases-loop-i : goal.decreases-loop-i
-decreases-loop-i l = l.n * l.n - l.i

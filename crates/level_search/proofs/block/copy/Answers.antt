@@ -19,12 +19,6 @@ bounds-levels-i c =
     let l = c in
     omega (arith, stored_length l.loop-i.invariant.0, l.requires.count_in_bounds)
 
-pub overflow_add-i : goal.overflow_add-i
-overflow_add-i c = omega arith
-
-pub loop-i-smaller : goal.loop-i-smaller
-loop-i-smaller c = omega arith
-
 pub loop-i-preserved : goal.loop-i-preserved
 loop-i-preserved c =
     let l = c in

@@ -7,6 +7,3 @@ use Rattle.level_search.proofs.block.copy.Given as goal
 
 abbrev pub invariant-loop-i : goal.invariant-loop-i
 invariant-loop-i l = Stored (λ k. get_or l.found k (pos 0)) l.initial.levels l.i l.levels × (l.i ≤ l.count)
-
-abbrev pub decreases-loop-i : goal.decreases-loop-i
-decreases-loop-i l = l.count - l.i

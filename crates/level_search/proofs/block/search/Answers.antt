@@ -75,12 +75,6 @@ bounds-found-i c =
     let s = l in
     omega (arith, size_square s.args.n s.requires.whole_list.size)
 
-pub overflow_add-i : goal.overflow_add-i
-overflow_add-i c = omega arith
-
-pub loop-i-smaller : goal.loop-i-smaller
-loop-i-smaller c = omega arith
-
 pub loop-i-preserved : goal.loop-i-preserved
 loop-i-preserved c =
     let l = c in

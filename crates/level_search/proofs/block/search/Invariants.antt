@@ -9,6 +9,3 @@ use Rattle.level_search.proofs.block.search.Given as goal
 
 abbrev pub invariant-loop-i : goal.invariant-loop-i
 invariant-loop-i l = (l.i ≤ l.count) × (l.count ≡ l.n * l.n) × None (misses_at l.by (listed l.list l.dc) l.n l.coeff) l.i × Stored (nearest_at l.by (listed l.list l.dc) l.n l.coeff) l.initial.found l.i l.found
-
-abbrev pub decreases-loop-i : goal.decreases-loop-i
-decreases-loop-i l = l.count - l.i

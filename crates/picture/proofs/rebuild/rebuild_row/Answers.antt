@@ -61,12 +61,6 @@ bounds-plane-at c =
     let l = c in
     omega (arith, l.loop-c.invariant.0.same, l.requires.n_in_bounds)
 
-pub overflow_add-c : goal.overflow_add-c
-overflow_add-c c = omega arith
-
-pub loop-c-smaller : goal.loop-c-smaller
-loop-c-smaller c = omega arith
-
 pub loop-c-preserved : goal.loop-c-preserved
 loop-c-preserved c =
     let l = c in

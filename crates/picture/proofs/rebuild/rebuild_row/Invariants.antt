@@ -6,6 +6,3 @@ use Rattle.picture.proofs.rebuild.rebuild_row.Given as goal
 
 abbrev pub invariant-loop-c : goal.invariant-loop-c
 invariant-loop-c l = Placed l.at l.c (λ k. rebuilt_at l.top l.residual l.prediction (l.from + k)) l.initial.plane l.plane × (l.c ≤ l.n)
-
-abbrev pub decreases-loop-c : goal.decreases-loop-c
-decreases-loop-c l = l.n - l.c

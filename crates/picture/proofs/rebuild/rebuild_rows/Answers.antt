@@ -69,12 +69,6 @@ rebuild_row-requires c =
       below = subst (λ (t : ℕ). Below t (l.loop-k.k * s.args.n + s.args.n) s.args.prediction.now) (sym (top_is (goal.at.rebuild_row-requires c).At-loop-k)) (below_some _ row s.requires.below);
     }
 
-pub overflow_add-k : goal.overflow_add-k
-overflow_add-k c = omega arith
-
-pub loop-k-smaller : goal.loop-k-smaller
-loop-k-smaller c = omega arith
-
 pub loop-k-preserved : goal.loop-k-preserved
 loop-k-preserved c =
     let r = c in

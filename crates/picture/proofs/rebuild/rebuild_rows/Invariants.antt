@@ -6,6 +6,3 @@ use Rattle.picture.proofs.rebuild.rebuild_rows.Given as goal
 
 abbrev pub invariant-loop-k : goal.invariant-loop-k
 invariant-loop-k l = Rows l.k l.n l.stride l.x l.y (rebuilt_at l.top l.residual l.prediction) l.initial.plane l.plane × (l.k ≤ l.n)
-
-abbrev pub decreases-loop-k : goal.decreases-loop-k
-decreases-loop-k l = l.n - l.k

@@ -13,12 +13,6 @@ offset_bounds-samples-i c = omega arith
 pub bounds-samples-i : goal.bounds-samples-i
 bounds-samples-i c = omega arith
 
-pub overflow_add-i : goal.overflow_add-i
-overflow_add-i c = omega arith
-
-pub loop-i-smaller : goal.loop-i-smaller
-loop-i-smaller c = omega arith
-
 pub loop-i-preserved : goal.loop-i-preserved
 loop-i-preserved c = (below_more c.loop-i.invariant.0, omega arith)
 

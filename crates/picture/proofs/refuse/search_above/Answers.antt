@@ -21,17 +21,9 @@ returns-then-top-samples c =
     let l = c in
     sym (first_where_found l.args.count l.loop-i.i (omega arith) l.loop-i.invariant.1 (lt-ltb _ _ c.if-top-samples.true))
 
-pub overflow_add-i : goal.overflow_add-i
-overflow_add-i c = omega arith
-
-pub loop-i-smaller : goal.loop-i-smaller
-loop-i-smaller c = omega arith
-
 pub loop-i-preserved : goal.loop-i-preserved
 loop-i-preserved c = (omega arith, none_suc c.loop-i.invariant.1 (le-ltb _ _ c.if-top-samples.false))
 
 pub returns : goal.returns
 unfolding first_above
-returns c =
-    let e : c.loop-i.i ≡ c.args.count = omega arith in
-    e ∙ sym (first_where-none c.args.count (omega arith) c.loop-i.invariant.1)
+returns c = sym (first_where-none c.args.count (omega arith) c.loop-i.invariant.1)

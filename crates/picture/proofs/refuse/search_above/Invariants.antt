@@ -7,6 +7,3 @@ use Rattle.picture.proofs.refuse.search_above.Given as goal
 
 abbrev pub invariant-loop-i : goal.invariant-loop-i
 invariant-loop-i l = (l.i ≤ l.count) × None (λ k. ltb l.top (get_or l.samples k 0)) l.i
-
-abbrev pub decreases-loop-i : goal.decreases-loop-i
-decreases-loop-i l = l.count - l.i

@@ -10,9 +10,6 @@ put_bytes-requires c =
     let f = c.refusal_line-line in
     rw (line_is f.result f.ensures) (omega (arith, line_fits f.result f.ensures))
 
-pub returns-in-Done : goal.returns-in-Done
-returns-in-Done c = rw c.in-Done.is (record { wrote = wrote_none _ _; bound = omega arith })
-
 pub returns-in-Refused : goal.returns-in-Refused
 returns-in-Refused c =
     rw c.in-Refused.is

@@ -79,7 +79,7 @@ turned : (c : After-take_record-taken)
 turned c =
     let l = c.loop-state in
     let k = traces_full _ _ _ (full_ample _ l.invariant.1) c.take_record-taken.ensures in
-    turn listing_walk _ _ l.state _ c.record_length.result c.least-stop.result (input_fits c) c.loop-state-test.true c.record_length.ensures.value c.least-stop.ensures (record { is = k.answered }) k.state k.text (full_ample _ (full_after c))
+    turn listing_walk _ _ l.state _ c.record_length.result c.min-stop.result (input_fits c) c.loop-state-test.true c.record_length.ensures.value c.min-stop.ensures (record { is = k.answered }) k.state k.text (full_ample _ (full_after c))
 
 -- the buffer behind a record has room for a line
 room_behind : (c : After-take_record-taken) → c.take_record-taken.result.end + 40 ≤ length c.take_record-taken.new.out
@@ -90,25 +90,25 @@ room_behind c =
 pub put_refusal-requires : goal.put_refusal-requires
 put_refusal-requires c = room_behind (goal.at.put_refusal-requires c).After-take_record-taken
 
-pub shape_of-out-then-not-is_done : goal.shape_of-out-then-not-is_done
-shape_of-out-then-not-is_done c = c.put_refusal.auto.out ∙ c.take_record-taken.auto.out ∙ c.loop-state.invariant.0.left.long
+pub shape_of-out-in-Err : goal.shape_of-out-in-Err
+shape_of-out-in-Err c = c.put_refusal.auto.out ∙ c.take_record-taken.auto.out ∙ c.loop-state.invariant.0.left.long
 
-pub returns-then-not-is_done : goal.returns-then-not-is_done
-returns-then-not-is_done c =
+pub returns-in-Err : goal.returns-in-Err
+returns-in-Err c =
     let l = c.loop-state in
     let f = c.put_refusal in (
-      told _ _ _ _ _ l.invariant.2 (left_last (listing_refused l.invariant.0 (turned (goal.at.returns-then-not-is_done c).After-take_record-taken) (sym c.is_done.ensures ∙ c.if-not-is_done.true)) f.ensures.wrote),
-      counts _ _ (omega (arith, f.ensures.bound, f.auto.out, room_behind (goal.at.returns-then-not-is_done c).After-take_record-taken)),
+      told _ _ _ _ _ l.invariant.2 (left_last (listing_refused l.invariant.0 (turned (goal.at.returns-in-Err c).After-take_record-taken) _ c.in-Err.is) f.ensures.wrote),
+      counts _ _ (omega (arith, f.ensures.bound, f.auto.out, room_behind (goal.at.returns-in-Err c).After-take_record-taken)),
     )
 
 pub loop-state-smaller : goal.loop-state-smaller
 loop-state-smaller c =
-    omega (arith, (turned (goal.at.loop-state-smaller c).After-take_record-taken).inside, (listing_passed c.loop-state.invariant.0 (turned (goal.at.loop-state-smaller c).After-take_record-taken) (sym c.is_done.ensures ∙ c.if-not-is_done.false)).next)
+    omega (arith, (turned (goal.at.loop-state-smaller c).After-take_record-taken).inside, (listing_passed c.loop-state.invariant.0 (turned (goal.at.loop-state-smaller c).After-take_record-taken) c.in_default.is).next)
 
 pub loop-state-preserved : goal.loop-state-preserved
 loop-state-preserved c =
     let l = c.loop-state in
-    (going_more l.invariant.0 (turned (goal.at.loop-state-preserved c).After-take_record-taken) (listing_passed l.invariant.0 (turned (goal.at.loop-state-preserved c).After-take_record-taken) (sym c.is_done.ensures ∙ c.if-not-is_done.false)), full_after (goal.at.loop-state-preserved c).After-take_record-taken, l.invariant.2)
+    (going_more l.invariant.0 (turned (goal.at.loop-state-preserved c).After-take_record-taken) (listing_passed l.invariant.0 (turned (goal.at.loop-state-preserved c).After-take_record-taken) c.in_default.is), full_after (goal.at.loop-state-preserved c).After-take_record-taken, l.invariant.2)
 
 pub shape_of-out : goal.shape_of-out
 shape_of-out c = c.loop-state.invariant.0.left.long

@@ -1,5 +1,6 @@
 -- `scale_trace::stream::take_record` meets its contract: the feed says answer and state, and an accepted record of levels adds its lines.
-use mathlib.Core.Path.{sym, ◌∙◌}
+use mathlib.Core.Path.{ap, ◌∙◌}
+use mathlib.Core.Bool.{not}
 use borrow.Author.Rules.{rules}
 use native.Mathlib.Omega.{arith}
 use Rattle.feed_state.specs.Buffers.{lent}
@@ -23,8 +24,8 @@ fed_at c =
     let a = c.args in
     fed (state_of a.state (lent a.levels.now a.coeff.now a.inter.now a.residual.now)) a.kind a.body.now (list_room a.kind) (omega arith) (search rules) c.step-stepped.ensures
 
-pub returns-then-not-is_done : goal.returns-then-not-is_done
-returns-then-not-is_done c = traced_refused (fed_at (goal.at.returns-then-not-is_done c).After-step-stepped) (sym c.is_done.ensures ∙ c.if-not-is_done.true)
+pub returns-then-is_err : goal.returns-then-is_err
+returns-then-is_err c = traced_refused (fed_at (goal.at.returns-then-is_err c).After-step-stepped) (c.is_err.ensures.negation ∙ ap not c.if-is_err.true)
 
 pub put_levels-end-requires : goal.put_levels-end-requires
 put_levels-end-requires c =
@@ -36,4 +37,4 @@ put_levels-end-requires c =
 
 pub returns : goal.returns
 returns c =
-    traced_accepted (fed_at (goal.at.returns c).After-step-stepped) (sym c.is_done.ensures ∙ c.if-not-is_done.false) c.size_of.ensures c.put_levels-end.ensures
+    traced_accepted (fed_at (goal.at.returns c).After-step-stepped) (c.is_err.ensures.negation ∙ ap not c.if-is_err.false) c.size_of.ensures c.put_levels-end.ensures

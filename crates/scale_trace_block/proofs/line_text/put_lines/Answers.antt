@@ -14,7 +14,7 @@ pub put_line-end-requires : goal.put_line-end-requires
 put_line-end-requires c =
     let h = c.loop-i-test.true in
     record {
-      line_precondition = record { size = c.requires.lines_precondition.size (omega (arith, cell_row c.args.n _ h)); index = h; whole = c.requires.lines_precondition.whole };
+      index_in_block = (c.requires.known_size (omega (arith, cell_row c.args.n _ h)), h);
       at_in_bounds = omega (arith, c.loop-i.invariant.2.long);
     }
 

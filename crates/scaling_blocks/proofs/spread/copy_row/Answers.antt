@@ -27,25 +27,19 @@ pub overflow_sub-above : goal.overflow_sub-above
 overflow_sub-above c = omega (arith, row_least c)
 
 pub loop-c-init : goal.loop-c-init
-loop-c-init c = (record { same = refl; fills = λ f h. fills_none (omega arith) }, omega arith)
+loop-c-init c = record { same = refl; fills = λ f h. fills_none (omega arith) }
 
 pub overflow_add-entries : goal.overflow_add-entries
 overflow_add-entries c = let s = c in omega (arith, row_small (goal.at.overflow_add-entries c).Start, s.requires.n_bound, c.loop-c-test.true)
 
 pub bounds-entries-above : goal.bounds-entries-above
-bounds-entries-above c = let i = c in omega (arith, below (goal.at.bounds-entries-above c).In-loop-c, row_least (goal.at.bounds-entries-above c).Start, i.loop-c.invariant.0.same, i.requires.n_in_bounds)
+bounds-entries-above c = let i = c in omega (arith, below (goal.at.bounds-entries-above c).In-loop-c, row_least (goal.at.bounds-entries-above c).Start, i.loop-c.invariant.same, i.requires.n_in_bounds)
 
 pub overflow_add-entries-in-loop-c : goal.overflow_add-entries-in-loop-c
 overflow_add-entries-in-loop-c c = let i = c in let s = i in omega (arith, row_small (goal.at.overflow_add-entries-in-loop-c c).Start, s.requires.n_bound, i.loop-c-test.true)
 
 pub bounds-entries-at : goal.bounds-entries-at
-bounds-entries-at c = let i = c in omega (arith, below (goal.at.bounds-entries-at c).In-loop-c, i.loop-c.invariant.0.same, i.requires.n_in_bounds)
-
-pub overflow_add-c : goal.overflow_add-c
-overflow_add-c c = omega arith
-
-pub loop-c-smaller : goal.loop-c-smaller
-loop-c-smaller c = omega arith
+bounds-entries-at c = let i = c in omega (arith, below (goal.at.bounds-entries-at c).In-loop-c, i.loop-c.invariant.same, i.requires.n_in_bounds)
 
 pub loop-c-preserved : goal.loop-c-preserved
 loop-c-preserved c =
@@ -53,22 +47,20 @@ loop-c-preserved c =
     let l = i in
     let s = l in
     let n = s.args.n in
-    let first = s.args.row * s.args.n in (
-      record {
-        same = length-set l.loop-c.entries (first + l.loop-c.c) (get_or l.loop-c.entries (first - n + l.loop-c.c) 0) ∙ l.loop-c.invariant.0.same;
-        fills =
-            λ f h.
-            fills_copy (l.loop-c.invariant.0.fills f h) (first + (l.loop-c.c + 1)) (first - n + l.loop-c.c) (omega arith) (omega (arith, below (goal.at.loop-c-preserved c).In-loop-c, s.requires.n_in_bounds))
-            (omega (arith, row_least (goal.at.loop-c-preserved c).Start, i.loop-c-test.true)) (h l.loop-c.c i.loop-c-test.true);
-      },
-      omega arith,
-    )
+    let first = s.args.row * s.args.n in
+    record {
+      same = length-set l.loop-c.entries (first + l.loop-c.c) (get_or l.loop-c.entries (first - n + l.loop-c.c) 0) ∙ l.loop-c.invariant.same;
+      fills =
+          λ f h.
+          fills_copy (l.loop-c.invariant.fills f h) (first + (l.loop-c.c + 1)) (first - n + l.loop-c.c) (omega arith) (omega (arith, below (goal.at.loop-c-preserved c).In-loop-c, s.requires.n_in_bounds))
+          (omega (arith, row_least (goal.at.loop-c-preserved c).Start, i.loop-c-test.true)) (h l.loop-c.c i.loop-c-test.true);
+    }
 
 pub shape_of-entries : goal.shape_of-entries
-shape_of-entries c = c.loop-c.invariant.0.same
+shape_of-entries c = c.loop-c.invariant.same
 
 pub returns : goal.returns
 returns c =
     let l = c in
     let s = l in
-    subst (λ (k : ℕ). Copied s.args.n s.args.row k s.args.entries.now l.loop-c.entries) (let e : l.loop-c.c ≡ s.args.n = omega (arith, l.loop-c.invariant.1) in e) l.loop-c.invariant.0
+    subst (λ (k : ℕ). Copied s.args.n s.args.row k s.args.entries.now l.loop-c.entries) (let e : l.loop-c.c ≡ s.args.n = omega arith in e) l.loop-c.invariant

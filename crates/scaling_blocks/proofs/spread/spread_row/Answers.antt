@@ -49,7 +49,7 @@ pub overflow_mul-entry : goal.overflow_mul-entry
 overflow_mul-entry c = omega (arith, div-le_self c.args.row (2 ^ c.args.repeats), c.requires.row_lt_n, small c)
 
 pub loop-c-init : goal.loop-c-init
-loop-c-init c = (fills_none (omega arith), omega arith)
+loop-c-init c = fills_none (omega arith)
 
 pub overflow_shr-entries : goal.overflow_shr-entries
 overflow_shr-entries c = omega (arith, few (goal.at.overflow_shr-entries c).Start)
@@ -64,13 +64,7 @@ pub overflow_add-entries-in-loop-c : goal.overflow_add-entries-in-loop-c
 overflow_add-entries-in-loop-c c = let i = c in let s = i in omega (arith, first_small (goal.at.overflow_add-entries-in-loop-c c).Start, small (goal.at.overflow_add-entries-in-loop-c c).Start, i.loop-c-test.true)
 
 pub bounds-entries-at : goal.bounds-entries-at
-bounds-entries-at c = let i = c in omega (arith, below (goal.at.bounds-entries-at c).In-loop-c, i.loop-c.invariant.0.same, i.requires.n_in_bounds)
-
-pub overflow_add-c : goal.overflow_add-c
-overflow_add-c c = omega arith
-
-pub loop-c-smaller : goal.loop-c-smaller
-loop-c-smaller c = omega arith
+bounds-entries-at c = let i = c in omega (arith, below (goal.at.bounds-entries-at c).In-loop-c, i.loop-c.invariant.same, i.requires.n_in_bounds)
 
 pub loop-c-preserved : goal.loop-c-preserved
 unfolding spread_at
@@ -78,13 +72,13 @@ loop-c-preserved c =
     let i = c in
     let l = i in
     let s = l in
-    (fills_more l.loop-c.invariant.0 (s.args.row * s.args.n + (l.loop-c.c + 1)) (omega arith) (omega (arith, below (goal.at.loop-c-preserved c).In-loop-c, s.requires.n_in_bounds)) (ap (λ (k : ℕ). get_or s.args.list.now k 0) (position_is (goal.at.loop-c-preserved c).In-loop-c)), omega arith)
+    fills_more l.loop-c.invariant (s.args.row * s.args.n + (l.loop-c.c + 1)) (omega arith) (omega (arith, below (goal.at.loop-c-preserved c).In-loop-c, s.requires.n_in_bounds)) (ap (λ (k : ℕ). get_or s.args.list.now k 0) (position_is (goal.at.loop-c-preserved c).In-loop-c))
 
 pub shape_of-entries : goal.shape_of-entries
-shape_of-entries c = c.loop-c.invariant.0.same
+shape_of-entries c = c.loop-c.invariant.same
 
 pub returns : goal.returns
 returns c =
     let l = c in
     let s = l in
-    fills_to l.loop-c.invariant.0 (ap (λ (k : ℕ). s.args.row * s.args.n + k) (omega arith))
+    fills_to l.loop-c.invariant (ap (λ (k : ℕ). s.args.row * s.args.n + k) (omega arith))

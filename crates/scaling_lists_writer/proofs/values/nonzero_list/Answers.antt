@@ -1,16 +1,18 @@
 -- `scaling_lists_writer::values::nonzero_list` meets its contract: by the entries, and by DC where none of those is 0.
+use native.Mathlib.Omega.{arith}
+use Rattle.scaling_lists_codes.specs.Syntax.{size_id}
+use Rattle.scaling_lists_put.specs.Lists.{factor_list}
 use Rattle.scaling_lists_writer.proofs.ValueLaws.{nonzero_by_dc, nonzero_not}
 use Rattle.scaling_lists_writer.proofs.values.nonzero_list.Goals as goal
 
-pub returns-then-nonzero_entries : goal.returns-then-nonzero_entries
-returns-then-nonzero_entries c =
-    let e = c.nonzero_entries in
-    let u = c.used_count in
-    nonzero_by_dc c.args.lists.now c.args.dcs.now c.args.j u.result c.requires.1 u.ensures.0 u.ensures.1 _ _ e.ensures
-    c.if-nonzero_entries.true c.nonzero_dc.ensures
+pub returns-then-contains : goal.returns-then-contains
+returns-then-contains c =
+    let a = c.args in
+    let u = c.used_count-n.ensures in
+    nonzero_not (size_id a.j) (factor_list a.list) _ u.0 (omega (arith, u.1, a.list.whole)) _ c.contains.ensures.value c.if-contains.true
 
 pub returns : goal.returns
 returns c =
-    let e = c.nonzero_entries in
-    let u = c.used_count in
-    nonzero_not c.args.lists.now c.args.dcs.now c.args.j u.result c.requires.1 u.ensures.0 u.ensures.1 _ e.ensures c.if-nonzero_entries.false
+    let a = c.args in
+    let u = c.used_count-n.ensures in
+    nonzero_by_dc (size_id a.j) (factor_list a.list) _ u.0 (omega (arith, u.1, a.list.whole)) _ _ c.contains.ensures.value c.if-contains.false c.nonzero_dc.ensures

@@ -1,27 +1,30 @@
 -- `scaling_lists_writer::writer::write_scaling_lists` meets its contract: row 5, then 16, before any bit is written.
 use mathlib.Core.Path.{refl, sym, ◌∙◌}
+use Rattle.std.proofs.lemmas.Result.{err_from_is_err_and}
 use Rattle.scaling_lists_writer.specs.Answers.{lists_written}
-use Rattle.scaling_lists_writer.proofs.ValueLaws.{lengths_accepted}
 use Rattle.scaling_lists_writer.proofs.writer.write_scaling_lists.Goals as goal
 
-pub returns-then-lengths_refused : goal.returns-then-lengths_refused
+pub returns-in_err-defaults : goal.returns-in_err-defaults
 unfolding lists_written
-returns-then-lengths_refused c = rw (sym c.lengths_refused.ensures ∙ c.if-lengths_refused.true) (record { answered = refl; out_is = refl })
+returns-in_err-defaults c =
+    let p = err_from_is_err_and c.from_residual.result c.from_residual.ensures.1 in
+    rw (p.1, p.2, c.in_err-defaults.ensures.1) (rw c.in_err-defaults.ensures.0 (record { answered = refl; out_is = refl }))
 
-pub values_refused-requires : goal.values_refused-requires
-values_refused-requires c = (let a = c.args in lengths_accepted a.lists.now a.dcs.now a.default_4x4.now a.default_intra.now a.default_inter.now (sym c.lengths_refused.ensures ∙ c.if-lengths_refused.false)).set
+pub returns-in_err-set : goal.returns-in_err-set
+unfolding lists_written
+returns-in_err-set c =
+    let p = err_from_is_err_and c.from_residual-in_err-set.result c.from_residual-in_err-set.ensures.1 in
+    rw (p.1, p.2, c.in_ok-defaults.ensures.1, c.in_err-set.ensures.1) (rw c.in_err-set.ensures.0 (record { answered = refl; out_is = refl }))
 
 pub returns-then-values_refused : goal.returns-then-values_refused
 unfolding lists_written
 returns-then-values_refused c =
-    rw (sym c.lengths_refused.ensures ∙ c.if-lengths_refused.false, sym c.values_refused.ensures ∙ c.if-values_refused.true)
-    (record { answered = refl; out_is = refl })
-
-pub write_within-requires : goal.write_within-requires
-write_within-requires c = (let a = c.args in lengths_accepted a.lists.now a.dcs.now a.default_4x4.now a.default_intra.now a.default_inter.now (sym c.lengths_refused.ensures ∙ c.if-lengths_refused.false))
+    let v = rw c.in_ok-set.ensures.0 at c.values_refused.ensures in
+    rw (c.in_ok-defaults.ensures.1, c.in_ok-set.ensures.1, sym v ∙ c.if-values_refused.true) (record { answered = refl; out_is = refl })
 
 pub returns : goal.returns
 unfolding lists_written
 returns c =
-    rw (sym c.lengths_refused.ensures ∙ c.if-lengths_refused.false, sym c.values_refused.ensures ∙ c.if-values_refused.false)
-    c.write_within.ensures
+    let v = rw c.in_ok-set.ensures.0 at c.values_refused.ensures in
+    rw (c.in_ok-defaults.ensures.1, c.in_ok-set.ensures.1, sym v ∙ c.if-values_refused.false)
+    (rw (c.in_ok-defaults.ensures.0, c.in_ok-set.ensures.0) at c.write_within.ensures)

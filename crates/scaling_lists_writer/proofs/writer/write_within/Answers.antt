@@ -1,26 +1,36 @@
 -- `scaling_lists_writer::writer::write_within` meets its contract: the bits stand in a buffer of zeros, so its bytes are theirs.
-use native.Mathlib.Omega.{arith}
-use mathlib.Core.Path.{◌∙◌}
+use mathlib.Core.Path.{◌≡◌, ap, ◌∙◌}
+use mathlib.Core.List.{List, ◌++◌}
+use Prim.Native.Nat.{ℕ}
 use native.Mathlib.Nat.{zero-add}
+use native.Mathlib.Omega.{arith}
+use lib.ListN.{drop}
+use lib.Seq.{length-take-le}
+use Rattle.integers.specs.Lists.{overwrite}
 use Rattle.text.proofs.WroteLaws.{wrote-length}
+use Rattle.bits_written.specs.Bytes.{byte_count}
 use Rattle.scaling_lists_written.proofs.WrittenLaws.{written_binary}
 use Rattle.scaling_lists_writer.proofs.WriterLaws.{buffer_bit, buffer_binary, written-short, written_got}
 use Rattle.scaling_lists_writer.proofs.writer.write_within.Goals as goal
+use Rattle.scaling_lists_writer.proofs.writer.write_within.Goals.{After-div_ceil-bytes}
+
+rounded : (c : After-div_ceil-bytes) → c.div_ceil-bytes.result ≡ byte_count c.put_lists-count.result
+unfolding byte_count
+rounded c = omega (arith, c.div_ceil-bytes.ensures)
 
 pub returns-then-out-bytes : goal.returns-then-out-bytes
 returns-then-out-bytes c =
-    let a = c.args in
     let w = c.put_lists-count.ensures in
-    written-short a.out.now _ _ (w.wrote.end ∙ zero-add _) c.if-out-bytes.true
+    written-short c.args.out.now _ _ _ (w.wrote.end ∙ zero-add _) (rounded (goal.at.returns-then-out-bytes c).After-div_ceil-bytes) c.if-out-bytes.true
 
 pub put_bytes-requires : goal.put_bytes-requires
 put_bytes-requires c =
-    let p = c.put_lists-count in
-    let w = p.ensures in
-    (buffer_binary 22120 _ w.wrote w.bound (written_binary _ _), omega (arith, w.bound, wrote-length w.wrote), omega arith)
+    let w = c.put_lists-count.ensures in
+    (buffer_binary 22120 _ w.wrote w.bound (written_binary _ _), rw (length-take-le _ _ c.if-out-bytes.false) (omega (arith, c.div_ceil-bytes.ensures, w.bound, wrote-length w.wrote)))
 
 pub returns : goal.returns
+unfolding overwrite
 returns c =
-    let a = c.args in
     let w = c.put_lists-count.ensures in
-    written_got a.out.now _ _ _ _ (w.wrote.end ∙ zero-add _) c.if-out-bytes.false (buffer_bit 22120 _ w.wrote w.bound) c.put_bytes.ensures
+    written_got c.args.out.now _ _ _ _ _ (w.wrote.end ∙ zero-add _) (rounded (goal.at.returns c).After-div_ceil-bytes) c.if-out-bytes.false (buffer_bit 22120 _ w.wrote w.bound)
+    (ap (λ (l : List ℕ). l ++ drop c.div_ceil-bytes.result c.args.out.now) (rw (length-take-le _ _ c.if-out-bytes.false) at c.put_bytes.ensures))

@@ -9,7 +9,7 @@ use borrow.Author.Rules.{sfits_of}
 use Rattle.std.proofs.lemmas.List.{length-map}
 use Rattle.h265.proofs.RangeLaws.{size_bound}
 use Rattle.transform_1d.proofs.RowsLaws.{placed_all}
-use Rattle.stages.specs.Fits.{clip_fits}
+use Rattle.tiles.proofs.FitLaws.{clip_fits}
 use Rattle.stages.proofs.BothLaws.{stored_small, both_rows, copied_block}
 use Rattle.stages.proofs.SizesLaws.{placed_copy, rows_unlimited, stored_16}
 use Rattle.stages.proofs.blocks.block.Goals as goal

@@ -1,7 +1,7 @@
 -- `stages::sample::I16Sample::limited` meets its contract: what fits 16 bits is not changed by the limit.
 use mathlib.Core.Path.{sym, ◌∙◌}
 use mir.Facts.{to_z-of_z}
-use Rattle.stages.specs.Fits.{clip_fits}
+use Rattle.tiles.proofs.FitLaws.{clip_fits}
 use Rattle.stages.proofs.sample.I16Sample.limited.Goals as goal
 
 pub returns : goal.returns
