@@ -15,7 +15,7 @@ INTERNAL = {"integers", "coefficients", "scaling_values", "scaling_blocks", "blo
 WRAPPERS = {"c_api", "c_api_c"}
 
 # what the programs share, no part of the library: it reads and writes, of which no contract can speak but for what a reader's bytes become
-SUPPORT = {"streams", "cases"}
+SUPPORT = {"streams", "cases", "feed_program"}
 
 # how many statements stand under two names, as tests/same_laws.py counts them: it only goes down
 SAME_LAWS = 0
@@ -67,7 +67,10 @@ def heads(text):
 
 
 def instance_edits(crate, name):
-    """The edits of the generic function that an entry point is one width of."""
+    """The edits of the generic function that an entry point is one width of, and those of a generic function that are named for one of its widths."""
+    if crate == "list_blocks":
+        width = f"{name}_i" if name.startswith("dequantize") else f"dequantize_{name}_i"
+        return len(list(pathlib.Path("crates/list_blocks/must-fail").glob(f"{width}*.edit")))
     if crate not in ("scaling_wide", "scaling_narrow"):
         return 0
     generic = "transform_skip" if "transform_skip" in name else "dequantize"

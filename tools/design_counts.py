@@ -1,7 +1,8 @@
 #!/usr/bin/env python3
 """design_counts.py [--list]: counts in crates/*/src the places that docs/DESIGN-PASS.md speaks of, point by point; with --list, where they are.
 
-The counts go by text: a place that is counted need not be wrong, and the page says which stay and why.
+The counts go by text: a place that is counted need not be wrong. A place that stays has its reason in a comment that begins with `// Kept`, above it or above
+the first of several alike; the second number counts the places in whose file no such comment stands above them.
 """
 import pathlib
 import re
@@ -34,18 +35,21 @@ PATTERNS = [
 def main():
     files = [p for p in sorted(top.glob("crates/*/src/**/*.rt"))]
     for name, pattern, over in PATTERNS:
-        found = []
+        found, bare = [], 0
         for p in files:
             text = p.read_text(encoding="utf-8")
+            kept = text.find("// Kept")
             for m in re.finditer(pattern, text, 0 if over else re.M):
-                found.append(f"{p.relative_to(top)}:{text.count(chr(10), 0, m.start()) + 1}")
-        print(f"{len(found):5}  {name}")
+                reason = 0 <= kept < m.start()
+                bare += not reason
+                found.append(f"{p.relative_to(top)}:{text.count(chr(10), 0, m.start()) + 1}{'' if reason else '   no reason above it'}")
+        print(f"{len(found):5} {bare:5}  {name}")
         if "--list" in sys.argv[1:]:
             for place in found:
                 print(f"         {place}")
     for what, pattern in (("Answers.antt", "crates/*/proofs/**/Answers.antt"), ("Invariants.antt", "crates/*/proofs/**/Invariants.antt"), ("lemma files", "crates/*/proofs/*.antt")):
         lines = [len(p.read_text(encoding="utf-8").splitlines()) for p in top.glob(pattern) if what != "lemma files" or p.name != "Lib.antt"]
-        print(f"{len(lines):5}  8 {what}, {sum(lines)} lines")
+        print(f"{len(lines):5}        8 {what}, {sum(lines)} lines")
 
 
 if __name__ == "__main__":

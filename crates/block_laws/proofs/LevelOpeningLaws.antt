@@ -1,4 +1,5 @@
 -- The opening on levels: past the refusals it is the opening on the scaled levels, which lie in the range.
+--   source_list          the source of an opening on levels holds the list that was given
 --   level_open_refused   a refused opening
 --   scaled_whole         past the refusals, scaling writes the whole block
 --   scaled-never, open-never   so neither scaling nor that opening refuses
@@ -18,13 +19,16 @@ use Rattle.integers.proofs.ListsLaws.{overwrite-length, overwrite-get_or}
 use Rattle.integers.proofs.SearchLaws.{first_where-none}
 use Rattle.h265.specs.Range.{outside_range}
 use Rattle.h265.specs.Scaling.{scaled_at}
+use Rattle.h265.specs.ScalingFactor.{ScalingList}
+use Rattle.h265.specs.ScalingFactor.ScalingList.{flat, listed}
 use Rattle.h265.specs.Limited.{limited_count}
 use Rattle.refusal.specs.declared.Refusal.{Refusal}
 use Rattle.refusal.specs.Condition.{list_refused, block_refused}
 use Rattle.refusal.specs.Refusal.{number}
 use Rattle.refusal.specs.Outcome.{Outcome, accepted, refused, answer, outcome}
 use Rattle.refusal.proofs.RefusalLaws.{number_least}
-use Rattle.scaling_blocks.specs.Blocks.{bits32, entries_of, scaling_ladder, block_written, dequantized, CountWrites}
+use Rattle.scaling_blocks.specs.Blocks.{bits32, scaling_ladder, block_written, dequantized, CountWrites}
+use Rattle.scaling_values.specs.Given.{entries_of}
 use Rattle.coefficients.specs.Outside.{outside_at, first_outside}
 use Rattle.block_rules.specs.declared.EditedBlock.{EditedBlock}
 use Rattle.block_rules.specs.Edit.{Buffers, Left, zero_block, opened_buffers, valued, Opens}
@@ -32,8 +36,12 @@ use Rattle.block_rules.specs.Opening.{Opening, range_of, opened_as}
 use Rattle.refusal.proofs.ConditionLaws.{block_room, list_whole}
 use Rattle.integers.proofs.TestLaws.{neither}
 use Rattle.block_laws.proofs.OpeningLaws.{Accepted, opened_is}
-use Rattle.block_rules.specs.Level.{list_of, scaled_by, level_ladder, scaled_buffers, OpenLeft, open_stopped, levels_opened, level_opened, LevelOpens}
+use Rattle.block_rules.specs.Level.{list_of, source_by, scaled_by, level_ladder, scaled_buffers, OpenLeft, open_stopped, levels_opened, level_opened, LevelOpens}
 use Rattle.block_laws.proofs.LevelLaws.{scaled-inside, LevelFits, levels_go, levels-refused}
+
+pub source_list : (q : ℤ) (l : ScalingList) → list_of (source_by q l) ≡ l
+source_list q flat = refl
+source_list q (listed entries d) = refl
 
 -- an opening's record and buffers, with a count for its answer
 abbrev pub counted : ℕ → Left → OpenLeft

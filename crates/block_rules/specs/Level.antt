@@ -9,6 +9,8 @@
 --   looked_at                     the length that row 6 looks at: of the level buffer where the block was opened on levels
 --   level_edited                  one level edit
 --   on_levels, on_scaled_levels     an opening on levels, without a list and with one; what it is not given is 0
+--   source_by q list              the source of a block that is opened on levels; has_list, kept_dc, kept_entries: what it keeps of the list, zeros of none
+--   on_levels_by                  an opening on levels, by what they are scaled by
 --   scaled_buffers                the lent buffers with the coefficients of a block of levels
 --   level_opened                  the opening
 --   levels_opened                 what an opening on levels hands back: how many coefficients were limited, and the record
@@ -26,7 +28,7 @@ use Rattle.refusal.specs.declared.Refusal.{Refusal}
 use Rattle.refusal.specs.declared.Refusal.TheVariants.{SizeInvalid, DepthInvalid, DstSizeInvalid, ListLengthInvalid, InputTooShort, OutputTooShort, PlaceOutside, WayMismatched}
 use Rattle.refusal.specs.Condition.{size_refused, depth_refused, list_refused, block_refused}
 use Rattle.refusal.specs.Outcome.{Outcome, accepted, refused, outcome}
-use Rattle.scaling_blocks.specs.Blocks.{entries_of}
+use Rattle.scaling_values.specs.Given.{entries_of}
 use Rattle.transform_1d.specs.declared.Kind.{Kind}
 use Rattle.transform_1d.specs.Kinds.{dst_refused}
 use Rattle.block_rules.specs.declared.EditedBlock.{EditedBlock}
@@ -105,6 +107,24 @@ on_levels kind n b x q =
 abbrev pub on_scaled_levels : Kind → ℕ → ℕ → Bool → ℤ → List ℕ → ℕ → Opening
 on_scaled_levels kind n b x q entries d =
     record { kind = kind; size = n; depth = b; extended = x; source = record { levels = Bool.true; qp_prime = record { 0 = q }; listed = Bool.true; dc = d; entries = entries } }
+
+abbrev pub has_list : ScalingList → Bool
+has_list flat = false
+has_list (listed entries d) = Bool.true
+
+abbrev pub kept_dc : ScalingList → ℕ
+kept_dc flat = 0
+kept_dc (listed entries d) = d
+
+abbrev pub kept_entries : ScalingList → List ℕ
+kept_entries flat = replicate 64 0
+kept_entries (listed entries d) = entries
+
+abbrev pub source_by : ℤ → ScalingList → Source
+source_by q list = record { levels = Bool.true; qp_prime = record { 0 = q }; listed = has_list list; dc = kept_dc list; entries = kept_entries list }
+
+abbrev pub on_levels_by : Kind → ℕ → ℕ → Bool → ℤ → ScalingList → Opening
+on_levels_by kind n b x q list = record { kind = kind; size = n; depth = b; extended = x; source = source_by q list }
 
 unfoldable pub scaled_buffers : Opening → List ℤ → Buffers → Buffers
 scaled_buffers o levels lent =

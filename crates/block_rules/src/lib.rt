@@ -9,7 +9,7 @@ use parameters::QpPrime;
 use transform_1d::Kind;
 
 // What the coefficients come from: levels, with what they are scaled by. What an opening is not given is 0.
-// The flags stay flags, and no Option: C gets the record field for field, what was not given too, and hands it back.
+// Kept: the flags stay flags, and no Option: C gets the record field for field, what was not given too, and hands it back.
 #[derive(Clone, Copy)]
 pub struct Source {
     pub levels: bool,
@@ -20,6 +20,7 @@ pub struct Source {
 }
 
 // What an opening fixes, and how many columns are in use. The buffers stay with the caller.
+// Kept: depth and flag apart, and no `Precision`: C gets the record field for field.
 #[derive(Clone, Copy)]
 pub struct EditedBlock {
     pub kind: Kind,

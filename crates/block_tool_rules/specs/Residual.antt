@@ -17,7 +17,8 @@ use Rattle.refusal.specs.declared.Refusal.TheVariants.{SizeInvalid, DepthInvalid
 use Rattle.refusal.specs.Condition.{size_refused, depth_refused, rotation_refused, list_refused, block_refused}
 pub use Rattle.refusal.specs.Written.{Written, Writes, left, wrote}
 use Rattle.coefficients.specs.Outside.{first_outside, refusal_at}
-use Rattle.scaling_blocks.specs.Blocks.{entries_of, CountWritten, left_as_lent, counted}
+use Rattle.scaling_blocks.specs.Blocks.{CountWritten, left_as_lent, counted}
+use Rattle.scaling_values.specs.Given.{entries_of}
 use Rattle.block_tool_rules.specs.declared.Accumulate.{Accumulate}
 use Rattle.block_tool_rules.specs.Modification.{modified}
 

@@ -36,7 +36,8 @@ use Rattle.refusal.proofs.LadderLaws.Rung.{rung}
 use Rattle.refusal.proofs.RefusalLaws.{number_least}
 use Rattle.coefficients.specs.Outside.{first_outside, refusal_at}
 use Rattle.coefficients.proofs.OutsideLaws.{first_outside-inside}
-use Rattle.scaling_blocks.specs.Blocks.{bits32, scaling_ladder, block_written, transform_skipped, entries_of, CountWritten, CountWrites, left_as_lent, counted}
+use Rattle.scaling_blocks.specs.Blocks.{bits32, scaling_ladder, block_written, transform_skipped, CountWritten, CountWrites, left_as_lent, counted}
+use Rattle.scaling_values.specs.Given.{entries_of}
 use Rattle.scaling_blocks.proofs.BlockLaws.{rungs}
 use Rattle.block_tool_rules.specs.declared.Accumulate.{Accumulate}
 use Rattle.block_tool_rules.specs.declared.Accumulate.TheVariants.{Off}

@@ -9,6 +9,7 @@ pub mod modify;
 pub mod refuse;
 
 // The first levels, as they are.
+// Kept: std's copy under a clause in the definitions' words, with which `bypass_residual` goes on.
 pub fn copy_levels(levels: &[i32], count: usize, out: &mut [i32])
     requires { (count ≤ length levels.now) × (count ≤ length out.old) }
     ensures { out.new ≡ overwrite count (at levels.now) out.old }

@@ -6,4 +6,4 @@ mod skip;
 
 pub use block_tool_rules::Accumulate;
 pub use bypass::bypass_residual;
-pub use skip::{transform_skip_residual, transform_skip_scaled_residual};
+pub use skip::transform_skip_residual;

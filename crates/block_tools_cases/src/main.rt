@@ -6,165 +6,181 @@
 
 use block_tools::Accumulate;
 use parameters::QpPrime;
-use refusal::Refusal;
+use refusal::{Precision, Refusal};
+use scaling_values::ScalingList;
 use std::io::Read;
+
+// The function that a case is of, by its number.
+#[derive(Clone, Copy)]
+enum Function {
+    Skip,
+    SkipListed,
+    Bypass,
+}
+
+// How the levels of a case are made, by its number.
+#[derive(Clone, Copy)]
+enum Levels {
+    Given,
+    Small,
+    Wide,
+}
+
+// A number that stands for nothing that a case asks.
+#[derive(Clone, Copy)]
+struct UnknownNumber;
+
+impl TryFrom<u8> for Function {
+    type Error = UnknownNumber;
+
+    fn try_from(number: u8) -> Result<Function, UnknownNumber> {
+        match number {
+            0 => Ok(Function::Skip),
+            1 => Ok(Function::SkipListed),
+            2 => Ok(Function::Bypass),
+            _ => Err(UnknownNumber),
+        }
+    }
+}
+
+impl TryFrom<u8> for Levels {
+    type Error = UnknownNumber;
+
+    fn try_from(number: u8) -> Result<Levels, UnknownNumber> {
+        match number {
+            0 => Ok(Levels::Given),
+            1 => Ok(Levels::Small),
+            2 => Ok(Levels::Wide),
+            _ => Err(UnknownNumber),
+        }
+    }
+}
 
 #[derive(Clone, Copy)]
 struct Case {
-    which: u8,
+    function: Function,
     n: usize,
-    qp: i32,
-    bit_depth: u8,
-    extended: bool,
+    qp: QpPrime,
+    precision: Precision,
     dc: u8,
     rotate: bool,
-    way: u8,
+    accumulate: Accumulate,
 }
 
-fn next_case(stdin: &mut impl Read) -> Case {
-    let which = cases::next::<u8>(stdin);
-    let n = cases::next::<usize>(stdin);
-    let qp = cases::next::<i32>(stdin);
-    let bit_depth = cases::next::<u8>(stdin);
-    let extended = cases::next::<u8>(stdin) != 0;
-    let dc = cases::next::<u8>(stdin);
-    let rotate = cases::next::<u8>(stdin) != 0;
-    let way = cases::next::<u8>(stdin);
-    Case {
-        which,
-        n,
-        qp,
-        bit_depth,
-        extended,
-        dc,
-        rotate,
-        way,
+fn way_of(number: u8) -> Result<Accumulate, UnknownNumber> {
+    match number {
+        0 => Ok(Accumulate::Off),
+        1 => Ok(Accumulate::AlongRows),
+        2 => Ok(Accumulate::DownColumns),
+        _ => Err(UnknownNumber),
     }
 }
 
-fn way_of(byte: u8) -> Accumulate {
-    match byte {
-        0 => Accumulate::Off,
-        1 => Accumulate::AlongRows,
-        _ => Accumulate::DownColumns,
-    }
+fn next_case(stdin: &mut impl Read) -> Result<Case, UnknownNumber> {
+    Ok(Case {
+        function: Function::try_from(cases::next::<u8>(stdin))?,
+        n: cases::next(stdin),
+        qp: QpPrime(cases::next(stdin)),
+        precision: cases::next_precision(stdin),
+        dc: cases::next(stdin),
+        rotate: cases::next::<u8>(stdin) != 0,
+        accumulate: way_of(cases::next(stdin))?,
+    })
 }
 
-// A number modulo 2^32.
-fn modulo(z: i32) -> u32 {
-    if z < 0 {
-        return std::num::wrapping_sub_u32(0, integers::magnitude(z));
-    }
-    integers::magnitude(z)
-}
-
-// The sum of the elements, and the sum of the sums on the way, which tells places apart.
+// The sum of the elements modulo 2^32, and the sum of the sums on the way, which tells places apart.
 fn put_sums(rt: &impl Print, out: &[i32]) {
-    let mut i = 0;
     let mut first: u32 = 0;
     let mut second: u32 = 0;
-    while i < out.len() {
-        let more = std::num::wrapping_add_u32(first, modulo(out[i]));
-        first = more;
-        let all = std::num::wrapping_add_u32(second, first);
-        second = all;
-        i += 1;
+    for z in out {
+        first = first.wrapping_add(u32::from_le_bytes(z.to_le_bytes()));
+        second = second.wrapping_add(first);
     }
-    put_sum(rt, first);
-    put_sum(rt, second);
+    cases::put(rt, first);
+    cases::put(rt, second);
 }
 
-fn put_sum(rt: &impl Print, sum: u32) {
-    cases::put(rt, sum as u64);
-}
-
-// Over the whole 16 bits, or small enough for scaling to tell values apart.
-fn level_of(sample: u16, wide: bool) -> i32 {
-    if wide {
-        return sample as i32 - 32768;
-    }
+// Small enough for scaling to tell values apart.
+fn small(sample: u16) -> i32 {
     (sample % 601) as i32 - 300
 }
 
-fn fill(levels: &mut [i32], wide: bool) {
-    let mut i = 0;
+// Over the whole 16 bits.
+fn wide(sample: u16) -> i32 {
+    sample as i32 - 32768
+}
+
+fn fill<LevelOf: Fn(u16) -> i32>(levels: &mut [i32], level_of: LevelOf)
+    requires { LevelOf.IsAlwaysCallable level_of }
+{
     let mut sample: u16 = 0;
-    while i < levels.len() {
-        levels[i] = level_of(sample, wide);
-        sample = std::num::wrapping_add_u16(sample, 7919);
-        i += 1;
+    for level in levels.iter_mut() {
+        *level = level_of(sample);
+        sample = sample.wrapping_add(7919);
     }
 }
 
-// The answer, and how many coefficients were limited.
-fn put_count(rt: &impl Print, answer: Result<u16, Refusal>) {
-    match answer {
-        Ok(limited) => {
-            cases::put_answer(rt, Ok(()));
-            cases::put(rt, limited as u64);
+fn skip(case: Case, list: ScalingList, levels: &[i32], out: &mut [i32]) -> Result<u16, Refusal> {
+    block_tools::transform_skip_residual(
+        levels,
+        case.n,
+        case.qp,
+        case.precision,
+        list,
+        case.rotate,
+        case.accumulate,
+        out,
+    )
+}
+
+fn bypass(case: Case, levels: &[i32], out: &mut [i32]) -> Result<(), Refusal> {
+    block_tools::bypass_residual(
+        levels,
+        case.n,
+        case.precision,
+        case.rotate,
+        case.accumulate,
+        out,
+    )
+}
+
+fn call(rt: &impl Print, case: Case, entries: &[u8], levels: &[i32], out: &mut [i32]) {
+    match case.function {
+        Function::Skip => cases::put_count(rt, skip(case, ScalingList::Flat, levels, out)),
+        Function::SkipListed => {
+            let list = ScalingList::Listed(entries, case.dc);
+            cases::put_count(rt, skip(case, list, levels, out));
         }
-        Err(why) => {
-            cases::put_refusal(rt, why);
-            cases::put(rt, 0);
-        }
+        Function::Bypass => cases::put_answer(rt, bypass(case, levels, out)),
     }
 }
 
-fn call(rt: &impl Print, case: Case, list: &[u8], levels: &[i32], out: &mut [i32]) {
-    let which = case.which;
-    let n = case.n;
-    let qp = QpPrime(case.qp);
-    let depth = case.bit_depth;
-    let extended = case.extended;
-    let rotate = case.rotate;
-    let way = way_of(case.way);
-    match which {
-        0 => put_count(
-            rt,
-            block_tools::transform_skip_residual(levels, n, qp, depth, extended, rotate, way, out),
-        ),
-        1 => put_count(
-            rt,
-            block_tools::transform_skip_scaled_residual(
-                levels, n, qp, depth, extended, list, case.dc, rotate, way, out,
-            ),
-        ),
-        _ => cases::put_answer(
-            rt,
-            block_tools::bypass_residual(levels, n, depth, extended, rotate, way, out),
-        ),
-    }
-}
-
-fn show(rt: &impl Print, case: Case, list: &[u8], levels: &[i32], out: &mut [i32]) {
-    call(rt, case, list, levels, out);
+fn show(rt: &impl Print, case: Case, entries: &[u8], levels: &[i32], out: &mut [i32]) {
+    call(rt, case, entries, levels, out);
     put_sums(rt, out);
     if out.len() < 100 {
         cases::put_all(rt, out);
     }
 }
 
-fn make(stdin: &mut impl Read, how: u8, count: usize, levels: &mut [i32]) {
-    if how == 0 {
-        cases::read_first(stdin, count, levels);
-    } else {
-        fill(levels, how == 2);
+fn make(stdin: &mut impl Read, how: Levels, count: usize, levels: &mut [i32]) {
+    match how {
+        Levels::Given => cases::read_first(stdin, count, levels),
+        Levels::Small => fill(levels, small),
+        Levels::Wide => fill(levels, wide),
     }
 }
 
-// One case; answers whether there was one.
-fn replay(rt: &impl Print, stdin: &mut impl Read) -> bool {
-    if !cases::copy_text(rt, stdin) {
-        return false;
-    }
-    let case = next_case(stdin);
+// What follows the text of a case.
+fn replay_case(rt: &impl Print, stdin: &mut impl Read) -> Result<(), UnknownNumber> {
+    let case = next_case(stdin)?;
     let mut list = [0u8; 64];
     let mut levels = [0i32; 1024];
     let mut out = [999i32; 1028];
     let entries = cases::next_length(stdin, 64);
     cases::read_first(stdin, entries, &mut list);
     let count = cases::next_length(stdin, 1024);
-    let how = cases::next::<u8>(stdin);
+    let how = Levels::try_from(cases::next::<u8>(stdin))?;
     make(stdin, how, count, &mut levels);
     let len = cases::next_length(stdin, 1028);
     show(
@@ -175,13 +191,18 @@ fn replay(rt: &impl Print, stdin: &mut impl Read) -> bool {
         &mut out[0..len],
     );
     cases::put_end(rt);
-    true
+    Ok(())
+}
+
+// One case; answers whether there was one.
+fn replay(rt: &impl Print, stdin: &mut impl Read) -> bool {
+    if !cases::copy_text(rt, stdin) {
+        return false;
+    }
+    replay_case(rt, stdin).is_ok()
 }
 
 fn main(rt: HostRuntime) {
     let mut stdin = rt.stdin();
-    let mut turns = u64::MAX;
-    while turns > 0 && replay(&rt, &mut stdin) {
-        turns -= 1;
-    }
+    cases::replay_all(|| replay(&rt, &mut stdin));
 }

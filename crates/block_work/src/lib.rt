@@ -7,7 +7,7 @@ ghost use Rattle.block_rules.specs.Edit.{opened_buffers, opened, edited_buffers,
 ghost use Rattle.block_rules.specs.Work.{EditNeeds, Staged};
 
 use block_rules::{EditedBlock, Source};
-use refusal::Refusal;
+use refusal::{Precision, Refusal};
 use transform_1d::Kind;
 
 pub mod columns;
@@ -17,6 +17,8 @@ use columns::column_count;
 use refuse::block_refusal;
 
 // Both stages of an opening, over all columns.
+// Kept: the buffers apart, here and below: a struct of lent slices would have to promise for each slice that it stays the same one (its ghost_name),
+// a clause more for each.
 pub fn open_stages(
     kind: Kind,
     n: usize,
@@ -37,27 +39,33 @@ pub fn open_stages(
 pub fn open_from(
     kind: Kind,
     n: usize,
-    bit_depth: u8,
-    extended_precision: bool,
+    precision: Precision,
     source: Source,
     coeff: &[i32],
     inter: &mut [i32],
     residual: &mut [i32],
 ) -> Result<EditedBlock, Refusal>
-    ensures { Opens (opened kind n bit_depth extended_precision source (buffers coeff.now inter.old residual.old)) result inter.new residual.new }
+    ensures { Opens (opened kind n precision.bit_depth precision.extended source (buffers coeff.now inter.old residual.old)) result inter.new residual.new }
 {
-    block_refusal(kind, n, bit_depth, coeff.len(), inter.len(), residual.len())?;
-    let range = coefficients::transform_range(bit_depth, extended_precision);
+    block_refusal(
+        kind,
+        n,
+        precision.bit_depth,
+        coeff.len(),
+        inter.len(),
+        residual.len(),
+    )?;
+    let range = coefficients::transform_range(precision);
     let first = coefficients::first_outside(coeff, n, n, range);
     if first < n * n {
         return Err(coefficients::refusal_at(coeff, n, first, range));
     }
-    open_stages(kind, n, bit_depth, range, coeff, inter, residual);
+    open_stages(kind, n, precision.bit_depth, range, coeff, inter, residual);
     Ok(EditedBlock {
         kind,
         size: n,
-        depth: bit_depth,
-        extended: extended_precision,
+        depth: precision.bit_depth,
+        extended: precision.extended,
         columns: column_count(coeff, n),
         source,
     })

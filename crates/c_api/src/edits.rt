@@ -1,4 +1,6 @@
 // Edited blocks: the record goes in as one struct and comes back in the answer, zeros where an opening was refused.
+// Kept: C lends and hands over apart what belongs together: depth and flag, a list and its DC, a block's buffers, the slices of a list of edits; the kind
+// is a flag, and an opening with a list is a function of its own, with as many lines as it has parameters.
 ghost use Rattle.std.specs.Prelude.{◌≡◌, length};
 ghost use Rattle.refusal.specs.Outcome.{answer as answer_outcome, outcome};
 ghost use Rattle.transform_1d.specs.Kinds.{is_dst};
@@ -15,9 +17,11 @@ use block_rules::{LevelsOpened, Limits};
 use edited_block::{EditedBlock, Source};
 use edited_list::Listed;
 use parameters::QpPrime;
-use refusal::Refusal;
+use refusal::{Precision, Refusal};
+use scaling_values::ScalingList;
 use transform_1d::Kind;
 
+// Kept: neither `Kind` nor `bool` is declared here, so that no `From` can stand here; so for `is_dst`.
 pub(crate) fn kind_of(dst: bool) -> Kind
     ensures { result ≡ kind_of dst }
 {
@@ -160,11 +164,14 @@ pub fn residual_open_block(
 ) -> BlockAnswered
     ensures { Opens (opened_as (on_coefficients (kind_of dst) n bit_depth extended_precision) (buffers coeff.now inter.old residual.old)) result inter.new residual.new }
 {
+    let precision = Precision {
+        bit_depth,
+        extended: extended_precision,
+    };
     BlockAnswered::from(edited_block::open_block(
         kind_of(dst),
         n,
-        bit_depth,
-        extended_precision,
+        precision,
         coeff,
         inter,
         residual,
@@ -185,12 +192,16 @@ pub fn residual_open_levels(
 ) -> BlockAnswered
     ensures { LevelOpens (level_opened (on_levels (kind_of dst) n bit_depth extended_precision qp_prime) levels.now (buffers coeff.old inter.old residual.old)) result coeff.new inter.new residual.new }
 {
+    let precision = Precision {
+        bit_depth,
+        extended: extended_precision,
+    };
     BlockAnswered::from(level_block::open_levels(
         kind_of(dst),
         n,
-        bit_depth,
-        extended_precision,
+        precision,
         QpPrime(qp_prime),
+        ScalingList::Flat,
         levels,
         coeff,
         inter,
@@ -214,14 +225,16 @@ pub fn residual_open_levels_scaled(
 ) -> BlockAnswered
     ensures { LevelOpens (level_opened (on_scaled_levels (kind_of dst) n bit_depth extended_precision qp_prime list.now dc) levels.now (buffers coeff.old inter.old residual.old)) result coeff.new inter.new residual.new }
 {
-    BlockAnswered::from(level_block::open_levels_scaled(
+    let precision = Precision {
+        bit_depth,
+        extended: extended_precision,
+    };
+    BlockAnswered::from(level_block::open_levels(
         kind_of(dst),
         n,
-        bit_depth,
-        extended_precision,
+        precision,
         QpPrime(qp_prime),
-        list,
-        dc,
+        ScalingList::Listed(list, dc),
         levels,
         coeff,
         inter,
@@ -317,11 +330,14 @@ pub fn residual_open_and_edit(
 ) -> ListAnswered
     ensures { Lists (on_coefficients (kind_of dst) n bit_depth extended_precision) levels.old (buffers coeff.old inter.old residual.old) (edits_of (edit_count (length rows.now) (length columns.now) (length values.now) (length ways.now) (slices numbers.old named.old across.old limits.old)) rows.now columns.now values.now ways.now) (slices numbers.old named.old across.old limits.old) result levels.new (buffers coeff.new inter.new residual.new) (slices numbers.new named.new across.new limits.new) }
 {
+    let precision = Precision {
+        bit_depth,
+        extended: extended_precision,
+    };
     ListAnswered::from(edited_list::open_and_edit(
         kind_of(dst),
         n,
-        bit_depth,
-        extended_precision,
+        precision,
         levels,
         coeff,
         inter,
@@ -359,12 +375,16 @@ pub fn residual_open_levels_and_edit(
 ) -> ListAnswered
     ensures { Lists (on_levels (kind_of dst) n bit_depth extended_precision qp_prime) levels.old (buffers coeff.old inter.old residual.old) (edits_of (edit_count (length rows.now) (length columns.now) (length values.now) (length ways.now) (slices numbers.old named.old across.old limits.old)) rows.now columns.now values.now ways.now) (slices numbers.old named.old across.old limits.old) result levels.new (buffers coeff.new inter.new residual.new) (slices numbers.new named.new across.new limits.new) }
 {
+    let precision = Precision {
+        bit_depth,
+        extended: extended_precision,
+    };
     ListAnswered::from(edited_list::open_levels_and_edit(
         kind_of(dst),
         n,
-        bit_depth,
-        extended_precision,
+        precision,
         QpPrime(qp_prime),
+        ScalingList::Flat,
         levels,
         coeff,
         inter,
@@ -404,14 +424,16 @@ pub fn residual_open_levels_scaled_and_edit(
 ) -> ListAnswered
     ensures { Lists (on_scaled_levels (kind_of dst) n bit_depth extended_precision qp_prime list.now dc) levels.old (buffers coeff.old inter.old residual.old) (edits_of (edit_count (length rows.now) (length columns.now) (length values.now) (length ways.now) (slices numbers.old named.old across.old limits.old)) rows.now columns.now values.now ways.now) (slices numbers.old named.old across.old limits.old) result levels.new (buffers coeff.new inter.new residual.new) (slices numbers.new named.new across.new limits.new) }
 {
-    ListAnswered::from(edited_list::open_levels_scaled_and_edit(
+    let precision = Precision {
+        bit_depth,
+        extended: extended_precision,
+    };
+    ListAnswered::from(edited_list::open_levels_and_edit(
         kind_of(dst),
         n,
-        bit_depth,
-        extended_precision,
+        precision,
         QpPrime(qp_prime),
-        list,
-        dc,
+        ScalingList::Listed(list, dc),
         levels,
         coeff,
         inter,
@@ -438,13 +460,9 @@ pub fn residual_refresh_residual(
 ) -> Answered
     ensures { Writes result residual.new (refreshed (kind_of dst) n bit_depth extended_precision inter.now residual.old) }
 {
-    edited_block::refresh_residual(
-        kind_of(dst),
-        n,
+    let precision = Precision {
         bit_depth,
-        extended_precision,
-        inter,
-        residual,
-    )
-    .into()
+        extended: extended_precision,
+    };
+    edited_block::refresh_residual(kind_of(dst), n, precision, inter, residual).into()
 }

@@ -6,15 +6,17 @@ ghost use Rattle.c_api.specs.Feeds.{Tells, RunsTo, ListsTo};
 
 use crate::FeedRan;
 
-fn ran_answered(ran: Option<usize>) -> FeedRan
-    ensures { Tells result ran }
-{
-    match ran {
-        Some(end) => FeedRan { room: true, end },
-        None => FeedRan {
-            room: false,
-            end: 0,
-        },
+impl From<Option<usize>> for FeedRan {
+    ghost from_gives = { λ ran told. Tells told ran };
+
+    fn from(ran: Option<usize>) -> FeedRan {
+        match ran {
+            Some(end) => FeedRan { room: true, end },
+            None => FeedRan {
+                room: false,
+                end: 0,
+            },
+        }
     }
 }
 
@@ -27,8 +29,7 @@ pub fn residual_feed_room(bytes: &[u8]) -> usize
 pub fn residual_feed_run(bytes: &[u8], text: &mut [u8]) -> FeedRan
     ensures { RunsTo result text.old text.new bytes.now }
 {
-    let ran = feed::run(bytes, text);
-    ran_answered(ran)
+    feed::run(bytes, text).into()
 }
 
 pub fn residual_listing_room(bytes: &[u8]) -> usize
@@ -40,6 +41,5 @@ pub fn residual_listing_room(bytes: &[u8]) -> usize
 pub fn residual_listing_run(bytes: &[u8], text: &mut [u8]) -> FeedRan
     ensures { ListsTo result text.old text.new bytes.now }
 {
-    let ran = scale_trace::run(bytes, text);
-    ran_answered(ran)
+    scale_trace::run(bytes, text).into()
 }

@@ -1,4 +1,5 @@
 // Scaling and transform skip: m, one level, and blocks at two widths.
+// Kept: C has each function under the name of the ported Rust, by the width of its output and with a list or without one, and hands over depth and flag, and a list and its DC, apart.
 ghost use Rattle.std.specs.Prelude.{◌≡◌};
 ghost use Rattle.h265.specs.ScalingFactor.ScalingList.{flat, listed};
 ghost use Rattle.scaling_blocks.specs.Blocks.{bits16, bits32, dequantized, transform_skipped};
@@ -9,6 +10,7 @@ ghost use Rattle.c_api.specs.Blocks.{CountWrites};
 
 use crate::{CountAnswered, LevelAnswered, NumberAnswered};
 use parameters::QpPrime;
+use refusal::Precision;
 
 // m at an index of a block.
 pub fn residual_scaling_coeff(list: &[u8], dc: u8, n: usize, index: usize) -> NumberAnswered
@@ -30,8 +32,12 @@ pub fn residual_scale_level(
 ) -> LevelAnswered
     ensures { of_level result ≡ scaled_level level m n qp_prime bit_depth extended_precision }
 {
+    let precision = Precision {
+        bit_depth,
+        extended: extended_precision,
+    };
     let qp = QpPrime(qp_prime);
-    scaling::scale_level(level, m, n, qp, bit_depth, extended_precision).into()
+    scaling::scale_level(level, m, n, qp, precision).into()
 }
 
 // The coefficients of a block without a list, 32-bit, and how many were limited.
@@ -45,15 +51,11 @@ pub fn residual_dequantize_into_scalar_i32(
 ) -> CountAnswered
     ensures { CountWrites result out.new (dequantized bits32 flat n qp_prime bit_depth extended_precision levels.now out.old) }
 {
-    scaling_wide::dequantize_into_scalar_i32(
-        levels,
-        n,
-        QpPrime(qp_prime),
+    let precision = Precision {
         bit_depth,
-        extended_precision,
-        out,
-    )
-    .into()
+        extended: extended_precision,
+    };
+    scaling_wide::dequantize_into_scalar_i32(levels, n, QpPrime(qp_prime), precision, out).into()
 }
 
 // The coefficients of a block with a list, 32-bit, and how many were limited.
@@ -69,17 +71,19 @@ pub fn residual_dequantize_scaled_into_scalar_i32(
 ) -> CountAnswered
     ensures { CountWrites result out.new (dequantized bits32 (listed list.now dc) n qp_prime bit_depth extended_precision levels.now out.old) }
 {
+    let precision = Precision {
+        bit_depth,
+        extended: extended_precision,
+    };
     scaling_wide::dequantize_scaled_into_scalar_i32(
         levels,
         n,
         QpPrime(qp_prime),
-        bit_depth,
-        extended_precision,
+        precision,
         list,
         dc,
         out,
-    )
-    .into()
+    ).into()
 }
 
 // The residuals of a block without a list, 32-bit, and how many coefficients were limited.
@@ -93,15 +97,17 @@ pub fn residual_dequantize_transform_skip_into_scalar_i32(
 ) -> CountAnswered
     ensures { CountWrites result out.new (transform_skipped bits32 flat n qp_prime bit_depth extended_precision levels.now out.old) }
 {
+    let precision = Precision {
+        bit_depth,
+        extended: extended_precision,
+    };
     scaling_wide::dequantize_transform_skip_into_scalar_i32(
         levels,
         n,
         QpPrime(qp_prime),
-        bit_depth,
-        extended_precision,
+        precision,
         out,
-    )
-    .into()
+    ).into()
 }
 
 // The residuals of a block with a list, 32-bit, and how many coefficients were limited.
@@ -117,17 +123,19 @@ pub fn residual_dequantize_transform_skip_scaled_into_scalar_i32(
 ) -> CountAnswered
     ensures { CountWrites result out.new (transform_skipped bits32 (listed list.now dc) n qp_prime bit_depth extended_precision levels.now out.old) }
 {
+    let precision = Precision {
+        bit_depth,
+        extended: extended_precision,
+    };
     scaling_wide::dequantize_transform_skip_scaled_into_scalar_i32(
         levels,
         n,
         QpPrime(qp_prime),
-        bit_depth,
-        extended_precision,
+        precision,
         list,
         dc,
         out,
-    )
-    .into()
+    ).into()
 }
 
 // The coefficients of a block without a list, 16-bit, and how many were limited.
@@ -141,15 +149,11 @@ pub fn residual_dequantize_into_scalar_i16(
 ) -> CountAnswered
     ensures { CountWrites result out.new (dequantized bits16 flat n qp_prime bit_depth extended_precision levels.now out.old) }
 {
-    scaling_narrow::dequantize_into_scalar_i16(
-        levels,
-        n,
-        QpPrime(qp_prime),
+    let precision = Precision {
         bit_depth,
-        extended_precision,
-        out,
-    )
-    .into()
+        extended: extended_precision,
+    };
+    scaling_narrow::dequantize_into_scalar_i16(levels, n, QpPrime(qp_prime), precision, out).into()
 }
 
 // The coefficients of a block with a list, 16-bit, and how many were limited.
@@ -165,17 +169,19 @@ pub fn residual_dequantize_scaled_into_scalar_i16(
 ) -> CountAnswered
     ensures { CountWrites result out.new (dequantized bits16 (listed list.now dc) n qp_prime bit_depth extended_precision levels.now out.old) }
 {
+    let precision = Precision {
+        bit_depth,
+        extended: extended_precision,
+    };
     scaling_narrow::dequantize_scaled_into_scalar_i16(
         levels,
         n,
         QpPrime(qp_prime),
-        bit_depth,
-        extended_precision,
+        precision,
         list,
         dc,
         out,
-    )
-    .into()
+    ).into()
 }
 
 // The residuals of a block without a list, 16-bit, and how many coefficients were limited.
@@ -189,15 +195,17 @@ pub fn residual_dequantize_transform_skip_into_scalar_i16(
 ) -> CountAnswered
     ensures { CountWrites result out.new (transform_skipped bits16 flat n qp_prime bit_depth extended_precision levels.now out.old) }
 {
+    let precision = Precision {
+        bit_depth,
+        extended: extended_precision,
+    };
     scaling_narrow::dequantize_transform_skip_into_scalar_i16(
         levels,
         n,
         QpPrime(qp_prime),
-        bit_depth,
-        extended_precision,
+        precision,
         out,
-    )
-    .into()
+    ).into()
 }
 
 // The residuals of a block with a list, 16-bit, and how many coefficients were limited.
@@ -213,15 +221,17 @@ pub fn residual_dequantize_transform_skip_scaled_into_scalar_i16(
 ) -> CountAnswered
     ensures { CountWrites result out.new (transform_skipped bits16 (listed list.now dc) n qp_prime bit_depth extended_precision levels.now out.old) }
 {
+    let precision = Precision {
+        bit_depth,
+        extended: extended_precision,
+    };
     scaling_narrow::dequantize_transform_skip_scaled_into_scalar_i16(
         levels,
         n,
         QpPrime(qp_prime),
-        bit_depth,
-        extended_precision,
+        precision,
         list,
         dc,
         out,
-    )
-    .into()
+    ).into()
 }

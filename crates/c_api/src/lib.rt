@@ -165,6 +165,7 @@ pub struct TransformSkipAnswered {
     pub tr_shift: i32,
 }
 
+// Kept: C has no options, so that flags say what was given.
 // The record of an edited block, as it goes from call to call: `dst` is its kind; from `levels` on, how it was opened and what its levels are scaled by.
 #[repr(C)]
 #[derive(Clone, Copy)]
@@ -220,6 +221,7 @@ pub struct ListAnswered {
 }
 
 // Whether there was room, and where the text ends; 0 without room.
+// Kept: C has no options.
 #[repr(C)]
 #[derive(Clone, Copy)]
 pub struct FeedRan {

@@ -1,4 +1,5 @@
 // Samples rebuilt into a plane, and the checksum of a picture.
+// Kept: C hands over width, height and stride apart.
 ghost use Rattle.std.specs.Prelude.{◌≡◌};
 ghost use Rattle.checksum.specs.Checksum.{checksummed};
 ghost use Rattle.picture.specs.Rebuild.{rebuilt};
@@ -6,6 +7,7 @@ ghost use Rattle.c_api.specs.Answers.{of_number};
 ghost use Rattle.c_api.specs.Pictures.{Rebuilds};
 
 use crate::{Answered, NumberAnswered};
+use planes::Extent;
 
 // The samples of a block, put into a plane.
 pub fn picture_rebuild_block(
@@ -22,10 +24,12 @@ pub fn picture_rebuild_block(
 ) -> Answered
     ensures { Rebuilds result plane.new (rebuilt n bit_depth residual.now prediction.now width height stride x y plane.old) }
 {
-    picture::rebuild_block(
-        n, bit_depth, residual, prediction, width, height, stride, x, y, plane,
-    )
-    .into()
+    let extent = Extent {
+        width,
+        height,
+        stride,
+    };
+    picture::rebuild_block(n, bit_depth, residual, prediction, extent, x, y, plane).into()
 }
 
 // The checksum of the picture in a plane.
@@ -38,5 +42,10 @@ pub fn picture_checksum(
 ) -> NumberAnswered
     ensures { of_number result ≡ checksummed bit_depth width height stride plane.now }
 {
-    checksum::picture_checksum(width, height, stride, bit_depth, plane).into()
+    let extent = Extent {
+        width,
+        height,
+        stride,
+    };
+    checksum::picture_checksum(extent, bit_depth, plane).into()
 }

@@ -1,4 +1,5 @@
 // The range of coefficients, QP', the numbers by which a block is scaled, and how far a residual may be from the exact product.
+// Kept: C hands over depth and flag apart, and the kind as a flag.
 ghost use Rattle.std.specs.Prelude.{◌≡◌};
 ghost use Rattle.parameters.specs.Parameters.{max_log2_transform_dynamic_range, qp_bd_offset_of, qp_prime_of, dequant_params, transform_skip_params};
 ghost use Rattle.rounding.specs.Bound.{rounding_bound_of};
@@ -7,6 +8,7 @@ ghost use Rattle.c_api.specs.Edits.{kind_of};
 
 use crate::{DequantAnswered, NumberAnswered, SignedAnswered, TransformSkipAnswered, edits};
 use parameters::{Qp, QpPrime};
+use refusal::Precision;
 
 // R: coefficients lie in -2^R .. 2^R - 1.
 pub fn residual_max_log2_transform_dynamic_range(
@@ -15,7 +17,11 @@ pub fn residual_max_log2_transform_dynamic_range(
 ) -> NumberAnswered
     ensures { of_number result ≡ max_log2_transform_dynamic_range bit_depth extended_precision }
 {
-    parameters::max_log2_transform_dynamic_range(bit_depth, extended_precision).into()
+    let precision = Precision {
+        bit_depth,
+        extended: extended_precision,
+    };
+    parameters::max_log2_transform_dynamic_range(precision).into()
 }
 
 // What QP' is above QP.
@@ -41,8 +47,12 @@ pub fn residual_dequant_params(
 ) -> DequantAnswered
     ensures { of_dequant result ≡ dequant_params n qp_prime bit_depth extended_precision }
 {
+    let precision = Precision {
+        bit_depth,
+        extended: extended_precision,
+    };
     let qp = QpPrime(qp_prime);
-    parameters::dequant_params(n, qp, bit_depth, extended_precision).into()
+    parameters::dequant_params(n, qp, precision).into()
 }
 
 // The same, with the shift of transform skip and its rounding.
@@ -54,8 +64,12 @@ pub fn residual_transform_skip_params(
 ) -> TransformSkipAnswered
     ensures { of_transform_skip result ≡ transform_skip_params n qp_prime bit_depth extended_precision }
 {
+    let precision = Precision {
+        bit_depth,
+        extended: extended_precision,
+    };
     let qp = QpPrime(qp_prime);
-    parameters::transform_skip_params(n, qp, bit_depth, extended_precision).into()
+    parameters::transform_skip_params(n, qp, precision).into()
 }
 
 // By how much 2^(7 + s2) times a residual may differ from the exact product, where no stage-one value was limited.
@@ -67,6 +81,10 @@ pub fn residual_rounding_bound(
 ) -> NumberAnswered
     ensures { of_number result ≡ rounding_bound_of (kind_of dst) n bit_depth extended_precision }
 {
+    let precision = Precision {
+        bit_depth,
+        extended: extended_precision,
+    };
     let kind = edits::kind_of(dst);
-    rounding::rounding_bound(kind, n, bit_depth, extended_precision).into()
+    rounding::rounding_bound(kind, n, precision).into()
 }

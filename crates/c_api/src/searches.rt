@@ -1,4 +1,6 @@
 // Which edits give the wanted samples of a block: of coefficients, and of levels without a list and with one. Which coefficient makes a sample.
+// Kept: C has a function with a list and one without, hands over depth and flag, and a list and its DC, apart, the kind as a flag, and lends target, flags
+// and both outputs apart.
 ghost use Rattle.h265.specs.ScalingFactor.ScalingList.{flat, listed};
 ghost use Rattle.edit_search.specs.Found.{edits_found};
 ghost use Rattle.level_edits.specs.Levels.{level_edits_found};
@@ -9,6 +11,8 @@ ghost use Rattle.c_api.specs.Searches.{Finds};
 
 use crate::{Answered, edits};
 use parameters::QpPrime;
+use refusal::Precision;
+use scaling_values::ScalingList;
 
 // The least and the most value of each coefficient.
 pub fn residual_find_edits(
@@ -24,11 +28,14 @@ pub fn residual_find_edits(
 ) -> Answered
     ensures { Finds result least.new most.new (edits_found (kind_of dst) n bit_depth extended_precision coeff.now target.now wanted.now least.old most.old) }
 {
+    let precision = Precision {
+        bit_depth,
+        extended: extended_precision,
+    };
     edit_search::find_edits(
         edits::kind_of(dst),
         n,
-        bit_depth,
-        extended_precision,
+        precision,
         coeff,
         target,
         wanted,
@@ -53,12 +60,16 @@ pub fn residual_find_level_edits(
 ) -> Answered
     ensures { Finds result least.new most.new (level_edits_found flat (kind_of dst) n qp_prime bit_depth extended_precision levels.now target.now wanted.now least.old most.old) }
 {
+    let precision = Precision {
+        bit_depth,
+        extended: extended_precision,
+    };
     level_edits::find_level_edits(
         edits::kind_of(dst),
         n,
         QpPrime(qp_prime),
-        bit_depth,
-        extended_precision,
+        precision,
+        ScalingList::Flat,
         levels,
         target,
         wanted,
@@ -85,14 +96,16 @@ pub fn residual_find_level_edits_scaled(
 ) -> Answered
     ensures { Finds result least.new most.new (level_edits_found (listed list.now dc) (kind_of dst) n qp_prime bit_depth extended_precision levels.now target.now wanted.now least.old most.old) }
 {
-    level_edits::find_level_edits_scaled(
+    let precision = Precision {
+        bit_depth,
+        extended: extended_precision,
+    };
+    level_edits::find_level_edits(
         edits::kind_of(dst),
         n,
         QpPrime(qp_prime),
-        bit_depth,
-        extended_precision,
-        list,
-        dc,
+        precision,
+        ScalingList::Listed(list, dc),
         levels,
         target,
         wanted,

@@ -1,4 +1,5 @@
 // Scaling lists of two streams in one lent table.
+// Kept: C has each function under a name of its own, by the width of its output, and hands over depth and flag, and a list and its DC, apart.
 ghost use Rattle.scaling_blocks.specs.Blocks.{bits16, bits32};
 ghost use Rattle.list_places.specs.Table.{stream_of, short};
 ghost use Rattle.list_blocks.specs.Scale.{block, scale_answer};
@@ -9,6 +10,7 @@ ghost use Rattle.c_api.specs.Tables.{Stores, Drops, Finds};
 
 use crate::{Answered, CountAnswered, NumberAnswered, StoreAnswered};
 use parameters::QpPrime;
+use refusal::Precision;
 
 // Stores a list and its DC under the lowest free number of a stream.
 pub fn residual_store_list(table: &mut [u8], stream: usize, list: &[u8], dc: u8) -> StoreAnswered
@@ -52,15 +54,18 @@ pub fn residual_dequantize_by_number_i32(
 ) -> CountAnswered
     ensures { CountWrites result out.new (scale_answer (short table.now) stream (stream_of table.now stream) number (block coefficients bits32 n qp_prime bit_depth extended_precision levels.now) out.old) }
 {
-    list_blocks::dequantize_by_number_i32(
+    let precision = Precision {
+        bit_depth,
+        extended: extended_precision,
+    };
+    list_blocks::dequantize_by_number(
         table,
         stream,
         number,
         levels,
         n,
         QpPrime(qp_prime),
-        bit_depth,
-        extended_precision,
+        precision,
         out,
     )
     .into()
@@ -80,15 +85,18 @@ pub fn residual_dequantize_by_number_i16(
 ) -> CountAnswered
     ensures { CountWrites result out.new (scale_answer (short table.now) stream (stream_of table.now stream) number (block coefficients bits16 n qp_prime bit_depth extended_precision levels.now) out.old) }
 {
-    list_blocks::dequantize_by_number_i16(
+    let precision = Precision {
+        bit_depth,
+        extended: extended_precision,
+    };
+    list_blocks::dequantize_by_number(
         table,
         stream,
         number,
         levels,
         n,
         QpPrime(qp_prime),
-        bit_depth,
-        extended_precision,
+        precision,
         out,
     )
     .into()
@@ -108,15 +116,18 @@ pub fn residual_dequantize_transform_skip_by_number_i32(
 ) -> CountAnswered
     ensures { CountWrites result out.new (scale_answer (short table.now) stream (stream_of table.now stream) number (block residuals bits32 n qp_prime bit_depth extended_precision levels.now) out.old) }
 {
-    list_blocks::dequantize_transform_skip_by_number_i32(
+    let precision = Precision {
+        bit_depth,
+        extended: extended_precision,
+    };
+    list_blocks::transform_skip_by_number(
         table,
         stream,
         number,
         levels,
         n,
         QpPrime(qp_prime),
-        bit_depth,
-        extended_precision,
+        precision,
         out,
     )
     .into()
@@ -136,15 +147,18 @@ pub fn residual_dequantize_transform_skip_by_number_i16(
 ) -> CountAnswered
     ensures { CountWrites result out.new (scale_answer (short table.now) stream (stream_of table.now stream) number (block residuals bits16 n qp_prime bit_depth extended_precision levels.now) out.old) }
 {
-    list_blocks::dequantize_transform_skip_by_number_i16(
+    let precision = Precision {
+        bit_depth,
+        extended: extended_precision,
+    };
+    list_blocks::transform_skip_by_number(
         table,
         stream,
         number,
         levels,
         n,
         QpPrime(qp_prime),
-        bit_depth,
-        extended_precision,
+        precision,
         out,
     )
     .into()

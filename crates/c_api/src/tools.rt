@@ -1,4 +1,5 @@
 // The block tools of the range extensions, and the levels that give a block's coefficients.
+// Kept: C has a function with a list and one without, hands over depth and flag, and a list and its DC, apart, and the way of accumulation as a number.
 ghost use Rattle.std.specs.Prelude.{◌≡◌};
 ghost use Rattle.h265.specs.ScalingFactor.ScalingList.{flat, listed};
 ghost use Rattle.block_tool_rules.specs.Residual.{skip_residual, bypass_residual};
@@ -9,7 +10,10 @@ ghost use Rattle.c_api.specs.Tools.{accumulate_of};
 use crate::{Answered, CountAnswered};
 use block_tools::Accumulate;
 use parameters::QpPrime;
+use refusal::Precision;
+use scaling_values::ScalingList;
 
+// Kept: neither type is declared here, so that no `From` can stand here.
 fn accumulate_of(accumulate: u8) -> Accumulate
     ensures { result ≡ accumulate_of accumulate }
 {
@@ -33,12 +37,16 @@ pub fn residual_transform_skip_residual(
 ) -> CountAnswered
     ensures { CountWrites result out.new (skip_residual (accumulate_of accumulate) rotate flat n qp_prime bit_depth extended_precision levels.now out.old) }
 {
+    let precision = Precision {
+        bit_depth,
+        extended: extended_precision,
+    };
     block_tools::transform_skip_residual(
         levels,
         n,
         QpPrime(qp_prime),
-        bit_depth,
-        extended_precision,
+        precision,
+        ScalingList::Flat,
         rotate,
         accumulate_of(accumulate),
         out,
@@ -61,14 +69,16 @@ pub fn residual_transform_skip_scaled_residual(
 ) -> CountAnswered
     ensures { CountWrites result out.new (skip_residual (accumulate_of accumulate) rotate (listed list.now dc) n qp_prime bit_depth extended_precision levels.now out.old) }
 {
-    block_tools::transform_skip_scaled_residual(
+    let precision = Precision {
+        bit_depth,
+        extended: extended_precision,
+    };
+    block_tools::transform_skip_residual(
         levels,
         n,
         QpPrime(qp_prime),
-        bit_depth,
-        extended_precision,
-        list,
-        dc,
+        precision,
+        ScalingList::Listed(list, dc),
         rotate,
         accumulate_of(accumulate),
         out,
@@ -88,16 +98,18 @@ pub fn residual_bypass_residual(
 ) -> Answered
     ensures { Writes result out.new (bypass_residual (accumulate_of accumulate) rotate n bit_depth extended_precision levels.now out.old) }
 {
+    let precision = Precision {
+        bit_depth,
+        extended: extended_precision,
+    };
     block_tools::bypass_residual(
         levels,
         n,
-        bit_depth,
-        extended_precision,
+        precision,
         rotate,
         accumulate_of(accumulate),
         out,
-    )
-    .into()
+    ).into()
 }
 
 // The levels that give the coefficients of a block without a list.
@@ -111,12 +123,16 @@ pub fn residual_find_levels(
 ) -> Answered
     ensures { Writes result levels.new (levels_found flat n qp_prime bit_depth extended_precision coeff.now levels.old) }
 {
+    let precision = Precision {
+        bit_depth,
+        extended: extended_precision,
+    };
     level_search::find_levels(
         coeff,
         n,
         QpPrime(qp_prime),
-        bit_depth,
-        extended_precision,
+        precision,
+        ScalingList::Flat,
         levels,
     )
     .into()
@@ -135,14 +151,16 @@ pub fn residual_find_levels_scaled(
 ) -> Answered
     ensures { Writes result levels.new (levels_found (listed list.now dc) n qp_prime bit_depth extended_precision coeff.now levels.old) }
 {
-    level_search::find_levels_scaled(
+    let precision = Precision {
+        bit_depth,
+        extended: extended_precision,
+    };
+    level_search::find_levels(
         coeff,
         n,
         QpPrime(qp_prime),
-        bit_depth,
-        extended_precision,
-        list,
-        dc,
+        precision,
+        ScalingList::Listed(list, dc),
         levels,
     )
     .into()

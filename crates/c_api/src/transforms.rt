@@ -1,4 +1,5 @@
 // The inverse transforms of whole blocks: the DCT with a column count, and the DST of size 4.
+// Kept: C has the six functions under the names of the ported Rust: DCT and DST, plain, extended and 16-bit.
 ghost use Rattle.std.specs.Prelude.{true, false};
 ghost use Rattle.transform_1d.specs.declared.Kind.TheVariants.{Dct, Dst};
 ghost use Rattle.transform_blocks.specs.Blocks.{inverted, bits16, bits32, plain_range, extended_range};

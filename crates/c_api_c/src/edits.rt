@@ -1,4 +1,6 @@
 // Edited blocks: the record goes in as one struct and comes back in the answer, zeros where an opening was refused.
+// Kept: C lends and hands over apart what belongs together: depth and flag, a list and its DC, a block's buffers, the slices of a list of edits; the kind
+// is a flag, and an opening with a list is a function of its own, with as many lines as it has parameters.
 ghost use Rattle.std.specs.Prelude.{length};
 ghost use Rattle.block_rules.specs.Edit.{buffers, edited, refreshed};
 ghost use Rattle.block_rules.specs.Opening.{on_coefficients, opened_as};

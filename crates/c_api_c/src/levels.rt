@@ -1,4 +1,5 @@
 // Scaling and transform skip: m, one level, and blocks at two widths.
+// Kept: C has each function under the name of the ported Rust, by the width of its output and with a list or without one, and hands over depth and flag, and a list and its DC, apart.
 ghost use Rattle.std.specs.Prelude.{◌≡◌};
 ghost use Rattle.h265.specs.ScalingFactor.ScalingList.{flat, listed};
 ghost use Rattle.scaling_blocks.specs.Blocks.{bits16, bits32, dequantized, transform_skipped};

@@ -1,4 +1,5 @@
 // Samples rebuilt into a plane, and the checksum of a picture.
+// Kept: C hands over width, height and stride apart.
 ghost use Rattle.std.specs.Prelude.{◌≡◌};
 ghost use Rattle.checksum.specs.Checksum.{checksummed};
 ghost use Rattle.picture.specs.Rebuild.{rebuilt};

@@ -1,4 +1,5 @@
 // The range of coefficients, QP', the numbers by which a block is scaled, and how far a residual may be from the exact product.
+// Kept: C hands over depth and flag apart, and the kind as a flag.
 ghost use Rattle.std.specs.Prelude.{◌≡◌};
 ghost use Rattle.parameters.specs.Parameters.{max_log2_transform_dynamic_range, qp_bd_offset_of, qp_prime_of, dequant_params, transform_skip_params};
 ghost use Rattle.rounding.specs.Bound.{rounding_bound_of};

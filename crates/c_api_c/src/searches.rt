@@ -1,4 +1,6 @@
 // Which edits give the wanted samples of a block: of coefficients, and of levels without a list and with one. Which coefficient makes a sample.
+// Kept: C has a function with a list and one without, hands over depth and flag, and a list and its DC, apart, the kind as a flag, and lends target, flags
+// and both outputs apart.
 ghost use Rattle.h265.specs.ScalingFactor.ScalingList.{flat, listed};
 ghost use Rattle.edit_search.specs.Found.{edits_found};
 ghost use Rattle.level_edits.specs.Levels.{level_edits_found};

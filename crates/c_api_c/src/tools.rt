@@ -1,4 +1,5 @@
 // The block tools of the range extensions, and the levels that give a block's coefficients.
+// Kept: C has a function with a list and one without, hands over depth and flag, and a list and its DC, apart, and the way of accumulation as a number.
 ghost use Rattle.h265.specs.ScalingFactor.ScalingList.{flat, listed};
 ghost use Rattle.block_tool_rules.specs.Residual.{skip_residual, bypass_residual};
 ghost use Rattle.level_search.specs.Found.{levels_found};

@@ -2,10 +2,18 @@
 // what a file holds, and nothing is handed back by what writes, so that these functions state lengths and bounds alone.
 #![tactic(auto)]
 
+mod defaults;
 mod reading;
+mod replay;
 mod writing;
 
+pub use defaults::{Defaults, kept, put_refused};
 pub use reading::{
-    Number, are_next, copy_text, next, next_length, read_all, read_first, read_indices, read_named,
+    Number, are_next, copy_text, named, next, next_kind, next_length, next_precision,
+    next_short_length, read_all, read_first, read_indices, read_named,
 };
-pub use writing::{put, put_all, put_answer, put_end, put_flag, put_refusal, put_same};
+pub use replay::replay_all;
+pub use writing::{
+    put, put_all, put_answer, put_count, put_each, put_end, put_flag, put_place, put_refusal,
+    put_same, put_value,
+};

@@ -1,7 +1,9 @@
 // The next numbers of a file of cases. Where the file ends, zeros.
 ghost use Rattle.std.specs.Prelude.{◌≤◌};
 
+use refusal::Precision;
 use std::io::Read;
+use transform_1d::Kind;
 
 // A number that a file of cases holds, its low byte first.
 pub trait Number: Copy + PartialEq {
@@ -69,9 +71,7 @@ pub fn read_first<T: Number>(input: &mut impl Read, count: usize, xs: &mut [T]) 
 pub fn are_next<T: Number>(input: &mut impl Read, xs: &[T]) -> bool {
     let mut same = true;
     for x in xs {
-        if *x != T::next_in(input) {
-            same = false;
-        }
+        same &= *x == T::next_in(input);
     }
     same
 }
@@ -83,15 +83,42 @@ pub fn next_length(input: &mut impl Read, most: usize) -> usize
     next::<usize>(input).min(most)
 }
 
-// A byte each, where 255 is the largest number there is.
+// The same in two bytes.
+pub fn next_short_length(input: &mut impl Read, most: usize) -> usize
+    ensures { result ≤ most }
+{
+    (next::<u16>(input) as usize).min(most)
+}
+
+// Depth and the flag of extended precision, a byte each.
+pub fn next_precision(input: &mut impl Read) -> Precision {
+    Precision {
+        bit_depth: next(input),
+        extended: next::<u8>(input) != 0,
+    }
+}
+
+// A byte, 0 for the DCT.
+pub fn next_kind(input: &mut impl Read) -> Kind {
+    match next::<u8>(input) {
+        0 => Kind::Dct,
+        _ => Kind::Dst,
+    }
+}
+
+// The number that a byte stands for, where 255 is the largest number there is.
+pub fn named(byte: u8) -> usize {
+    if byte == 255 {
+        usize::MAX
+    } else {
+        byte as usize
+    }
+}
+
+// A byte each, as `named` reads it.
 pub fn read_named(input: &mut impl Read, xs: &mut [usize]) {
     for x in xs.iter_mut() {
-        let byte = next::<u8>(input);
-        *x = if byte == 255 {
-            usize::MAX
-        } else {
-            byte as usize
-        };
+        *x = named(next(input));
     }
 }
 
@@ -103,6 +130,7 @@ pub fn read_indices(input: &mut impl Read, xs: &mut [usize]) {
 }
 
 // A byte of length, then as many of text, which are written as they are; answers whether there was a text.
+// Kept: it goes from a reader to standard output, and there is no slice to copy into.
 pub fn copy_text(rt: &impl Print, input: &mut impl Read) -> bool {
     let mut head = [0u8; 1];
     let mut room = [0u8; 256];

@@ -5,6 +5,7 @@ ghost use Rattle.std.specs.Prelude.{◌≡◌, ◌+◌, ◌*◌, ◌<◌, ◌≤
 ghost use Rattle.refusal.specs.Outcome.{outcome};
 ghost use Rattle.checksum.specs.Checksum.{xor_mask, sample_term, run_term, total, row_total, picture_checksum, checksummed};
 
+use planes::Extent;
 use refusal::Refusal;
 
 // The mask of column x and row y.
@@ -47,45 +48,37 @@ fn row_total(bit_depth: u8, width: usize, first: usize, y: u16, plane: &[u16]) -
     ensures { result ≡ row_total bit_depth width first y plane.now }
 {
     let mut sum: u32 = 0;
-    let mut x: usize = 0;
-    while x < width {
+    for x in (0..width).step_by(128) {
         let mask = xor_mask(x as u16, y);
         let count = (width - x).min(128);
         let run = run_total(bit_depth, first + x, count, mask, plane);
         sum += run as u32;
-        x += 128;
     }
     sum
 }
 
 // What all rows add, modulo 2^32.
-fn rows_total(bit_depth: u8, width: usize, height: usize, stride: usize, plane: &[u16]) -> u32
-    requires { (width ≤ 16384) × (height ≤ 16384) × (width ≤ stride) × (stride ≤ 65536) × (stride * height ≤ length plane.now) }
-    ensures { result ≡ picture_checksum bit_depth width height stride plane.now }
+fn rows_total(bit_depth: u8, extent: Extent, plane: &[u16]) -> u32
+    requires { (extent.width ≤ 16384) × (extent.height ≤ 16384) × (extent.width ≤ extent.stride) × (extent.stride ≤ 65536) × (extent.stride * extent.height ≤ length plane.now) }
+    ensures { result ≡ picture_checksum bit_depth extent.width extent.height extent.stride plane.now }
 {
     let mut sum: u32 = 0;
-    for y in 0..height {
-        let row = row_total(bit_depth, width, y * stride, y as u16, plane);
+    for y in 0..extent.height {
+        let row = row_total(bit_depth, extent.width, y * extent.stride, y as u16, plane);
         sum = sum.wrapping_add(row);
     }
     sum
 }
 
 // The checksum of the picture in a plane, whose samples may be any numbers.
-pub fn picture_checksum(
-    width: usize,
-    height: usize,
-    stride: usize,
-    bit_depth: u8,
-    plane: &[u16],
-) -> Result<u32, Refusal>
-    ensures { outcome 0 result ≡ checksummed bit_depth width height stride plane.now }
+pub fn picture_checksum(extent: Extent, bit_depth: u8, plane: &[u16]) -> Result<u32, Refusal>
+    ensures { outcome 0 result ≡ checksummed bit_depth extent.width extent.height extent.stride plane.now }
 {
     if refusal::depth_refused(bit_depth) {
         return Err(Refusal::DepthInvalid);
     }
-    if planes::picture_refused(width, height, stride, plane.len()) {
+    if extent.refused(plane.len()) {
         return Err(Refusal::PictureInvalid);
     }
-    Ok(rows_total(bit_depth, width, height, stride, plane))
+    Ok(rows_total(bit_depth, extent, plane))
 }

@@ -7,21 +7,19 @@ ghost use Rattle.std.specs.Int.Signed.{lt_z, mag};
 ghost use Rattle.h265.specs.Range.{is_size, transform_range, coeff_min, outside_range};
 ghost use Rattle.coefficients.specs.Outside.{first_outside, outside_refusal, refusal_at};
 
-use refusal::Refusal;
+use refusal::{Precision, Refusal};
 
 mod rows; // which rows are in use
 
 pub use rows::rows_used;
 
 // R: coefficients lie in -2^R .. 2^R - 1.
-pub fn transform_range(bit_depth: u8, extended_precision: bool) -> u32
-    requires { bit_depth ≤ 16 }
-    ensures { result ≡ transform_range bit_depth extended_precision }
+pub fn transform_range(precision: Precision) -> u32
+    requires { precision.bit_depth ≤ 16 }
+    ensures { result ≡ transform_range precision.bit_depth precision.extended }
 {
-    if extended_precision {
-        if 9 < bit_depth {
-            return (bit_depth + 6) as u32;
-        }
+    if precision.extended {
+        return ((precision.bit_depth + 6) as u32).max(15);
     }
     15
 }

@@ -21,13 +21,10 @@ pub fn rows_used(coeff: &[i32], n: usize, nx: usize, least: usize) -> usize
     requires { (n * n ≤ length coeff.now) × (nx ≤ n) × (n ≤ 32) }
     ensures { RowsUsed coeff.now n nx result }
 {
-    // counted down by hand: a reversed range holds the row below the answer, and with `least` above n it is no plainer
-    let mut k = n;
-    while least < k {
-        if !zero_run(coeff, (k - 1) * n, nx) {
-            return k;
+    for k in (least..n).rev() {
+        if !zero_run(coeff, k * n, nx) {
+            return k + 1;
         }
-        k -= 1;
     }
-    k
+    least.min(n)
 }

@@ -30,6 +30,7 @@ fn products(down: &[i16; 32], across: &[i16; 32], n: usize, coeff: &[i32], out: 
     }
 }
 
+// Kept: two functions for the two kinds, since their tables are laid out differently; what is alike is `products`.
 fn dct_products(n: usize, row: usize, column: usize, coeff: &[i32], out: &mut [i64])
     requires { T (is_size n) × (row < n) × (column < n) × (n * n ≤ length coeff.now) × (n * n ≤ length out.old) }
     ensures { out.new ≡ overwrite (n * n) (row_order n (contribution (trans_matrix n) n coeff.now row column)) out.old }

@@ -8,66 +8,27 @@ use transform_1d::Kind;
 
 #[derive(Clone, Copy)]
 struct Case {
-    dst: bool,
+    kind: Kind,
     n: usize,
     row: usize,
     column: usize,
 }
 
-fn kind_of(dst: bool) -> Kind {
-    if dst { Kind::Dst } else { Kind::Dct }
-}
-
 fn next_case(stdin: &mut impl Read) -> Case {
-    let dst = cases::next::<u8>(stdin) != 0;
-    let n = cases::next::<usize>(stdin);
-    let row = cases::next::<usize>(stdin);
-    let column = cases::next::<usize>(stdin);
     Case {
-        dst,
-        n,
-        row,
-        column,
-    }
-}
-
-// The size of z. The least number has no negation in its type, and -1 - z is one less than its size.
-fn size(z: i64) -> u64 {
-    if z < 0 {
-        return (-1 - z) as u64 + 1;
-    }
-    z as u64
-}
-
-fn put_long(rt: &impl Print, z: i64) {
-    streams::write_all(rt, b" ");
-    if z < 0 {
-        streams::write_all(rt, b"-");
-    }
-    streams::print(rt, size(z));
-}
-
-fn put_bar(rt: &impl Print) {
-    streams::write_all(rt, b" |");
-}
-
-// A bar, then every element.
-fn put_all(rt: &impl Print, xs: &[i64]) {
-    put_bar(rt);
-    let mut i = 0;
-    while i < xs.len() {
-        put_long(rt, xs[i]);
-        i += 1;
+        kind: cases::next_kind(stdin),
+        n: cases::next(stdin),
+        row: cases::next(stdin),
+        column: cases::next(stdin),
     }
 }
 
 fn show(rt: &impl Print, case: Case, coeff: &[i32], out: &mut [i64]) {
-    let kind = kind_of(case.dst);
     cases::put_answer(
         rt,
-        contributions::contributions(kind, case.n, case.row, case.column, coeff, out),
+        contributions::contributions(case.kind, case.n, case.row, case.column, coeff, out),
     );
-    put_all(rt, out);
+    cases::put_all(rt, out);
 }
 
 // The buffers of a case, and its answer.
@@ -93,8 +54,5 @@ fn replay(rt: &impl Print, stdin: &mut impl Read) -> bool {
 
 fn main(rt: HostRuntime) {
     let mut stdin = rt.stdin();
-    let mut turns = u64::MAX;
-    while turns > 0 && replay(&rt, &mut stdin) {
-        turns -= 1;
-    }
+    cases::replay_all(|| replay(&rt, &mut stdin));
 }

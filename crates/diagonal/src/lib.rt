@@ -28,6 +28,7 @@ const UP_RIGHT_8: [u8; 64] = [
     63,
 ];
 
+// Kept: one function with the size as a const parameter would hand back size × size elements, and Rattle has no computed const argument.
 pub fn up_right_4() -> [u8; 16]
     ensures { result ≡ up_right 4 }
 {

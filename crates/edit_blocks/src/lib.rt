@@ -10,6 +10,7 @@ ghost use Rattle.edit_blocks.specs.Edits.{least_edit, most_edit};
 ghost use Rattle.edit_blocks.specs.Work.{EditsNeeds};
 
 use edit_tables::{matrix, sums};
+use refusal::Precision;
 pub use spans::{least_of, most_of};
 use transform_1d::Kind;
 
@@ -17,19 +18,18 @@ use transform_1d::Kind;
 pub fn find(
     kind: Kind,
     n: usize,
-    bit_depth: u8,
-    extended_precision: bool,
+    precision: Precision,
     coeff: &[i32],
     target: &[i32],
     wanted: &[u8],
     least: &mut [i32],
     most: &mut [i32],
 )
-    requires { EditsNeeds kind n bit_depth extended_precision coeff.now (length target.now) (length wanted.now) (length least.old) (length most.old) }
-    ensures { (least.new ≡ overwrite (n * n) (least_edit kind n bit_depth extended_precision coeff.now target.now wanted.now) least.old) × (most.new ≡ overwrite (n * n) (most_edit kind n bit_depth extended_precision coeff.now target.now wanted.now) most.old) }
+    requires { EditsNeeds kind n precision.bit_depth precision.extended coeff.now (length target.now) (length wanted.now) (length least.old) (length most.old) }
+    ensures { (least.new ≡ overwrite (n * n) (least_edit kind n precision.bit_depth precision.extended coeff.now target.now wanted.now) least.old) × (most.new ≡ overwrite (n * n) (most_edit kind n precision.bit_depth precision.extended coeff.now target.now wanted.now) most.old) }
 {
-    let range = coefficients::transform_range(bit_depth, extended_precision);
-    let shift = range + 5 - bit_depth as u32;
+    let range = coefficients::transform_range(precision);
+    let shift = range + 5 - precision.bit_depth as u32;
     let t = matrix::matrix(kind, n);
     let d = sums::widened(coeff, n);
     let ones = sums::down_columns(&t, &d, n);

@@ -37,6 +37,8 @@ fn without(sum: i64, entry: i64, value: i64) -> i64
     edit_values::mac(sum, 0 - entry, value)
 }
 
+// Kept: the tables apart, here and below: one struct that owns them was tried and proves, and the copies into it take 40 KB of stack more than include/residual.h
+// allows a search for edits.
 // What a sample has of everything but the coefficient's value: both sums without the coefficient's own product.
 fn probe_at(
     t: &[i64; 1024],
@@ -170,6 +172,7 @@ fn index_span(
 }
 
 // The first value of a span, and 1 where it is empty.
+// Kept: two functions for the two ends, since each reads its own place and has its own number for none; one of both would hand out a pair that the callers take apart.
 pub fn least_of(range: u32, span: Span) -> i32
     requires { (range ≤ 22) × (span.to ≤ value_count range) }
     ensures { result ≡ least_of range span }

@@ -3,7 +3,7 @@
 
 ghost use Rattle.edit_search.specs.Found.{Finds, edits_found};
 
-use refusal::Refusal;
+use refusal::{Precision, Refusal};
 use transform_1d::Kind;
 
 mod refuse;
@@ -12,41 +12,32 @@ mod refuse;
 pub fn find_edits(
     kind: Kind,
     n: usize,
-    bit_depth: u8,
-    extended_precision: bool,
+    precision: Precision,
     coeff: &[i32],
+    // Kept: target and wanted stay two slices: C lends each, and row 6 is of the length of each.
     target: &[i32],
     wanted: &[u8],
+    // Kept: a struct of both lent slices would have to promise for each that it stays the same one (its ghost_name), a clause more for each.
     least: &mut [i32],
     most: &mut [i32],
 ) -> Result<(), Refusal>
-    ensures { Finds result least.new most.new (edits_found kind n bit_depth extended_precision coeff.now target.now wanted.now least.old most.old) }
+    ensures { Finds result least.new most.new (edits_found kind n precision.bit_depth precision.extended coeff.now target.now wanted.now least.old most.old) }
 {
     refuse::edit_refusal(
         kind,
         n,
-        bit_depth,
+        precision.bit_depth,
         coeff.len(),
         target.len(),
         wanted.len(),
         least.len(),
         most.len(),
     )?;
-    let range = coefficients::transform_range(bit_depth, extended_precision);
+    let range = coefficients::transform_range(precision);
     let first = coefficients::first_outside(coeff, n, n, range);
     if first < n * n {
         return Err(coefficients::refusal_at(coeff, n, first, range));
     }
-    edit_blocks::find(
-        kind,
-        n,
-        bit_depth,
-        extended_precision,
-        coeff,
-        target,
-        wanted,
-        least,
-        most,
-    );
+    edit_blocks::find(kind, n, precision, coeff, target, wanted, least, most);
     Ok(())
 }

@@ -5,85 +5,85 @@
 #![tactic(auto)]
 
 use parameters::QpPrime;
-use refusal::Refusal;
+use refusal::{Precision, Refusal};
+use scaling_values::ScalingList;
 use std::io::Read;
 use transform_1d::Kind;
 
+// The function that a case is of, by its number.
+#[derive(Clone, Copy)]
+enum Function {
+    Coefficients,
+    Levels,
+    ListedLevels,
+}
+
+// A number that a case gives no function.
+#[derive(Clone, Copy)]
+struct UnknownFunction;
+
+impl TryFrom<u8> for Function {
+    type Error = UnknownFunction;
+
+    fn try_from(number: u8) -> Result<Function, UnknownFunction> {
+        match number {
+            0 => Ok(Function::Coefficients),
+            1 => Ok(Function::Levels),
+            2 => Ok(Function::ListedLevels),
+            _ => Err(UnknownFunction),
+        }
+    }
+}
+
 #[derive(Clone, Copy)]
 struct Case {
-    function: u8,
-    dst: bool,
+    function: Function,
+    kind: Kind,
     n: usize,
-    qp: i32,
-    bit_depth: u8,
-    extended: bool,
+    qp: QpPrime,
+    precision: Precision,
     dc: u8,
 }
 
-fn kind_of(dst: bool) -> Kind {
-    if dst { Kind::Dst } else { Kind::Dct }
-}
-
-fn next_case(stdin: &mut impl Read) -> Case {
-    let function = cases::next::<u8>(stdin);
-    let dst = cases::next::<u8>(stdin) != 0;
-    let n = cases::next::<usize>(stdin);
-    let qp = cases::next::<i32>(stdin);
-    let bit_depth = cases::next::<u8>(stdin);
-    let extended = cases::next::<u8>(stdin) != 0;
-    let dc = cases::next::<u8>(stdin);
+fn next_case(stdin: &mut impl Read, function: Function) -> Case {
     Case {
         function,
-        dst,
-        n,
-        qp,
-        bit_depth,
-        extended,
-        dc,
+        kind: cases::next_kind(stdin),
+        n: cases::next(stdin),
+        qp: QpPrime(cases::next(stdin)),
+        precision: cases::next_precision(stdin),
+        dc: cases::next(stdin),
+    }
+}
+
+// What levels are scaled by.
+fn list_of(case: Case, entries: &[u8]) -> ScalingList {
+    match case.function {
+        Function::Coefficients | Function::Levels => ScalingList::Flat,
+        Function::ListedLevels => ScalingList::Listed(entries, case.dc),
     }
 }
 
 fn call(
     case: Case,
-    list: &[u8],
+    list: ScalingList,
     given: &[i32],
     target: &[i32],
     wanted: &[u8],
     least: &mut [i32],
     most: &mut [i32],
 ) -> Result<(), Refusal> {
-    let kind = kind_of(case.dst);
+    let kind = case.kind;
     let n = case.n;
-    let qp = QpPrime(case.qp);
-    let depth = case.bit_depth;
-    let flag = case.extended;
-    let dc = case.dc;
-    if case.function == 0 {
-        return edit_search::find_edits(kind, n, depth, flag, given, target, wanted, least, most);
+    let precision = case.precision;
+    match case.function {
+        Function::Coefficients => edit_search::find_edits(
+            kind, n, precision, given, target, wanted, least, most,
+        ),
+        Function::Levels | Function::ListedLevels => level_edits::find_level_edits(
+            kind, n, case.qp, precision, list, given, target, wanted, least, most,
+        ),
     }
-    if case.function == 1 {
-        return level_edits::find_level_edits(
-            kind, n, qp, depth, flag, given, target, wanted, least, most,
-        );
-    }
-    level_edits::find_level_edits_scaled(
-        kind, n, qp, depth, flag, list, dc, given, target, wanted, least, most,
-    )
-}
-
-fn show(
-    rt: &impl Print,
-    case: Case,
-    list: &[u8],
-    given: &[i32],
-    target: &[i32],
-    wanted: &[u8],
-    least: &mut [i32],
-    most: &mut [i32],
-) {
-    cases::put_answer(rt, call(case, list, given, target, wanted, least, most));
-    cases::put_all(rt, least);
-    cases::put_all(rt, most);
 }
 
 // The buffers of a case, and its answer.
@@ -104,16 +104,20 @@ fn replay_case(rt: &impl Print, stdin: &mut impl Read, case: Case) {
     cases::read_first(stdin, flags, &mut wanted);
     let low = cases::next_length(stdin, 1040);
     let high = cases::next_length(stdin, 1040);
-    show(
-        rt,
+    let least = &mut least[0..low];
+    let most = &mut most[0..high];
+    let answer = call(
         case,
-        &list[0..entries],
+        list_of(case, &list[0..entries]),
         &given[0..count],
         &target[0..targets],
         &wanted[0..flags],
-        &mut least[0..low],
-        &mut most[0..high],
+        least,
+        most,
     );
+    cases::put_answer(rt, answer);
+    cases::put_all(rt, least);
+    cases::put_all(rt, most);
 }
 
 // One case; answers whether there was one.
@@ -121,7 +125,10 @@ fn replay(rt: &impl Print, stdin: &mut impl Read) -> bool {
     if !cases::copy_text(rt, stdin) {
         return false;
     }
-    let case = next_case(stdin);
+    let Ok(function) = Function::try_from(cases::next::<u8>(stdin)) else {
+        return false;
+    };
+    let case = next_case(stdin, function);
     replay_case(rt, stdin, case);
     cases::put_end(rt);
     true
@@ -129,8 +136,5 @@ fn replay(rt: &impl Print, stdin: &mut impl Read) -> bool {
 
 fn main(rt: HostRuntime) {
     let mut stdin = rt.stdin();
-    let mut turns = u64::MAX;
-    while turns > 0 && replay(&rt, &mut stdin) {
-        turns -= 1;
-    }
+    cases::replay_all(|| replay(&rt, &mut stdin));
 }

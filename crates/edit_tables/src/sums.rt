@@ -65,6 +65,7 @@ pub fn along_rows(t: &[i64; 1024], g: &[i64; 1024], n: usize) -> [i64; 1024]
 }
 
 // The values of stage one, limited.
+// Kept: the limit of one value is `edit_values::stage_one`; what is here is the loop over the table.
 pub fn limited(ones: &[i64; 1024], n: usize, range: u32) -> [i64; 1024]
     requires { T (is_size n) × (range ≤ 22) × ((m c : ℕ) → m < n → c < n → Within 12079595520 (block_at n ones.now m c)) }
     ensures { Holds n (λ m c. clip_coeff range (round_shift (block_at n ones.now m c) 7)) result }

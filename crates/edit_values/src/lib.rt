@@ -111,6 +111,7 @@ fn halve(p: Probe, strict: bool, from: u32, to: u32) -> u32
 {
     let mut low = from;
     let mut high = to;
+    // Kept: a search by halves, whose step is no index; `partition_point` asks for a slice, and the places of the range are in none.
     while low < high {
         let middle = (low + high) / 2;
         if past(p, strict, middle) {

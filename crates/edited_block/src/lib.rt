@@ -8,26 +8,26 @@ ghost use Rattle.block_rules.specs.Edit.{edited, refreshed, buffers, Opens, Edit
 pub use block_rules::{EditedBlock, Source, zero_block, zero_source};
 use block_work::columns::column_count;
 use block_work::refuse::block_refusal;
-use refusal::Refusal;
+use refusal::{Precision, Refusal};
 use transform_1d::Kind;
 
 // Opens a block on the caller's own coefficients, which it leaves, and writes its intermediate and its residual.
+// Kept: the buffers apart, here and below: a struct of lent slices would have to promise for each slice that it stays the same one (its ghost_name),
+// a clause more for each.
 pub fn open_block(
     kind: Kind,
     n: usize,
-    bit_depth: u8,
-    extended_precision: bool,
+    precision: Precision,
     coeff: &[i32],
     inter: &mut [i32],
     residual: &mut [i32],
 ) -> Result<EditedBlock, Refusal>
-    ensures { Opens (opened_as (on_coefficients kind n bit_depth extended_precision) (buffers coeff.now inter.old residual.old)) result inter.new residual.new }
+    ensures { Opens (opened_as (on_coefficients kind n precision.bit_depth precision.extended) (buffers coeff.now inter.old residual.old)) result inter.new residual.new }
 {
     block_work::open_from(
         kind,
         n,
-        bit_depth,
-        extended_precision,
+        precision,
         block_rules::zero_source(),
         coeff,
         inter,
@@ -36,7 +36,7 @@ pub fn open_block(
 }
 
 // One edit of an open block: sets the value, and writes the column count, the intermediate and the residual. A refused edit changes nothing.
-// A function and no method: an `impl` of the record stands in the record's own crate, which lies below the stages that an edit runs.
+// Kept: a function and no method: an `impl` of the record stands in the record's own crate, which lies below the stages that an edit runs.
 pub fn edit(
     block: &mut EditedBlock,
     coeff: &mut [i32],
@@ -63,7 +63,10 @@ pub fn edit(
     if n <= row || n <= column {
         return Err(Refusal::PlaceOutside);
     }
-    let range = coefficients::transform_range(depth, extended);
+    let range = coefficients::transform_range(Precision {
+        bit_depth: depth,
+        extended,
+    });
     if coefficients::is_outside(value, range) {
         return Err(coefficients::outside_refusal(value, range, row, column));
     }
@@ -78,15 +81,15 @@ pub fn edit(
 pub fn refresh_residual(
     kind: Kind,
     n: usize,
-    bit_depth: u8,
-    extended_precision: bool,
+    precision: Precision,
     inter: &[i32],
     residual: &mut [i32],
 ) -> Result<(), Refusal>
-    ensures { Writes result residual.new (refreshed kind n bit_depth extended_precision inter.now residual.old) }
+    ensures { Writes result residual.new (refreshed kind n precision.bit_depth precision.extended inter.now residual.old) }
 {
-    block_refusal(kind, n, bit_depth, 1024, inter.len(), residual.len())?;
-    let range = coefficients::transform_range(bit_depth, extended_precision);
-    stages_wide::residual_of(kind, n, bit_depth, range, inter, residual);
+    let depth = precision.bit_depth;
+    block_refusal(kind, n, depth, 1024, inter.len(), residual.len())?;
+    let range = coefficients::transform_range(precision);
+    stages_wide::residual_of(kind, n, depth, range, inter, residual);
     Ok(())
 }

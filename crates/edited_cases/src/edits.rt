@@ -1,24 +1,41 @@
 // One edit of either kind.
+use crate::buffers::Buffers;
 use edited_block::EditedBlock;
 use level_block::Limits;
 use refusal::Refusal;
 use std::io::Read;
 
-pub fn edit(
-    block: &mut EditedBlock,
-    level: bool,
-    row: usize,
-    column: usize,
-    value: i32,
-    levels: &mut [i32],
-    coeff: &mut [i32],
-    inter: &mut [i32],
-    residual: &mut [i32],
-) -> Result<Limits, Refusal> {
-    if level {
-        return level_block::edit_level(block, levels, coeff, inter, residual, row, column, value);
+// Kept: a flag, as the list of edits has it for C (ways).
+#[derive(Clone, Copy)]
+pub struct Edit {
+    pub row: usize,
+    pub column: usize,
+    pub value: i32,
+    pub level: bool,
+}
+
+pub fn make(block: &mut EditedBlock, edit: Edit, buffers: &mut Buffers) -> Result<Limits, Refusal> {
+    if edit.level {
+        return level_block::edit_level(
+            block,
+            buffers.levels,
+            buffers.coeff,
+            buffers.inter,
+            buffers.residual,
+            edit.row,
+            edit.column,
+            edit.value,
+        );
     }
-    edited_block::edit(block, coeff, inter, residual, row, column, value)?;
+    edited_block::edit(
+        block,
+        buffers.coeff,
+        buffers.inter,
+        buffers.residual,
+        edit.row,
+        edit.column,
+        edit.value,
+    )?;
     Ok(Limits {
         level: false,
         result: false,

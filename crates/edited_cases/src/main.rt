@@ -6,22 +6,52 @@
 use std::io::Read;
 
 mod borders;
+mod buffers;
 mod compare;
 mod edits;
 mod lists;
 mod random;
 mod settings;
 
+// What is replayed: a call on buffers of any length, or random edits.
+#[derive(Clone, Copy)]
+enum Case {
+    Borders(borders::Call),
+    Random,
+}
+
+// A number that a case gives no meaning.
+#[derive(Clone, Copy)]
+pub struct UnknownNumber;
+
+impl TryFrom<u8> for Case {
+    type Error = UnknownNumber;
+
+    fn try_from(number: u8) -> Result<Case, UnknownNumber> {
+        match number {
+            0 => Ok(Case::Borders(borders::Call::Opening)),
+            1 => Ok(Case::Borders(borders::Call::Edit)),
+            2 => Ok(Case::Borders(borders::Call::List)),
+            3 => Ok(Case::Random),
+            _ => Err(UnknownNumber),
+        }
+    }
+}
+
 // One case; answers whether there was one.
 fn replay(rt: &impl Print, stdin: &mut impl Read) -> bool {
     if !cases::copy_text(rt, stdin) {
         return false;
     }
-    let which = cases::next::<u8>(stdin);
-    let setting = settings::next(stdin);
-    match which {
-        0..=2 => borders::replay(rt, stdin, which, setting),
-        _ => random::replay(rt, stdin, setting),
+    let Ok(what) = Case::try_from(cases::next::<u8>(stdin)) else {
+        return false;
+    };
+    let Ok(setting) = settings::next(stdin) else {
+        return false;
+    };
+    match what {
+        Case::Borders(call) => borders::replay(rt, stdin, call, &setting),
+        Case::Random => random::replay(rt, stdin, &setting),
     }
     cases::put_end(rt);
     true
@@ -29,9 +59,5 @@ fn replay(rt: &impl Print, stdin: &mut impl Read) -> bool {
 
 fn main(rt: HostRuntime) {
     let mut stdin = rt.stdin();
-    for _ in 0..u64::MAX {
-        if !replay(&rt, &mut stdin) {
-            break;
-        }
-    }
+    cases::replay_all(|| replay(&rt, &mut stdin));
 }

@@ -24,7 +24,7 @@ use Rattle.refusal.specs.declared.Refusal.{Refusal}
 use Rattle.refusal.specs.declared.Refusal.TheVariants.{PlaceOutside, WayMismatched}
 use Rattle.refusal.specs.Condition.{size_refused, depth_refused, list_refused, block_refused}
 use Rattle.refusal.specs.Outcome.{accepted, refused}
-use Rattle.scaling_blocks.specs.Blocks.{entries_of}
+use Rattle.scaling_values.specs.Given.{entries_of}
 use Rattle.transform_1d.specs.Kinds.{dst_refused}
 use Rattle.coefficients.specs.Outside.{outside_refusal}
 use Rattle.block_rules.specs.declared.EditedBlock.{EditedBlock}

@@ -25,7 +25,7 @@ use Rattle.block_rules.specs.declared.EditedBlock.{EditedBlock}
 use Rattle.transform_1d.specs.Kinds.{dst_refused}
 use Rattle.block_rules.specs.Edit.{Buffers, Left, buffers, zero_block, block_ladder, stopped, opened_buffers, opened, valued, Opens}
 use Rattle.block_rules.specs.Opening.{Opening, range_of, opened_as}
-use Rattle.scaling_blocks.specs.Blocks.{entries_of}
+use Rattle.scaling_values.specs.Given.{entries_of}
 use Rattle.block_rules.specs.declared.LevelsOpened.{LevelsOpened}
 use Rattle.block_rules.specs.Level.{list_of, OpenLeft, open_stopped, level_ladder, levels_opened, level_opened, LevelOpens}
 use Rattle.edited_history.specs.History.{Edit}

@@ -67,6 +67,7 @@ fn answer_limits(given: Result<Limits, Refusal>) -> u8
 }
 
 // One answer into the four slices.
+// Kept, here and below: the slices of a list of edits and of its answers apart: C lends each, and there is no heap to pair them in.
 fn put_answer(
     given: Result<Limits, Refusal>,
     i: usize,
@@ -106,6 +107,8 @@ fn edit_count(
 }
 
 // One edit, of a level or of a coefficient.
+// Kept: the buffers apart, here and below: a struct of lent slices would have to promise for each slice that it stays the same one (its ghost_name),
+// a clause more for each.
 fn edit_one(
     block: &mut EditedBlock,
     levels: &mut [i32],

@@ -1,8 +1,9 @@
 -- What the entry points of the feed hand back.
---   step_answer a               what an answer of `step` stands for
+--   step_answer r               what an answer of `step` stands for
+--   state_after s r, end_after at r   the state after it, and where its text ends; a refused one leaves both
 --   Steps s r w l m t           a call of `step` on the state s handed back t: w are the four buffers after it, l is its text's buffer before, m after
 --   Runs r l m bytes            a call of `run` on a feed, likewise
-use Rattle.std.specs.Prelude.{◌≡◌, false, is_ok, List, ℕ, ◌≤◌, ◌<◌, length, Option, Some, None, Result, Ok, Err}
+use Rattle.std.specs.Prelude.{◌≡◌, List, ℕ, ◌≤◌, ◌<◌, length, Option, Some, None, Result, Ok, Err}
 use Rattle.refusal.specs.Outcome.{Outcome, accepted, refused}
 use Rattle.text.specs.Text.{Wrote, Counts}
 use Rattle.feed_format.specs.Room.{feed_room}
@@ -14,19 +15,26 @@ use Rattle.feed_history.specs.Stepping.{Room, Stepping}
 use Rattle.feed_history.specs.Stepping.Room.{too_little, enough}
 use Rattle.feed.specs.declared.StepError.{StepError}
 use Rattle.feed.specs.declared.StepError.TheVariants.{Refused, NoRoom}
-use Rattle.feed.specs.declared.Stepped.{Stepped}
+use Rattle.feed_state.specs.declared.Taken.{Taken}
 
-abbrev pub step_answer : Result (Unit {0}) StepError → Room (Outcome (Unit {0}))
-step_answer (Ok tt) = enough (accepted tt)
+abbrev pub step_answer : Result Taken StepError → Room (Outcome (Unit {0}))
+step_answer (Ok t) = enough (accepted tt)
 step_answer (Err (Refused e)) = enough (refused tt e)
 step_answer (Err NoRoom) = too_little
 
-pub record Steps (s : State) (r : Stepped) (w : Lent) (l m : List ℕ) (t : Stepping) : Type 0 where
-  pub answered : step_answer r.answer ≡ t.answer
-  pub state : state_of r.state w ≡ capped t.state
-  pub wrote : Wrote l 0 t.text m r.end
-  pub counts : Counts r.end m
-  pub kept : is_ok r.answer ≡ false → r.state ≡ s
+abbrev pub state_after : State → Result Taken StepError → State
+state_after s (Ok t) = t.state
+state_after s (Err error) = s
+
+abbrev pub end_after : ℕ → Result Taken StepError → ℕ
+end_after at (Ok t) = t.end
+end_after at (Err error) = at
+
+pub record Steps (s : State) (r : Result Taken StepError) (w : Lent) (l m : List ℕ) (t : Stepping) : Type 0 where
+  pub answered : step_answer r ≡ t.answer
+  pub state : state_of (state_after s r) w ≡ capped t.state
+  pub wrote : Wrote l 0 t.text m (end_after 0 r)
+  pub counts : Counts (end_after 0 r) m
 
 -- the text of the feed, where there is room for it; else the buffer is as lent
 abbrev pub Runs : Option ℕ → List ℕ → List ℕ → List ℕ → Type 0

@@ -12,10 +12,11 @@ pub use feed_format::{
     List, Mode, Parameters, feed_room, list_ignored, record_length, record_room,
 };
 pub use feed_lines::{Line, blocks_line, refusal_line};
-pub use feed_state::{State, start};
+pub use feed_state::{State, Taken, start};
 pub use stream::{run, step};
 
 // Why a record was not taken: it was refused, or a buffer was too short for it.
+// Kept: the error of a `Result`; its two kinds are no value or none.
 #[derive(Clone, Copy, Debug, PartialEq, Eq)]
 pub enum StepError {
     Refused(Refusal),
@@ -28,12 +29,4 @@ impl From<Refusal> for StepError {
     fn from(why: Refusal) -> StepError {
         StepError::Refused(why)
     }
-}
-
-// The answer to one record, the state after it, and how many bytes its text took.
-#[derive(Clone, Copy)]
-pub struct Stepped {
-    pub answer: Result<(), StepError>,
-    pub state: State,
-    pub end: usize,
 }

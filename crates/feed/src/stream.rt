@@ -8,8 +8,8 @@ ghost use Rattle.feed_state.specs.Taken.{state_of};
 ghost use Rattle.feed_history.specs.Stepping.{stepping};
 ghost use Rattle.feed.specs.Answers.{Steps, Runs};
 
-use crate::{StepError, Stepped};
-use feed_state::State;
+use crate::StepError;
+use feed_state::{State, Taken};
 
 // Whether a buffer of the open block has no room for the largest block.
 fn too_short(levels: usize, coeff: usize, inter: usize, residual: usize) -> bool
@@ -29,8 +29,9 @@ fn too_short(levels: usize, coeff: usize, inter: usize, residual: usize) -> bool
 
 // One record: its kind, and as much of its body as there is. Its text goes to the start of `out`, which must have the bytes that
 // `record_room` says; the buffers of the open block have 1,024 elements or more, and are those that the call before left. Else
-// `NoRoom` is answered before anything else, and state and buffers are as given. A refused record too leaves all as given, so the
-// state's offset is then that of its kind.
+// `NoRoom` is answered before anything else, and the buffers are as given. A refused record too leaves all as given, so the offset of
+// the state that was given is that of its kind.
+// Kept: a struct of lent slices would have to promise for each slice that it stays the same one (its ghost_name), a clause more for each.
 pub fn step(
     state: State,
     kind: u8,
@@ -40,35 +41,21 @@ pub fn step(
     inter: &mut [i32],
     residual: &mut [i32],
     out: &mut [u8],
-) -> Stepped
+) -> Result<Taken, StepError>
     ensures { Steps state result (lent levels.new coeff.new inter.new residual.new) out.old out.new (stepping (state_of state (lent levels.old coeff.old inter.old residual.old)) kind body.now (length out.old)) }
 {
     if out.len() < feed_format::record_room(kind) {
-        return Stepped {
-            answer: Err(StepError::NoRoom),
-            state,
-            end: 0,
-        };
+        return Err(StepError::NoRoom);
     }
     if too_short(levels.len(), coeff.len(), inter.len(), residual.len()) {
-        return Stepped {
-            answer: Err(StepError::NoRoom),
-            state,
-            end: 0,
-        };
+        return Err(StepError::NoRoom);
     }
-    let taken = feed_records::take_record(
-        state, kind, body, levels, coeff, inter, residual, out, 0,
-    );
-    let answer = taken.answer.map_err(StepError::Refused);
-    Stepped {
-        answer,
-        state: taken.state,
-        end: taken.end,
-    }
+    Ok(feed_records::take_record(state, kind, body, levels, coeff, inter, residual, out, 0)?)
 }
 
 // The text of a whole feed, where there is room for it.
+// Kept: one walk for this and the listing would be generic over what a record does, its line of refusal, the last line and the room, with their laws as
+// members of a trait: more to read than the loop, which stands twice.
 fn run_within(input: &[u8], out: &mut [u8]) -> usize
     requires { feed_room input.now ≤ length out.old }
     ensures { Wrote out.old 0 (feed_text input.now) out.new result × Counts result out.new }
@@ -84,7 +71,7 @@ fn run_within(input: &[u8], out: &mut [u8]) -> usize
         let kind = input[at];
         let from = at + 1;
         let stop = (from + feed_format::record_length(kind)).min(input.len());
-        let taken = feed_records::take_record(
+        match feed_records::take_record(
             state,
             kind,
             &input[from..stop],
@@ -94,12 +81,13 @@ fn run_within(input: &[u8], out: &mut [u8]) -> usize
             &mut residual,
             out,
             end,
-        );
-        if let Err(why) = taken.answer {
-            return feed_lines::put_refused(why.number(), state.offset, out, taken.end);
+        ) {
+            Ok(taken) => {
+                state = taken.state;
+                end = taken.end;
+            }
+            Err(why) => return feed_lines::put_refused(why.number(), state.offset, out, end),
         }
-        state = taken.state;
-        end = taken.end;
     }
     let blocks = state.blocks;
     feed_lines::put_blocks(blocks, out, end)

@@ -1,5 +1,6 @@
 -- The block of a levels record, opened: nothing of the opening's table applies, and its rows and its count are the block's by clause 8.6.
 --   list_is                        the list that the opening keeps is the one in force
+--   opening_is                     the opening by that list
 --   opening_fits                   no condition of the opening holds
 --   opened-limited, opened_rows    how many coefficients were limited, and the residual
 --   opens_block                    both, of what a call hands back
@@ -20,7 +21,7 @@ use Rattle.refusal.specs.Condition.{list_refused, block_refused}
 use Rattle.refusal.specs.Outcome.{Outcome, outcome}
 use Rattle.refusal.specs.declared.Refusal.{Refusal}
 use Rattle.scaling_values.proofs.CountLaws.{count_cong}
-use Rattle.scaling_blocks.specs.Blocks.{entries_of}
+use Rattle.scaling_values.specs.Given.{entries_of}
 use Rattle.transform_1d.specs.declared.Kind.{Kind}
 use Rattle.transform_1d.specs.declared.Kind.TheVariants.{Dct as DctKind, Dst as DstKind}
 use Rattle.transform_1d.specs.Kinds as kinds
@@ -28,7 +29,7 @@ use Rattle.transform_1d.specs.MatrixOf.{matrix_of}
 use Rattle.block_rules.specs.Edit.{zero_block, Buffers}
 use Rattle.block_rules.specs.Opening.{Opening}
 use Rattle.block_rules.specs.declared.LevelsOpened.{LevelsOpened}
-use Rattle.block_rules.specs.Level.{levels_opened, list_of, OpenLeft, level_opened, LevelOpens}
+use Rattle.block_rules.specs.Level.{levels_opened, list_of, on_levels_by, OpenLeft, level_opened, LevelOpens}
 use Rattle.block_laws.proofs.LevelOpeningLaws.{OpenFits, level_open_is}
 use Rattle.edited_history.specs.History.{history_of, coefficients_of, history_residual}
 use Rattle.edited_history.specs.Run.{held_opened, ran, ran_from, opened_on, history_after}
@@ -43,6 +44,10 @@ use Rattle.feed_block.proofs.ScaleLaws.{size_ok, block_ok}
 pub list_is : (kind : Kind) (list : ScalingList) (p : Parameters) (n : ℕ) → list_of (opening_of kind list p n).source ≡ list
 list_is kind flat p n = refl
 list_is kind (listed entries d) p n = refl
+
+pub opening_is : (kind : Kind) (list : ScalingList) (p : Parameters) (n : ℕ) → on_levels_by kind n p.precision.bit_depth p.precision.extended (pos p.qp_prime) list ≡ opening_of kind list p n
+opening_is kind flat p n = refl
+opening_is kind (listed entries d) p n = refl
 
 pub dst_of : (kind : Kind) (n : ℕ) → kinds.dst_refused kind n ≡ dst_refused (mode_of_kind kind) n
 unfolding kinds.dst_refused dst_refused
@@ -60,7 +65,7 @@ same_residual DctKind list p n vs e = rw e refl
 same_residual DstKind list p n vs e = rw e refl
 
 same_limited : (kind : Kind) (list : ScalingList) (p : Parameters) (n : ℕ) (vs : List ℤ) → p.mode ≡ mode_of_kind kind
-    → block_limited list p n vs ≡ limited_count list n p.bit_depth p.extended_precision (pos p.qp_prime) vs
+    → block_limited list p n vs ≡ limited_count list n p.precision.bit_depth p.precision.extended (pos p.qp_prime) vs
 unfolding block_limited list_for list_ignored
 same_limited DctKind list p n vs e = rw e refl
 same_limited DstKind list p n vs e = rw e refl
@@ -97,9 +102,9 @@ module _ (kind : Kind) (list : ScalingList) (p : Parameters) (n : ℕ) (body : L
   level_same i h = sym (get_or-take (n * n) levels i (pos 0) h) ∙ ap (λ (xs : List ℤ). get_or xs i (pos 0)) levels_are
 
   pub opened-limited : (level_opened o levels lent).answer.value ≡ block_limited list p n (levels_of n body)
-  opened-limited = ap (λ (h : OpenLeft). h.answer.value) (level_open_is o levels lent opening_fits) ∙ counted ∙ ap (λ (l : ScalingList). limited_count l n p.bit_depth p.extended_precision (pos p.qp_prime) (levels_of n body)) (list_is kind list p n) ∙ sym (same_limited kind list p n (levels_of n body) m)
+  opened-limited = ap (λ (h : OpenLeft). h.answer.value) (level_open_is o levels lent opening_fits) ∙ counted ∙ ap (λ (l : ScalingList). limited_count l n p.precision.bit_depth p.precision.extended (pos p.qp_prime) (levels_of n body)) (list_is kind list p n) ∙ sym (same_limited kind list p n (levels_of n body) m)
     where
-      counted : limited_count (list_of o.source) n p.bit_depth p.extended_precision (pos p.qp_prime) levels ≡ limited_count (list_of o.source) n p.bit_depth p.extended_precision (pos p.qp_prime) (levels_of n body)
+      counted : limited_count (list_of o.source) n p.precision.bit_depth p.precision.extended (pos p.qp_prime) levels ≡ limited_count (list_of o.source) n p.precision.bit_depth p.precision.extended (pos p.qp_prime) (levels_of n body)
       counted = unfold limited_count in count_cong _ _ (n * n) (λ i h. unfold limited_at in rw (level_same i h) refl)
 
   opened_on_lem : history_after o levels lent [] ≡ levels_of n body

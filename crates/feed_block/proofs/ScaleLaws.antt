@@ -3,7 +3,7 @@
 --   size_ok, block_ok              a size and a buffer that no row refuses
 --   coefficients_in_range          every coefficient lies in its range
 use Rattle.std.specs.Prelude.{Result}
-use mathlib.Core.Path.{◌≡◌, refl, sym, ap, ◌∙◌}
+use mathlib.Core.Path.{◌≡◌, refl, ap, ◌∙◌}
 use mathlib.Core.Bool.{Bool, true, false, not}
 use mathlib.Core.List.{List}
 use Prim.Native.Nat.{ℕ, ◌*◌, ◌≤◌, ◌<◌}
@@ -23,7 +23,8 @@ use Rattle.h265.proofs.RangeLaws.{clip_coeff_between}
 use Rattle.refusal.specs.Outcome.{Outcome, outcome}
 use Rattle.refusal.specs.Condition.{size_refused, depth_refused, list_refused, block_refused}
 use Rattle.refusal.specs.declared.Refusal.{Refusal}
-use Rattle.scaling_blocks.specs.Blocks.{bits32, entries_of, scaling_ladder, block_written, dequantized, transform_skipped, CountWritten, CountWrites, counted}
+use Rattle.scaling_blocks.specs.Blocks.{bits32, scaling_ladder, block_written, dequantized, transform_skipped, CountWritten, CountWrites, counted}
+use Rattle.scaling_values.specs.Given.{entries_of}
 use Rattle.feed_format.specs.declared.Parameters.{Parameters}
 use Rattle.feed_rules.specs.Block.{coefficients}
 use Rattle.feed_block.specs.Work.{Leaves}
@@ -77,8 +78,8 @@ unfolding outside_range
 clipped_in_range r z = let h = clip_coeff_between r z in simp (lt_z_of_le h.0, lt_z_of_le h.1)
 
 pub coefficients_in_range : (list : ScalingList) (p : Parameters) (n : ℕ) (levels : List ℤ) (i : ℕ) → i < n * n
-    → outside_range (transform_range p.bit_depth p.extended_precision) (get_or (coefficients list p n levels) i (pos 0)) ≡ false
+    → outside_range (transform_range p.precision.bit_depth p.precision.extended) (get_or (coefficients list p n levels) i (pos 0)) ≡ false
 unfolding coefficients scaled_at scale_level
 coefficients_in_range list p n levels i h =
-    rw (tabulate-get_or (n * n) (scaled_at list n p.bit_depth p.extended_precision (pos p.qp_prime) levels) i (pos 0) h)
-    (clipped_in_range (transform_range p.bit_depth p.extended_precision) _)
+    rw (tabulate-get_or (n * n) (scaled_at list n p.precision.bit_depth p.precision.extended (pos p.qp_prime) levels) i (pos 0) h)
+    (clipped_in_range (transform_range p.precision.bit_depth p.precision.extended) _)

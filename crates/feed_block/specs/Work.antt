@@ -18,7 +18,7 @@ use Rattle.feed_rules.specs.Block.{opening_of, block_residual, block_limited}
 
 pub record Accepted (p : Parameters) (n : ℕ) : Type 0 where
   pub size : T (is_size n)
-  pub depth : depth_refused p.bit_depth ≡ false
+  pub depth : depth_refused p.precision.bit_depth ≡ false
   pub dst : dst_refused p.mode n ≡ false
 
 pub record Leaves (m : ℕ) (f : ℕ → ℤ) (k : ℕ) (xs ys : List ℤ) (r : ℕ) : Type 0 where

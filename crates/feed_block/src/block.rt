@@ -3,33 +3,24 @@ ghost use Rattle.std.specs.Prelude.{◌≡◌, ◌*◌, ◌≤◌, pos, length};
 ghost use Rattle.h265.specs.TransformSkip.{skipped_at};
 ghost use Rattle.h265.specs.Limited.{limited_count};
 ghost use Rattle.refusal.specs.Outcome.{outcome};
-ghost use Rattle.scaling_blocks.specs.Blocks.{entries_of};
+ghost use Rattle.scaling_values.specs.Given.{entries_of};
 ghost use Rattle.block_rules.specs.Edit.{zero_block, buffers};
 ghost use Rattle.block_rules.specs.Level.{levels_opened, level_opened, LevelOpens};
 ghost use Rattle.feed_format.specs.Format.{levels_of};
 ghost use Rattle.feed_rules.specs.Block.{list_for, residual_at, block_limited, list_in, mode_of_kind, opening_of};
 ghost use Rattle.feed_block.specs.Work.{Accepted, Leaves, OpensBlock};
 
-use feed_format::{List, Mode, Parameters};
-use feed_state::State;
+use feed_format::{Mode, Parameters};
+use feed_state::{State, list_for, scaling_list};
 use level_block::LevelsOpened;
 use parameters::QpPrime;
 use refusal::Refusal;
+use scaling_blocks::blocks;
 
 fn signed(byte: u8) -> i32
     ensures { result ≡ pos byte }
 {
     byte as i32
-}
-
-// The list by which a block is scaled, by the one in force.
-fn list_for(list: Option<List>, mode: Mode, n: usize) -> Option<List>
-    ensures { list_in result ≡ list_for mode n (list_in list) }
-{
-    if feed_format::list_ignored(mode, n) {
-        return None;
-    }
-    list
 }
 
 // How many coefficients an answer says were limited; a refusal, which no block of a feed meets, says none.
@@ -47,31 +38,11 @@ fn skip(s: State, p: Parameters, n: usize, levels: &[i32], out: &mut [i32]) -> u
     requires accepted { Accepted p n }
     requires n_in_bounds { n * n ≤ length levels.now }
     requires n_in_bounds_2 { n * n ≤ length out.old }
-    ensures { Leaves (limited_count (list_for Mode.Skip n (list_in s.list)) n p.bit_depth p.extended_precision (pos p.qp_prime) levels.now) (skipped_at (list_for Mode.Skip n (list_in s.list)) n p.bit_depth p.extended_precision (pos p.qp_prime) levels.now) (n * n) out.old out.new result }
+    ensures { Leaves (limited_count (list_for Mode.Skip n (list_in s.list)) n p.precision.bit_depth p.precision.extended (pos p.qp_prime) levels.now) (skipped_at (list_for Mode.Skip n (list_in s.list)) n p.precision.bit_depth p.precision.extended (pos p.qp_prime) levels.now) (n * n) out.old out.new result }
 {
     let qp_prime = QpPrime(signed(p.qp_prime));
-    if let Some(list) = list_for(s.list, Mode::Skip, n) {
-        let answer = scaling_wide::dequantize_transform_skip_scaled_into_scalar_i32(
-            levels,
-            n,
-            qp_prime,
-            p.bit_depth,
-            p.extended_precision,
-            &list.entries,
-            list.dc,
-            out,
-        );
-        return limited_of(answer);
-    }
-    let answer = scaling_wide::dequantize_transform_skip_into_scalar_i32(
-        levels,
-        n,
-        qp_prime,
-        p.bit_depth,
-        p.extended_precision,
-        out,
-    );
-    limited_of(answer)
+    let list = list_for(&s.list, Mode::Skip, n);
+    limited_of(blocks::transform_skip(levels, n, qp_prime, p.precision, list, out))
 }
 
 // The residual of a body's levels by transform skip, and how many coefficients were limited.
@@ -88,6 +59,7 @@ pub fn skip_body(s: State, p: Parameters, n: usize, body: &[u8], out: &mut [i32]
 }
 
 // Opens a block on levels, with the list in force.
+// Kept: a struct of lent slices would have to promise for each slice that it stays the same one (its ghost_name), a clause more for each.
 fn open_by(
     s: State,
     p: Parameters,
@@ -102,27 +74,13 @@ fn open_by(
     ensures level_opens { LevelOpens (level_opened (opening_of kind (list_in s.list) p n) levels.now (buffers coeff.old inter.old residual.old)) result coeff.new inter.new residual.new }
 {
     let qp_prime = QpPrime(signed(p.qp_prime));
-    if let Some(list) = s.list {
-        return level_block::open_levels_scaled(
-            kind,
-            n,
-            p.bit_depth,
-            p.extended_precision,
-            qp_prime,
-            &list.entries,
-            list.dc,
-            levels,
-            coeff,
-            inter,
-            residual,
-        );
-    }
+    let list = scaling_list(&s.list);
     level_block::open_levels(
         kind,
         n,
-        p.bit_depth,
-        p.extended_precision,
+        p.precision,
         qp_prime,
+        list,
         levels,
         coeff,
         inter,

@@ -12,17 +12,6 @@ use std::{env, fs, io};
 // The longest feed that is replayed.
 const LONGEST: usize = 8192;
 
-fn wide(byte: u8) -> usize
-    ensures { result ≤ 255 }
-{
-    byte as usize
-}
-
-// Of four bytes the upper two are zero: no case is longer than 64 KiB.
-fn length_of(bytes: [u8; 4]) -> usize {
-    wide(bytes[0]) + 256 * wide(bytes[1])
-}
-
 // Reads n bytes to the start of the buffer, or fewer where the file ends or a read fails.
 fn read_feed(file: &mut impl Read, n: usize, feed: &mut [u8]) -> usize
     requires { n ≤ length feed.old }
@@ -40,12 +29,13 @@ fn title(rt: &impl Print, number: u64) {
 // One case; answers whether the file had one.
 fn replay(rt: &impl Print, file: &mut impl Read, number: u64) -> bool {
     let mut head = [0u8; 4];
-    let mut feed = [0u8; 8192];
+    let mut feed = [0u8; LONGEST];
     let mut out = [0u8; 32808];
     if streams::read_full(file, &mut head) < 4 {
         return false;
     }
-    let n = length_of(head);
+    // the upper two of four bytes are zero
+    let n = u16::from_le_bytes([head[0], head[1]]) as usize;
     if LONGEST < n {
         return false;
     }
@@ -67,6 +57,7 @@ fn replay_all(rt: &impl Print, file: &mut impl Read) {
 }
 
 // The file that an argument names.
+// Kept: as in the other program on files; a shared one would need a closure with Files, Print and Eprint.
 fn replay_file<R: Files + Print + Eprint>(rt: &R, path: &str) {
     match fs::open(rt, path) {
         Ok(mut file) => {

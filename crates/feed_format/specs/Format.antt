@@ -1,46 +1,49 @@
 -- The format of a feed's records: one byte of kind, then a body whose length the kind fixes. docs/RULES.md, "The feed".
---   kind_of k          what a byte of kind stands for
+--   kind_of k          what a byte of kind stands for, if it stands for one
 --   body_length kind   how many bytes of body follow it
+--   by_kind f k        f of a kind, 0 of none
 --   record_length k    the same by the byte: 4, 65, 0 for 1, 2, 3, 4 n² for 4 .. 7, and 6, 0 for 8, 9; a kind that is not known has none
 --   text_room kind     the bytes that the text of a record may take: 12 for each number of its rows, and 29 for the line behind them
 --   record_room k      the same by the byte
 --   is_unknown kind    a byte that is no kind
 --   size_known kind    levels of one of the four sizes, or none
+--   flag_of f          a flag of 0 or 1
 --   mode_of m          DCT, DST, transform skip for 0, 1, 2
 --   dst_refused mode n    row 4: the DST has size 4 only
 --   list_ignored mode n   a block that is scaled without a list, though one may be in force
 --   signed32 u        the signed number that 32 bits stand for
 --   level_at body i    level i of a body: four bytes, low byte first, signed
 --   levels_of n body   the n² levels of a body
+--   list_of body      64 entries, then DC
 --   edit_row, edit_column, edit_level   what the body of an edit holds: one byte, one byte, and a level
-use Rattle.std.specs.Prelude.{Bool, true, false, not, cond, List, ℕ, ◌+◌, ◌*◌, eqb, ltb, ℤ, pos, ◌-ℤ◌, get_or, drop}
+use Rattle.std.specs.Prelude.{Bool, true, false, not, cond, List, ℕ, ◌+◌, ◌*◌, eqb, ltb, ℤ, pos, ◌-ℤ◌, get_or, take, drop, Option, Some, None}
 use Rattle.integers.specs.Lists.{tabulate}
 use Rattle.h265.specs.Range.{is_size}
 use Rattle.feed_format.specs.declared.Kind.{Kind}
-use Rattle.feed_format.specs.declared.Kind.TheVariants.{Parameters, List as ListKind, NoList, Levels, Edit, Reading, Unknown}
+use Rattle.feed_format.specs.declared.Kind.TheVariants.{Parameters, List as ListKind, NoList, Levels, Edit, Reading}
+use Rattle.feed_format.specs.declared.List.{List as FeedList}
 use Rattle.feed_format.specs.declared.Mode.{Mode}
 use Rattle.feed_format.specs.declared.Mode.TheVariants.{Dct, Dst, Skip}
 
-unfoldable pub kind_of : ℕ → Kind
+unfoldable pub kind_of : ℕ → Option Kind
 kind_of k =
-    cond (eqb k 1) Parameters
-    (cond (eqb k 2) ListKind
-    (cond (eqb k 3) NoList
-    (cond (eqb k 4) (Levels 4)
-    (cond (eqb k 5) (Levels 8)
-    (cond (eqb k 6) (Levels 16)
-    (cond (eqb k 7) (Levels 32)
-    (cond (eqb k 8) Edit
-    (cond (eqb k 9) Reading Unknown))))))))
+    cond (eqb k 1) (Some Parameters)
+    (cond (eqb k 2) (Some ListKind)
+    (cond (eqb k 3) (Some NoList)
+    (cond (eqb k 4) (Some (Levels 4))
+    (cond (eqb k 5) (Some (Levels 8))
+    (cond (eqb k 6) (Some (Levels 16))
+    (cond (eqb k 7) (Some (Levels 32))
+    (cond (eqb k 8) (Some Edit)
+    (cond (eqb k 9) (Some Reading) None))))))))
 
-abbrev pub is_unknown : Kind → Bool
-is_unknown Parameters = false
-is_unknown ListKind = false
-is_unknown NoList = false
-is_unknown (Levels n) = false
-is_unknown Edit = false
-is_unknown Reading = false
-is_unknown Unknown = true
+abbrev pub is_unknown : Option Kind → Bool
+is_unknown (Some kind) = false
+is_unknown None = true
+
+abbrev pub by_kind : (Kind → ℕ) → Option Kind → ℕ
+by_kind f (Some kind) = f kind
+by_kind f None = 0
 
 abbrev pub size_known : Kind → Bool
 size_known Parameters = true
@@ -49,7 +52,6 @@ size_known NoList = true
 size_known (Levels n) = is_size n
 size_known Edit = true
 size_known Reading = true
-size_known Unknown = true
 
 abbrev pub body_length : Kind → ℕ
 body_length Parameters = 4
@@ -58,10 +60,9 @@ body_length NoList = 0
 body_length (Levels n) = 4 * (n * n)
 body_length Edit = 6
 body_length Reading = 0
-body_length Unknown = 0
 
 unfoldable pub record_length : ℕ → ℕ
-record_length k = body_length (kind_of k)
+record_length k = by_kind body_length (kind_of k)
 
 -- a reading may be of the largest size
 abbrev pub text_room : Kind → ℕ
@@ -71,13 +72,15 @@ text_room NoList = 0
 text_room (Levels n) = 12 * (n * n) + 29
 text_room Edit = 0
 text_room Reading = 12317
-text_room Unknown = 0
 
 unfoldable pub record_room : ℕ → ℕ
-record_room k = text_room (kind_of k)
+record_room k = by_kind text_room (kind_of k)
 
-unfoldable pub mode_of : ℕ → Mode
-mode_of m = cond (eqb m 0) Dct (cond (eqb m 1) Dst Skip)
+unfoldable pub flag_of : ℕ → Option Bool
+flag_of f = cond (eqb f 0) (Some false) (cond (eqb f 1) (Some true) None)
+
+unfoldable pub mode_of : ℕ → Option Mode
+mode_of m = cond (eqb m 0) (Some Dct) (cond (eqb m 1) (Some Dst) (cond (eqb m 2) (Some Skip) None))
 
 unfoldable pub dst_refused : Mode → ℕ → Bool
 dst_refused Dct n = false
@@ -100,6 +103,9 @@ level_at body i =
 
 unfoldable pub levels_of : ℕ → List ℕ → List ℤ
 levels_of n body = tabulate (n * n) (level_at body)
+
+abbrev pub list_of : List ℕ → FeedList
+list_of body = record { entries = take 64 body; dc = get_or body 64 0 }
 
 abbrev pub edit_row : List ℕ → ℕ
 edit_row body = get_or body 0 0

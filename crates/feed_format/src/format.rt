@@ -1,100 +1,121 @@
 // Kinds of records, what a body holds, and what goes by the mode of a block.
-ghost use Rattle.std.specs.Prelude.{◌≡◌, ◌≤◌};
-ghost use Rattle.feed_format.specs.Format.{kind_of, is_unknown, record_length, record_room, mode_of, dst_refused, list_ignored};
+ghost use Rattle.std.specs.Prelude.{◌≡◌, ◌≤◌, T};
+ghost use Rattle.feed_format.specs.Format.{kind_of, size_known, body_length, text_room, record_length, record_room, flag_of, mode_of, dst_refused, list_ignored};
 
 use crate::{Kind, Mode};
 
-pub fn kind_of(kind: u8) -> Kind
+// What a byte of kind stands for.
+#[tactic(auto, unfolding(crate::specs::Format::kind_of))]
+pub fn kind_of(kind: u8) -> Option<Kind>
     ensures { result ≡ kind_of kind }
 {
     match kind {
-        1 => Kind::Parameters,
-        2 => Kind::List,
-        3 => Kind::NoList,
-        4 => Kind::Levels(4),
-        5 => Kind::Levels(8),
-        6 => Kind::Levels(16),
-        7 => Kind::Levels(32),
-        8 => Kind::Edit,
-        9 => Kind::Reading,
-        _ => Kind::Unknown,
+        1 => Some(Kind::Parameters),
+        2 => Some(Kind::List),
+        3 => Some(Kind::NoList),
+        4 => Some(Kind::Levels(4)),
+        5 => Some(Kind::Levels(8)),
+        6 => Some(Kind::Levels(16)),
+        7 => Some(Kind::Levels(32)),
+        8 => Some(Kind::Edit),
+        9 => Some(Kind::Reading),
+        _ => None,
     }
 }
 
-pub fn is_unknown(kind: Kind) -> bool
-    ensures { result ≡ is_unknown kind }
-{
-    match kind {
-        Kind::Parameters => false,
-        Kind::List => false,
-        Kind::NoList => false,
-        Kind::Levels(_) => false,
-        Kind::Edit => false,
-        Kind::Reading => false,
-        Kind::Unknown => true,
+impl Kind {
+    // How many bytes of body follow it.
+    pub fn body_length(self) -> usize
+        requires { T (size_known self) }
+        ensures { result ≡ body_length self }
+    {
+        match self {
+            Kind::Parameters => 4,
+            Kind::List => 65,
+            Kind::Levels(n) => 4 * (n * n),
+            Kind::Edit => 6,
+            Kind::NoList | Kind::Reading => 0,
+        }
+    }
+
+    // How many bytes its text may take; a reading may be of the largest size.
+    pub fn text_room(self) -> usize
+        requires { T (size_known self) }
+        ensures { result ≡ text_room self }
+    {
+        match self {
+            Kind::Levels(n) => 12 * (n * n) + 29,
+            Kind::Reading => 12317,
+            Kind::Parameters | Kind::List | Kind::NoList | Kind::Edit => 0,
+        }
     }
 }
 
-// How many bytes of body follow a kind; a kind that is not known has none.
+// How many bytes of body follow a byte of kind; a byte that is no kind has none.
+#[tactic(auto, using(crate::proofs::FormatLaws::kind_known, crate::proofs::FormatLaws::length_most), unfolding(crate::specs::Format::record_length))]
 pub fn record_length(kind: u8) -> usize
     ensures value { result ≡ record_length kind }
     ensures upper_bound { result ≤ 4096 }
 {
-    match kind {
-        1 => 4,
-        2 => 65,
-        4 => 64,
-        5 => 256,
-        6 => 1024,
-        7 => 4096,
-        8 => 6,
-        _ => 0,
+    match kind_of(kind) {
+        Some(kind) => kind.body_length(),
+        None => 0,
     }
 }
 
 // How many bytes the text of a record may take.
+#[tactic(auto, using(crate::proofs::FormatLaws::kind_known, crate::proofs::FormatLaws::text_most), unfolding(crate::specs::Format::record_room))]
 pub fn record_room(kind: u8) -> usize
     ensures value { result ≡ record_room kind }
     ensures upper_bound { result ≤ 12317 }
 {
-    match kind {
-        4 => 221,
-        5 => 797,
-        6 => 3101,
-        7 => 12317,
-        9 => 12317,
-        _ => 0,
+    match kind_of(kind) {
+        Some(kind) => kind.text_room(),
+        None => 0,
     }
 }
 
-pub fn mode_of(mode: u8) -> Mode
+#[tactic(auto, unfolding(crate::specs::Format::flag_of))]
+pub fn flag_of(flag: u8) -> Option<bool>
+    ensures { result ≡ flag_of flag }
+{
+    match flag {
+        0 => Some(false),
+        1 => Some(true),
+        _ => None,
+    }
+}
+
+#[tactic(auto, unfolding(crate::specs::Format::mode_of))]
+pub fn mode_of(mode: u8) -> Option<Mode>
     ensures { result ≡ mode_of mode }
 {
     match mode {
-        0 => Mode::Dct,
-        1 => Mode::Dst,
-        _ => Mode::Skip,
+        0 => Some(Mode::Dct),
+        1 => Some(Mode::Dst),
+        2 => Some(Mode::Skip),
+        _ => None,
     }
 }
 
 // Row 4.
+#[tactic(auto, unfolding(crate::specs::Format::dst_refused))]
 pub fn dst_refused(mode: Mode, n: usize) -> bool
     ensures { result ≡ dst_refused mode n }
 {
     match mode {
         Mode::Dst => n != 4,
-        Mode::Dct => false,
-        Mode::Skip => false,
+        Mode::Dct | Mode::Skip => false,
     }
 }
 
 // Whether a block of this mode and size is scaled without a list, though one may be in force.
+#[tactic(auto, unfolding(crate::specs::Format::list_ignored))]
 pub fn list_ignored(mode: Mode, n: usize) -> bool
     ensures { result ≡ list_ignored mode n }
 {
     match mode {
-        Mode::Dct => false,
-        Mode::Dst => false,
+        Mode::Dct | Mode::Dst => false,
         Mode::Skip => 4 < n,
     }
 }

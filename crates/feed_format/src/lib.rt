@@ -7,10 +7,11 @@ mod room;
 mod values;
 
 pub use format::{
-    dst_refused, is_unknown, kind_of, list_ignored, mode_of, record_length, record_room,
+    dst_refused, flag_of, kind_of, list_ignored, mode_of, record_length, record_room,
 };
+use refusal::Precision;
 pub use room::feed_room;
-pub use values::{edit_level, entries_of, read_levels};
+pub use values::{edit_level, list_of, read_levels};
 
 #[derive(Clone, Copy)]
 pub enum Kind {
@@ -20,7 +21,6 @@ pub enum Kind {
     Levels(usize),
     Edit,
     Reading,
-    Unknown,
 }
 
 #[derive(Clone, Copy)]
@@ -32,8 +32,7 @@ pub enum Mode {
 
 #[derive(Clone, Copy)]
 pub struct Parameters {
-    pub bit_depth: u8,
-    pub extended_precision: bool,
+    pub precision: Precision,
     pub qp_prime: u8,
     pub mode: Mode,
 }

@@ -5,6 +5,8 @@ ghost use Rattle.feed_format.specs.Room.{feed_room};
 use crate::format;
 
 // How many bytes the text of a whole feed may take, by its kinds; more than any buffer has where that passes 64 bits.
+// Kept: one function for this and the listing's room would take what a record asks as a closure, and promise the sum for every function that the closure
+// gives: more to read than the loop. The loop goes from record to record, and by no index.
 pub fn feed_room(input: &[u8]) -> usize
     ensures { result ≡ min (feed_room input.now) 18446744073709551615 }
 {
@@ -12,7 +14,7 @@ pub fn feed_room(input: &[u8]) -> usize
     let mut at = 0;
     while at < input.len() {
         let kind = input[at];
-        if format::is_unknown(format::kind_of(kind)) {
+        if format::kind_of(kind).is_none() {
             return room.saturating_add(40);
         }
         room = room.saturating_add(format::record_room(kind));

@@ -1,7 +1,9 @@
 // The values of a body.
-ghost use Rattle.std.specs.Prelude.{◌≡◌, ◌+◌, ◌*◌, ◌≤◌, ◌<◌, length, take};
+ghost use Rattle.std.specs.Prelude.{◌≡◌, ◌+◌, ◌*◌, ◌≤◌, ◌<◌, length};
 ghost use Rattle.integers.specs.Lists.{overwrite};
-ghost use Rattle.feed_format.specs.Format.{signed32, level_at, edit_level};
+ghost use Rattle.feed_format.specs.Format.{signed32, level_at, edit_level, list_of};
+
+use crate::List;
 
 fn level(a: u8, b: u8, c: u8, d: u8) -> i32
     ensures { result ≡ signed32 (a + 256 * (b + 256 * (c + 256 * d))) }
@@ -29,12 +31,15 @@ pub fn edit_level(body: &[u8]) -> i32
     level(body[2], body[3], body[4], body[5])
 }
 
-// The entries of a list.
-pub fn entries_of(body: &[u8]) -> [u8; 64]
-    requires { 64 ≤ length body.now }
-    ensures { result ≡ take 64 body.now }
+// A list: 64 entries, then DC.
+pub fn list_of(body: &[u8]) -> List
+    requires { 65 ≤ length body.now }
+    ensures { result ≡ list_of body.now }
 {
     let mut entries = [0u8; 64];
     entries.copy_from_slice(&body[..64]);
-    entries
+    List {
+        entries,
+        dc: body[64],
+    }
 }

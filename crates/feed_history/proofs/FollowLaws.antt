@@ -27,7 +27,7 @@ use Rattle.refusal.specs.declared.Refusal.{Refusal}
 use Rattle.refusal.specs.declared.Refusal.TheVariants.{DepthInvalid, DstSizeInvalid, KindUnknown, BodyTooShort, LevelsBeforeParameters, ParameterInvalid}
 use Rattle.refusal.specs.Condition.{size_refused, depth_refused}
 use Rattle.refusal.specs.Outcome.{Outcome, refused}
-use Rattle.scaling_blocks.specs.Blocks.{entries_of}
+use Rattle.scaling_values.specs.Given.{entries_of}
 use Rattle.transform_1d.specs.declared.Kind.{Kind as TransformKind}
 use Rattle.transform_1d.specs.declared.Kind.TheVariants.{Dct as DctKind, Dst as DstKind}
 use Rattle.block_rules.specs.declared.EditedBlock.{EditedBlock}
@@ -44,16 +44,16 @@ use Rattle.edited_history.proofs.HistoryLaws.{HeldAgrees, HeldFits, edit_agrees,
 use Rattle.text.specs.Text.{block_text}
 use Rattle.feed_lines.specs.Lines.{columns_text, blocks_text, refused_text}
 use Rattle.feed_format.specs.declared.Kind.{Kind}
-use Rattle.feed_format.specs.declared.Kind.TheVariants.{Parameters as ParametersKind, List as ListKind, NoList, Levels, Edit as EditKind, Reading, Unknown}
+use Rattle.feed_format.specs.declared.Kind.TheVariants.{Parameters as ParametersKind, List as ListKind, NoList, Levels, Edit as EditKind, Reading}
 use Rattle.feed_format.specs.declared.Mode.{Mode}
 use Rattle.feed_format.specs.declared.Mode.TheVariants.{Dct, Dst, Skip}
 use Rattle.feed_format.specs.declared.Parameters.{Parameters}
-use Rattle.feed_format.specs.Format.{kind_of, body_length, record_length, level_at, levels_of, dst_refused, size_known, is_unknown}
+use Rattle.feed_format.specs.Format.{kind_of, body_length, record_length, flag_of, mode_of, level_at, levels_of, dst_refused, size_known}
 use Rattle.feed_rules.specs.Block.{mode_of_kind, opening_of}
 use Rattle.feed_block.specs.Work.{Accepted}
-use Rattle.feed_format.proofs.FormatLaws.{kind_size}
+use Rattle.feed_format.proofs.FormatLaws.{Sized, kind_size}
 use Rattle.feed_block.proofs.OpenLaws.{opened-number, levels_are}
-use Rattle.feed_rules.specs.Record.{FeedState, Effect, unchanged, answered_by, parameter_refused, parameters_effect, list_effect, no_list_effect, block_after, levels_by, levels_effect, edit_effect, reading_effect, body_effect, record_effect}
+use Rattle.feed_rules.specs.Record.{FeedState, Effect, unchanged, answered_by, parameters_by, parameters_effect, list_effect, no_list_effect, block_after, levels_by, levels_effect, edit_effect, reading_effect, body_effect, kind_effect, record_effect}
 use Rattle.feed_state.specs.Buffers.{Lent, Buffered, opened_in, edited_in, read_text, read_in, in_buffers, closed}
 use Rattle.feed_state.specs.Taken.{Ample}
 use Rattle.feed_rules.specs.Feed.{text_by, OpenBlock, held_coefficients, History, opened_as, edit_in, edited_by, read_by, in_history, beginning, feed_text}
@@ -133,12 +133,16 @@ module _ {s : FeedState Buffered} {t : FeedState History} (f : Follows s t) wher
       → Follows (record { given = g; list = l; block = record { held = None; lent_are = s.block.lent_are }; blocks = s.blocks; offset = s.offset + 1 + k }) (record { given = g; list = m; block = none; blocks = t.blocks; offset = t.offset + 1 + k })
   moves g l m k e w = record { given = refl; list = e; blocks = f.blocks; offset = ap (λ (o : ℕ). o + 1 + k) f.offset; whole = w; ample = f.ample; held = tt }
 
+  parameters_by_same : (body : List ℕ) (flag : Option Bool) (mode : Option Mode) → Same (parameters_by in_buffers s body flag mode) (parameters_by in_history t body flag mode)
+  parameters_by_same body None mode = stays f ParameterInvalid
+  parameters_by_same body (Some x) None = stays f ParameterInvalid
+  parameters_by_same body (Some x) (Some mode) = record { number = refl; text = refl; state = moves _ s.list t.list 4 f.list f.whole }
+
   parameters_same : (body : List ℕ) → Same (parameters_effect in_buffers s body) (parameters_effect in_history t body)
   unfolding parameters_effect
   parameters_same body =
       either (depth_refused (get_or body 0 0)) (stays f DepthInvalid)
-      (λ _. either (parameter_refused body) (stays f ParameterInvalid)
-      (λ _. record { number = refl; text = refl; state = moves _ s.list t.list 4 f.list f.whole }))
+      (λ _. parameters_by_same body (flag_of (get_or body 1 0)) (mode_of (get_or body 3 0)))
 
   list_same : (body : List ℕ) → 65 ≤ length body → Same (list_effect in_buffers s body) (list_effect in_history t body)
   unfolding list_effect
@@ -224,7 +228,7 @@ module _ {s : FeedState Buffered} {t : FeedState History} (f : Follows s t) wher
   unfolding levels_by
   levels_same None n body h = stays f LevelsBeforeParameters
   levels_same (Some p) n body h =
-      either (depth_refused p.bit_depth) (stays f DepthInvalid)
+      either (depth_refused p.precision.bit_depth) (stays f DepthInvalid)
       (λ d. either (dst_refused p.mode n) (stays f DstSizeInvalid)
       (λ e. record { number = refl; text = rw f.list refl; state = block_follows p n body (record { size = h; depth = d; dst = e }) p.mode refl }))
 
@@ -325,14 +329,16 @@ module _ {s : FeedState Buffered} {t : FeedState History} (f : Follows s t) wher
   body_same (Levels n) body z h = subst (λ (g : Option Parameters). Same (levels_by in_buffers s.given s n body) (levels_by in_history g t n body)) f.given (levels_same s.given n body z)
   body_same EditKind body z h = edit_same body
   body_same Reading body z h = reading_same
-  body_same Unknown body z h = stays f KindUnknown
+
+  kind_same : (kind : Option Kind) (body : List ℕ) → Sized kind → Same (kind_effect in_buffers kind s body) (kind_effect in_history kind t body)
+  kind_same None body z = stays f KindUnknown
+  kind_same (Some kind) body z =
+      either (ltb (length body) (body_length kind)) (stays f BodyTooShort)
+      (λ h. body_same kind body z (ltb-false (length body) (body_length kind) h))
 
 pub record_follows : {s : FeedState Buffered} {t : FeedState History} → Follows s t → (k : ℕ) (body : List ℕ) → Same (record_effect in_buffers s k body) (record_effect in_history t k body)
-unfolding record_effect record_length
-record_follows f k body =
-    either (is_unknown (kind_of k)) (stays f KindUnknown)
-    (λ _. either (ltb (length body) (body_length (kind_of k))) (stays f BodyTooShort)
-    (λ h. body_same f (kind_of k) body (kind_size k) (ltb-false (length body) (body_length (kind_of k)) h)))
+unfolding record_effect
+record_follows f k body = kind_same f (kind_of k) body (kind_size k)
 
 -- ---- walks
 -- what follows a record, by its number

@@ -9,6 +9,7 @@ pub use block_text::{put_reading, put_rows};
 pub use line_text::{blocks_line, put_blocks, put_refused, refusal_line};
 
 // One line of text: the first `end` bytes.
+// Kept: no heap, so a line that is handed back is an array with the end of its text, and std has no text of fixed room.
 #[derive(Clone, Copy)]
 pub struct Line {
     pub bytes: [u8; 40],

@@ -2,53 +2,15 @@
 // a write fails it says so on standard error and ends: no `blocks` line and no `refused` line then says that the text is whole.
 #![tactic(auto)]
 
-ghost use Rattle.std.specs.Prelude.{◌≤◌, length};
-ghost use Rattle.text.specs.Text.{Counts};
-
-use feed::{Line, State, StepError};
+use feed::State;
+use feed_program::{after_step, after_write, next_record, read_failed, write_line};
 use std::io::Read;
 
-fn read_failed(rt: &impl Eprint) -> Option<State> {
-    let _ = eprintln!(rt; "feed_main: a read of standard input failed, so this text is not whole");
-    None
-}
+// The name that it gives itself on standard error.
+const PROGRAM: &str = "feed_main";
 
-// What follows a write: nothing more where it failed.
-fn after_write(rt: &impl Eprint, done: bool, next: Option<State>) -> Option<State> {
-    if !done {
-        let _ = eprintln!(rt;
-            "feed_main: a write to standard output failed, so this text is not whole"
-        );
-        return None;
-    }
-    next
-}
-
-// Reads n bytes to the start of the buffer, or fewer where the input ends or a read fails.
-fn read_body(stdin: &mut impl Read, n: usize, body: &mut [u8]) -> usize
-    requires { n ≤ length body.old }
-    ensures { Counts result body.new }
-{
-    streams::read_full(stdin, &mut body[..n])
-}
-
-fn write_line(rt: &impl Print, line: Line) -> bool
-    requires { Counts line.end line.bytes }
-{
-    streams::write_all(rt, &line.bytes[..line.end])
-}
-
-// Whether one more read says that the input has ended.
-fn has_ended(stdin: &mut impl Read) -> bool {
-    let mut byte = [0u8; 1];
-    match stdin.read(&mut byte) {
-        Ok(got) => got == 0,
-        Err(_) => false,
-    }
-}
-
-// One record: reads it, writes its text and answers the state after it, where more may come. A body is cut short where the input has ended; where one more read does not say so, a
-// read failed.
+// One record: reads it, writes its text and answers the state after it, where more may come.
+// Kept: four buffers as step takes them; a struct would be taken apart in the one call.
 fn turn<R: Print + Eprint>(
     rt: &R,
     stdin: &mut impl Read,
@@ -58,44 +20,17 @@ fn turn<R: Print + Eprint>(
     inter: &mut [i32],
     residual: &mut [i32],
 ) -> Option<State> {
-    let mut byte = [0u8; 1];
-    let mut body = [0u8; 4096];
+    let mut room = [0u8; 4096];
     let mut out = [0u8; 12320];
-    let Ok(got) = stdin.read(&mut byte) else {
-        return read_failed(rt);
+    let Ok(record) = next_record(stdin, &mut room) else {
+        return read_failed(rt, PROGRAM);
     };
-    if got == 0 {
-        return after_write(rt, write_line(rt, feed::blocks_line(state.blocks)), None);
-    }
-    let kind = byte[0];
-    let n = feed::record_length(kind);
-    let there = read_body(stdin, n, &mut body);
-    if there < n {
-        if !has_ended(stdin) {
-            return read_failed(rt);
-        }
-    }
-    let stepped = feed::step(
-        state,
-        kind,
-        &body[..there],
-        levels,
-        coeff,
-        inter,
-        residual,
-        &mut out,
-    );
-    match stepped.answer {
-        Ok(()) => {
-            let done = streams::write_all(rt, &out[..stepped.end]);
-            after_write(rt, done, Some(stepped.state))
-        }
-        Err(StepError::Refused(why)) => {
-            let line = feed::refusal_line(why, stepped.state.offset);
-            after_write(rt, write_line(rt, line), None)
-        }
-        Err(StepError::NoRoom) => None,
-    }
+    let Some((kind, body)) = record else {
+        let done = write_line(rt, feed::blocks_line(state.blocks));
+        return after_write(rt, PROGRAM, done, None);
+    };
+    let answer = feed::step(state, kind, body, levels, coeff, inter, residual, &mut out);
+    after_step(rt, PROGRAM, state.offset, answer, &out)
 }
 
 fn main(rt: HostRuntime) {

@@ -60,7 +60,7 @@ block-opened Dst s p n body e = rw e refl
 pub opened_takes : {l m : List ℕ} {at end : ℕ} (s : State) (p : Parameters) (kind : Kind) (n : ℕ) (body : List ℕ) (w : Lent) (r : LevelsOpened) (ls d g e : List ℤ) (blocks : ℕ)
     → Accepted p n → p.mode ≡ mode_of_kind kind → OpensBlock (list_in s.list) p kind n body w.levels w.buffers r ls d g e
     → blocks ≡ min (s.blocks + 1) 18446744073709551615 → WroteUpTo l at (block_text n (take (n * n) e) ++ limited_text r.limited) m end (at + text_room (Levels n))
-    → Takes s (record { answer = (Ok tt); state = with_open s r.block blocks (4 * (n * n)); end = end }) (lent ls d g e) l at m (levels_by in_buffers (Some p) (state_of s w) n body) (text_room (Levels n))
+    → Takes s (Ok (record { state = with_open s r.block blocks (4 * (n * n)); end = end })) (lent ls d g e) l at m (levels_by in_buffers (Some p) (state_of s w) n body) (text_room (Levels n))
 unfolding levels_by
 opened_takes {l} {m} {at} {end} s p kind n body w r ls d g e blocks a q o k t =
     rw (a.depth, a.dst)
@@ -83,7 +83,7 @@ levels-skipped f p n body a q = rw (a.depth, a.dst) (ap (λ (t : Mode). accepted
 pub skipped_takes : {l m : List ℕ} {at end : ℕ} (s next : State) (p : Parameters) (n : ℕ) (body : List ℕ) (blank res : List ℤ) (limited : ℕ) → Accepted p n → p.mode ≡ Skip
     → Leaves (block_limited (list_in s.list) p n (levels_of n body)) (residual_at (list_in s.list) p n (levels_of n body)) (n * n) blank res limited
     → ((w : Lent) → state_of next w ≡ capped (counted (state_of s w) (closed_in (state_of s w).block) n)) → WroteUpTo l at (block_text n (take (n * n) res) ++ limited_text limited) m end (at + text_room (Levels n))
-    → Skips s p (record { answer = (Ok tt); state = next; end = end }) n body l at m
+    → Skips s p (Ok (record { state = next; end = end })) n body l at m
 skipped_takes {l} {m} {at} {end} s next p n body blank res limited a q o k t =
     record {
       leaves = λ w.
@@ -114,7 +114,7 @@ module _ (s : State) (w : Lent) (body : List ℕ) (at : ℕ) (was : EditedBlock)
       (λ z. let k : number why ≡ 0 = sym (ap (λ (o : Outcome Limits). o.number) q) ∙ z in omega (arith, number_least why, k))
 
   module _ {a : (Result Limits Refusal)} {b : EditedBlock} {ls d g e : List ℤ} (k : LevelEdits h a b ls d g e) where
-    pub edit_kept : {r : Taken} (why : Refusal) → a ≡ Err why → Quiet s r w at (refused (unchanged (state_of s w)) why)
+    pub edit_kept : {r : Result Taken Refusal} (why : Refusal) → a ≡ Err why → Quiet s r w at (refused (unchanged (state_of s w)) why)
         → Quiet s r (lent ls d g e) at (edit_effect in_buffers (state_of s w) body)
     edit_kept {r} why q z =
         let answered : h.answer ≡ refused no_limits why = sym k.answered ∙ ap (outcome no_limits) q in
@@ -125,7 +125,7 @@ module _ (s : State) (w : Lent) (body : List ℕ) (at : ℕ) (was : EditedBlock)
         same u = rw (k.levels ∙ ap (λ (x : LevelLeft). x.levels) u, k.coeff ∙ ap (λ (x : LevelLeft). x.buffers.coeff) u, k.inter ∙ ap (λ (x : LevelLeft). x.buffers.inter) u, k.res ∙ ap (λ (x : LevelLeft). x.buffers.res) u) refl
 
     pub edit_moved : (l : Limits) → a ≡ Ok l → s.blocks ≤ 18446744073709551615
-        → Quiet s (record { answer = (Ok tt); state = with_open s b s.blocks 6; end = at }) (lent ls d g e) at (edit_effect in_buffers (state_of s w) body)
+        → Quiet s (Ok (record { state = with_open s b s.blocks 6; end = at })) (lent ls d g e) at (edit_effect in_buffers (state_of s w) body)
     edit_moved l q f =
         rw done
         (quiet_moved s (with_open s b s.blocks 6) (lent ls d g e)
@@ -155,7 +155,7 @@ reading_is s w was on q = rw (on, q) refl
 
 pub reading_takes : {l m : List ℕ} {at end : ℕ} (s : State) (w : Lent) (was : EditedBlock) → s.held ≡ Some was → size_refused was.size ≡ false → s.blocks ≤ 18446744073709551615
     → WroteUpTo l at (block_text was.size (take (was.size * was.size) w.buffers.res) ++ columns_text was.columns) m end (at + text_room Reading)
-    → Takes s (record { answer = (Ok tt); state = with_open s was s.blocks 0; end = end }) w l at m (reading_effect in_buffers (state_of s w)) (text_room Reading)
+    → Takes s (Ok (record { state = with_open s was s.blocks 0; end = end })) w l at m (reading_effect in_buffers (state_of s w)) (text_room Reading)
 unfolding read_text
 reading_takes s w was on q f t =
     rw (reading_is s w was on q)

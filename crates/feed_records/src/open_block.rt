@@ -1,5 +1,5 @@
 // The block that a feed holds open: opened by a levels record, edited, and read.
-ghost use Rattle.std.specs.Prelude.{◌≡◌, Some, ◌+◌, ◌*◌, ◌≤◌, length};
+ghost use Rattle.std.specs.Prelude.{◌≡◌, Some, Ok, ◌+◌, ◌*◌, ◌≤◌, length};
 ghost use Rattle.feed_format.specs.Format.{text_room};
 ghost use Rattle.feed_rules.specs.Block.{mode_of_kind};
 ghost use Rattle.feed_rules.specs.Record.{levels_by, edit_effect};
@@ -9,10 +9,11 @@ ghost use Rattle.feed_block.specs.Work.{Accepted};
 ghost use Rattle.feed_records.specs.Work.{Reads};
 
 use feed_format::{Kind, Parameters};
-use feed_state::{State, Taken, kept, moved, with_open};
+use feed_state::{State, Taken, with_open};
 use refusal::Refusal;
 
 // A block by a transform, which stays open.
+// Kept: a struct of lent slices would have to promise for each slice that it stays the same one (its ghost_name), a clause more for each.
 pub(crate) fn take_opened(
     s: State,
     p: Parameters,
@@ -30,14 +31,14 @@ pub(crate) fn take_opened(
     requires n_in_bounds { 4 * (n * n) ≤ length body.now }
     requires ample { Ample (lent levels.old coeff.old inter.old residual.old) }
     requires n_in_bounds_2 { at + text_room (Kind.Levels n) ≤ length out.old }
-    ensures { Takes s result (lent levels.new coeff.new inter.new residual.new) out.old at out.new (levels_by in_buffers (Some p) (state_of s (lent levels.old coeff.old inter.old residual.old)) n body.now) (text_room (Kind.Levels n)) }
+    ensures { Takes s (Ok result) (lent levels.new coeff.new inter.new residual.new) out.old at out.new (levels_by in_buffers (Some p) (state_of s (lent levels.old coeff.old inter.old residual.old)) n body.now) (text_room (Kind.Levels n)) }
 {
     let opened = feed_block::open_body(s, p, kind, n, body, levels, coeff, inter, residual);
     let end = feed_lines::put_rows(residual, n, opened.limited, out, at);
-    moved(
-        with_open(s, opened.block, s.blocks.saturating_add(1), 4 * (n * n)),
+    Taken {
+        state: with_open(s, opened.block, s.blocks.saturating_add(1), 4 * (n * n)),
         end,
-    )
+    }
 }
 
 fn index(byte: u8) -> usize
@@ -55,39 +56,47 @@ pub(crate) fn take_edit(
     inter: &mut [i32],
     residual: &mut [i32],
     at: usize,
-) -> Taken
+) -> Result<Taken, Refusal>
     requires { 6 ≤ length body.now }
     ensures { Quiet s result (lent levels.new coeff.new inter.new residual.new) at (edit_effect in_buffers (state_of s (lent levels.old coeff.old inter.old residual.old)) body.now) }
 {
     let Some(mut held) = s.held else {
-        return kept(s, Refusal::BlockMissing, at);
+        return Err(Refusal::BlockMissing);
     };
     let row = index(body[0]);
     let column = index(body[1]);
     let level = feed_format::edit_level(body);
-    let edited = level_block::edit_level(
+    level_block::edit_level(
         &mut held, levels, coeff, inter, residual, row, column, level,
-    );
-    match edited {
-        Ok(_) => moved(with_open(s, held, s.blocks, 6), at),
-        Err(why) => kept(s, why, at),
-    }
+    )?;
+    Ok(Taken {
+        state: with_open(s, held, s.blocks, 6),
+        end: at,
+    })
 }
 
 // A reading of the open block.
-pub(crate) fn take_reading(s: State, residual: &[i32], out: &mut [u8], at: usize) -> Taken
+pub(crate) fn take_reading(
+    s: State,
+    residual: &[i32],
+    out: &mut [u8],
+    at: usize,
+) -> Result<Taken, Refusal>
     requires in_bounds { 1024 ≤ length residual.now }
     requires text_room_in_bounds { at + text_room Kind.Reading ≤ length out.old }
     ensures { Reads s result residual.now out.old at out.new }
 {
     let Some(held) = s.held else {
-        return kept(s, Refusal::BlockMissing, at);
+        return Err(Refusal::BlockMissing);
     };
     let n = held.size;
     let columns = held.columns;
     if refusal::size_refused(n) {
-        return kept(s, Refusal::SizeInvalid, at);
+        return Err(Refusal::SizeInvalid);
     }
     let end = feed_lines::put_reading(residual, n, columns, out, at);
-    moved(with_open(s, held, s.blocks, 0), end)
+    Ok(Taken {
+        state: with_open(s, held, s.blocks, 0),
+        end,
+    })
 }

@@ -14,11 +14,12 @@ use Rattle.refusal.specs.declared.Refusal.{Refusal}
 use Rattle.refusal.specs.declared.Refusal.TheVariants.{DepthInvalid, DstSizeInvalid, KindUnknown, BodyTooShort, LevelsBeforeParameters, ParameterInvalid}
 use Rattle.refusal.specs.Outcome.{Outcome, refused}
 use Rattle.refusal.proofs.RefusalLaws.{number_least}
+use Rattle.feed_format.specs.declared.Mode.{Mode}
 use Rattle.feed_format.specs.declared.Parameters.{Parameters}
 use Rattle.feed_format.specs.declared.Kind.{Kind}
-use Rattle.feed_format.specs.declared.Kind.TheVariants.{Parameters as ParametersKind, List as ListKind, NoList, Levels, Edit, Reading, Unknown}
-use Rattle.feed_format.specs.Format.{kind_of, is_unknown, body_length, record_length, dst_refused}
-use Rattle.feed_rules.specs.Record.{FeedState, Effect, Keeper, unchanged, behind, answered_by, parameter_refused, parameters_effect, list_effect, no_list_effect, levels_by, levels_effect, edit_effect, reading_effect, body_effect, record_effect}
+use Rattle.feed_format.specs.declared.Kind.TheVariants.{Parameters as ParametersKind, List as ListKind, NoList, Levels, Edit, Reading}
+use Rattle.feed_format.specs.Format.{kind_of, is_unknown, by_kind, body_length, record_length, flag_of, mode_of, dst_refused}
+use Rattle.feed_rules.specs.Record.{FeedState, Effect, Keeper, unchanged, behind, answered_by, parameters_by, parameters_effect, list_effect, no_list_effect, levels_by, levels_effect, edit_effect, reading_effect, body_effect, kind_effect, record_effect}
 
 module _ {H : Type 0} (g : Keeper H) where
   -- ---- count and offset
@@ -37,7 +38,7 @@ module _ {H : Type 0} (g : Keeper H) where
   unfolding levels_by
   levels_moves None s n body = stays LevelsBeforeParameters
   levels_moves (Some p) s n body =
-      either (depth_refused p.bit_depth) (stays DepthInvalid)
+      either (depth_refused p.precision.bit_depth) (stays DepthInvalid)
       (either (dst_refused p.mode n) (stays DstSizeInvalid)
       (record { blocks = omega arith; offset = λ z. refl }))
 
@@ -50,12 +51,16 @@ module _ {H : Type 0} (g : Keeper H) where
       by_test true e = record { blocks = rw e (few o.value); offset = λ z. rw e (far o.value) }
       by_test false e = record { blocks = rw e (omega arith); offset = λ z. absurd (true≢false (sym (eq-eqb o.number 0 z) ∙ e)) }
 
+  parameters_moves : (s : FeedState H) (body : List ℕ) (flag : Option Bool) (mode : Option Mode) → Moves s (body_length ParametersKind) (parameters_by g s body flag mode)
+  parameters_moves s body None mode = stays ParameterInvalid
+  parameters_moves s body (Some x) None = stays ParameterInvalid
+  parameters_moves s body (Some x) (Some mode) = record { blocks = omega arith; offset = λ z. refl }
+
   body_moves : (kind : Kind) (s : FeedState H) (body : List ℕ) → Moves s (body_length kind) (body_effect g kind s body)
   unfolding body_effect parameters_effect list_effect no_list_effect levels_effect edit_effect reading_effect
   body_moves ParametersKind s body =
       either (depth_refused (get_or body 0 0)) (stays DepthInvalid)
-      (either (parameter_refused body) (stays ParameterInvalid)
-      (record { blocks = omega arith; offset = λ z. refl }))
+      (parameters_moves s body (flag_of (get_or body 1 0)) (mode_of (get_or body 3 0)))
   body_moves ListKind s body = record { blocks = omega arith; offset = λ z. refl }
   body_moves NoList s body = record { blocks = omega arith; offset = λ z. refl }
   body_moves (Levels n) s body = levels_moves s.given s n body
@@ -65,26 +70,29 @@ module _ {H : Type 0} (g : Keeper H) where
   body_moves Reading s body =
       answered_moves s (body_length Reading) (g.reading s.block)
       (λ (rows : List ℕ). record { text = rows; state = record { given = s.given; list = s.list; block = s.block; blocks = s.blocks; offset = behind Reading s } }) (λ a. omega arith) (λ a. refl)
-  body_moves Unknown s body = stays KindUnknown
+
+  kind_moves : (s : FeedState H) (kind : Option Kind) (body : List ℕ) → Moves s (by_kind body_length kind) (kind_effect g kind s body)
+  kind_moves s None body = stays KindUnknown
+  kind_moves s (Some kind) body =
+      either (ltb (length body) (body_length kind)) (stays BodyTooShort)
+      (body_moves kind s body)
 
   record_moves : (s : FeedState H) (k : ℕ) (body : List ℕ) → Moves s (record_length k) (record_effect g s k body)
   unfolding record_effect record_length
-  record_moves s k body =
-      either (is_unknown (kind_of k)) (stays KindUnknown)
-      (either (ltb (length body) (record_length k)) (stays BodyTooShort)
-      (body_moves (kind_of k) s body))
+  record_moves s k body = kind_moves s (kind_of k) body
 
   -- ---- the length
-  neither : (s : FeedState H) (k : ℕ) (body : List ℕ) (t u : Bool) → (cond t (refused (unchanged s) KindUnknown) (cond u (refused (unchanged s) BodyTooShort) (body_effect g (kind_of k) s body))).number ≡ 0 → (t ≡ false) × (u ≡ false)
-  neither s k body true u h = absurd (omega arith)
-  neither s k body false true h = absurd (omega arith)
-  neither s k body false false h = (refl, refl)
+  not_short : (s : FeedState H) (kind : Kind) (body : List ℕ) (t : Bool) → (cond t (refused (unchanged s) BodyTooShort) (body_effect g kind s body)).number ≡ 0 → t ≡ false
+  not_short s kind body true h = absurd (omega arith)
+  not_short s kind body false h = refl
+
+  kind_known : (s : FeedState H) (kind : Option Kind) (body : List ℕ) → (kind_effect g kind s body).number ≡ 0 → (is_unknown kind ≡ false) × (by_kind body_length kind ≤ length body)
+  kind_known s None body e = absurd (omega arith)
+  kind_known s (Some kind) body e = (refl, ltb-false (length body) (body_length kind) (not_short s kind body (ltb (length body) (body_length kind)) e))
 
   effect_known : (s : FeedState H) (k : ℕ) (body : List ℕ) → (record_effect g s k body).number ≡ 0 → (is_unknown (kind_of k) ≡ false) × (record_length k ≤ length body)
-  unfolding record_effect
-  effect_known s k body e =
-      let n = neither s k body (is_unknown (kind_of k)) (ltb (length body) (record_length k)) e in
-      (n.0, ltb-false (length body) (record_length k) n.1)
+  unfolding record_effect record_length
+  effect_known s k body e = kind_known s (kind_of k) body e
 
 -- ---- both
 pub record Moved {H : Type 0} (s : FeedState H) (k : ℕ) (body : List ℕ) (o : Outcome (Effect H)) : Type 0 where

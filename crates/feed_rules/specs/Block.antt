@@ -38,7 +38,7 @@ list_for mode n list = cond (list_ignored mode n) flat list
 
 unfoldable pub coefficients : ScalingList → Parameters → ℕ → List ℤ → List ℤ
 coefficients list p n levels =
-    tabulate (n * n) (scaled_at list n p.bit_depth p.extended_precision (pos p.qp_prime) levels)
+    tabulate (n * n) (scaled_at list n p.precision.bit_depth p.precision.extended (pos p.qp_prime) levels)
 
 -- both stages over coefficients, with every column read
 unfoldable pub transformed_at : (ℕ → ℕ → ℤ) → ℕ → Bool → ℕ → List ℤ → ℕ → ℤ
@@ -46,11 +46,11 @@ transformed_at t b x n d = row_order n (residual t n b (transform_range b x) n d
 
 unfoldable pub residual_by : Mode → ScalingList → Parameters → ℕ → List ℤ → ℕ → ℤ
 residual_by Dct list p n levels =
-    transformed_at (trans_matrix n) p.bit_depth p.extended_precision n (coefficients list p n levels)
+    transformed_at (trans_matrix n) p.precision.bit_depth p.precision.extended n (coefficients list p n levels)
 residual_by Dst list p n levels =
-    transformed_at dst_matrix p.bit_depth p.extended_precision n (coefficients list p n levels)
+    transformed_at dst_matrix p.precision.bit_depth p.precision.extended n (coefficients list p n levels)
 residual_by Skip list p n levels =
-    skipped_at list n p.bit_depth p.extended_precision (pos p.qp_prime) levels
+    skipped_at list n p.precision.bit_depth p.precision.extended (pos p.qp_prime) levels
 
 unfoldable pub residual_at : ScalingList → Parameters → ℕ → List ℤ → ℕ → ℤ
 residual_at list p n levels = residual_by p.mode (list_for p.mode n list) p n levels
@@ -60,7 +60,7 @@ block_residual list p n levels = tabulate (n * n) (residual_at list p n levels)
 
 unfoldable pub block_limited : ScalingList → Parameters → ℕ → List ℤ → ℕ
 block_limited list p n levels =
-    limited_count (list_for p.mode n list) n p.bit_depth p.extended_precision (pos p.qp_prime) levels
+    limited_count (list_for p.mode n list) n p.precision.bit_depth p.precision.extended (pos p.qp_prime) levels
 
 abbrev pub mode_of_kind : Kind → Mode
 mode_of_kind DctKind = Dct
@@ -84,7 +84,7 @@ opening_of kind list p n =
     record {
       kind = kind;
       size = n;
-      depth = p.bit_depth;
-      extended = p.extended_precision;
+      depth = p.precision.bit_depth;
+      extended = p.precision.extended;
       source = record { levels = Bool.true; qp_prime = record { 0 = pos p.qp_prime }; listed = is_listed list; dc = dc_in list; entries = entries_in list };
     }

@@ -16,8 +16,9 @@
 --   levels_effect g s n body      kinds 4 .. 7: the rows of the block, then the count of its limited coefficients
 --   edit_effect g s body          kind 8: row, column and a level
 --   reading_effect g s            kind 9: the rows of the open block, then its column count
+--   kind_effect g k s body       a record of a kind, or of none
 --   record_effect g s k body      a record of kind k; a body that is longer than the kind's counts up to its length
-use Rattle.std.specs.Prelude.{Bool, ◌||◌, cond, List, [], ◌++◌, ℕ, ◌+◌, eqb, ltb, length, take, get_or, Option, Some, None}
+use Rattle.std.specs.Prelude.{Bool, cond, List, [], ◌++◌, ℕ, ◌+◌, eqb, ltb, length, get_or, Option, Some, None}
 use Rattle.h265.specs.ScalingFactor.{ScalingList}
 use Rattle.h265.specs.ScalingFactor.ScalingList.{flat, listed}
 use Rattle.refusal.specs.declared.Refusal.TheVariants.{DepthInvalid, DstSizeInvalid, KindUnknown, BodyTooShort, LevelsBeforeParameters, ParameterInvalid}
@@ -27,11 +28,11 @@ use Rattle.transform_1d.specs.declared.Kind.{Kind as TransformKind}
 use Rattle.transform_1d.specs.declared.Kind.TheVariants.{Dct as DctKind, Dst as DstKind}
 use Rattle.text.specs.Text.{block_text}
 use Rattle.feed_format.specs.declared.Kind.{Kind}
-use Rattle.feed_format.specs.declared.Kind.TheVariants.{Parameters as ParametersKind, List as ListKind, NoList, Levels, Edit, Reading, Unknown}
+use Rattle.feed_format.specs.declared.Kind.TheVariants.{Parameters as ParametersKind, List as ListKind, NoList, Levels, Edit, Reading}
 use Rattle.feed_format.specs.declared.Mode.{Mode}
 use Rattle.feed_format.specs.declared.Mode.TheVariants.{Dct, Dst, Skip}
 use Rattle.feed_format.specs.declared.Parameters.{Parameters}
-use Rattle.feed_format.specs.Format.{kind_of, is_unknown, body_length, record_length, mode_of, dst_refused, levels_of}
+use Rattle.feed_format.specs.Format.{kind_of, body_length, flag_of, mode_of, dst_refused, list_of, levels_of}
 use Rattle.feed_lines.specs.Lines.{limited_text}
 use Rattle.feed_rules.specs.Block.{block_residual, block_limited}
 
@@ -60,34 +61,35 @@ abbrev pub behind : {H : Type 0} → Kind → FeedState H → ℕ
 behind kind s = s.offset + 1 + body_length kind
 
 -- ---- parameters and lists, which close the open block
--- the parameters that four bytes stand for
-abbrev pub parameters_of : List ℕ → Parameters
-parameters_of body =
+-- the parameters that four bytes stand for, by their flag and mode
+abbrev pub parameters_of : List ℕ → Bool → Mode → Parameters
+parameters_of body extended mode =
     record {
-      bit_depth = get_or body 0 0;
-      extended_precision = eqb (get_or body 1 0) 1;
+      precision = record { bit_depth = get_or body 0 0; extended = extended };
       qp_prime = get_or body 2 0;
-      mode = mode_of (get_or body 3 0);
+      mode = mode;
     }
 
 -- row 23
-unfoldable pub parameter_refused : List ℕ → Bool
-parameter_refused body = ltb 1 (get_or body 1 0) || ltb 2 (get_or body 3 0)
+abbrev pub parameters_by : {H : Type 0} → Keeper H → FeedState H → List ℕ → Option Bool → Option Mode → Outcome (Effect H)
+parameters_by g s body None mode = refused (unchanged s) ParameterInvalid
+parameters_by g s body (Some extended) None = refused (unchanged s) ParameterInvalid
+parameters_by g s body (Some extended) (Some mode) =
+    accepted (record {
+      text = [];
+      state = record { given = Some (parameters_of body extended mode); list = s.list; block = g.closed s.block; blocks = s.blocks; offset = behind ParametersKind s };
+    })
 
 unfoldable pub parameters_effect : {H : Type 0} → Keeper H → FeedState H → List ℕ → Outcome (Effect H)
 parameters_effect g s body =
     cond (depth_refused (get_or body 0 0)) (refused (unchanged s) DepthInvalid)
-    (cond (parameter_refused body) (refused (unchanged s) ParameterInvalid)
-    (accepted (record {
-      text = [];
-      state = record { given = Some (parameters_of body); list = s.list; block = g.closed s.block; blocks = s.blocks; offset = behind ParametersKind s };
-    })))
+    (parameters_by g s body (flag_of (get_or body 1 0)) (mode_of (get_or body 3 0)))
 
 unfoldable pub list_effect : {H : Type 0} → Keeper H → FeedState H → List ℕ → Outcome (Effect H)
 list_effect g s body =
     accepted (record {
       text = [];
-      state = record { given = s.given; list = listed (take 64 body) (get_or body 64 0); block = g.closed s.block; blocks = s.blocks; offset = behind ListKind s };
+      state = record { given = s.given; list = listed (list_of body).entries (list_of body).dc; block = g.closed s.block; blocks = s.blocks; offset = behind ListKind s };
     })
 
 unfoldable pub no_list_effect : {H : Type 0} → Keeper H → FeedState H → Outcome (Effect H)
@@ -111,7 +113,7 @@ counted s h n = record { given = s.given; list = s.list; block = h; blocks = s.b
 unfoldable pub levels_by : {H : Type 0} → Keeper H → Option Parameters → FeedState H → ℕ → List ℕ → Outcome (Effect H)
 levels_by g None s n body = refused (unchanged s) LevelsBeforeParameters
 levels_by g (Some p) s n body =
-    cond (depth_refused p.bit_depth) (refused (unchanged s) DepthInvalid)
+    cond (depth_refused p.precision.bit_depth) (refused (unchanged s) DepthInvalid)
     (cond (dst_refused p.mode n) (refused (unchanged s) DstSizeInvalid)
     (accepted (record {
       text = block_text n (block_residual s.list p n (levels_of n body)) ++ limited_text (block_limited s.list p n (levels_of n body));
@@ -146,10 +148,12 @@ body_effect g NoList s body = no_list_effect g s
 body_effect g (Levels n) s body = levels_effect g s n body
 body_effect g Edit s body = edit_effect g s body
 body_effect g Reading s body = reading_effect g s
-body_effect g Unknown s body = refused (unchanged s) KindUnknown
+
+abbrev pub kind_effect : {H : Type 0} → Keeper H → Option Kind → FeedState H → List ℕ → Outcome (Effect H)
+kind_effect g None s body = refused (unchanged s) KindUnknown
+kind_effect g (Some kind) s body =
+    cond (ltb (length body) (body_length kind)) (refused (unchanged s) BodyTooShort)
+    (body_effect g kind s body)
 
 unfoldable pub record_effect : {H : Type 0} → Keeper H → FeedState H → ℕ → List ℕ → Outcome (Effect H)
-record_effect g s k body =
-    cond (is_unknown (kind_of k)) (refused (unchanged s) KindUnknown)
-    (cond (ltb (length body) (record_length k)) (refused (unchanged s) BodyTooShort)
-    (body_effect g (kind_of k) s body))
+record_effect g s k body = kind_effect g (kind_of k) s body

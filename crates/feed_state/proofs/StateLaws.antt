@@ -1,11 +1,12 @@
 -- Laws of states and of what a record hands back.
 --   capped_id, capped_offset     numbers that fit are held as they are; the same where the offset was limited already
 --   quiet_kept, quiet_moved      what a refused record, and an accepted one without text, hand back
+--   refused_takes                what a refused record hands back, whatever room there is
 --   quiet_takes                  a record without text leaves the buffer of texts as it is
 --   block_takes                  what a record with text hands back
 --   levels_given                 a block of levels, by what is known of the parameters
 use Rattle.feed_format.specs.declared.Parameters.{Parameters}
-use Rattle.std.specs.Prelude.{Ok, Err, Option}
+use Rattle.std.specs.Prelude.{Result, Ok, Err, Option}
 use mathlib.Core.Path.{◌≡◌, refl, sym, ap, ◌∙◌}
 use mathlib.Core.List.{List, []}
 use Prim.Native.Nat.{ℕ, ◌+◌, ◌≤◌, min}
@@ -31,26 +32,30 @@ pub capped_id : {H : Type 0} (s : FeedState H) → s.blocks ≤ 1844674407370955
 capped_id s h k = sym (capped_offset s s.offset h (omega arith))
 
 pub quiet_kept : (s : State) (why : Refusal) (at : ℕ) (w : Lent) → s.blocks ≤ 18446744073709551615 → s.offset ≤ 18446744073709551615
-    → Quiet s (record { answer = Err why; state = s; end = at }) w at (refused (unchanged (state_of s w)) why)
-quiet_kept s why at w h k = record { answered = refl; state = sym (capped_id (state_of s w) h k); end = refl; none = refl; kept = λ f. refl }
+    → Quiet s (Err why) w at (refused (unchanged (state_of s w)) why)
+quiet_kept s why at w h k = record { answered = refl; state = sym (capped_id (state_of s w) h k); end = refl; none = refl }
 
 pub quiet_moved : (s next : State) (w : Lent) (t : FeedState Buffered) (at : ℕ) → t.blocks ≤ 18446744073709551615 → next.offset ≡ min t.offset 18446744073709551615
-    → state_of next w ≡ at_offset t next.offset → Quiet s (record { answer = (Ok tt); state = next; end = at }) w at (accepted (record { text = []; state = t }))
-quiet_moved s next w t at h k e = record { answered = refl; state = e ∙ capped_offset t next.offset h k; end = refl; none = refl; kept = λ f. absurd (f refl) }
+    → state_of next w ≡ at_offset t next.offset → Quiet s (Ok (record { state = next; end = at })) w at (accepted (record { text = []; state = t }))
+quiet_moved s next w t at h k e = record { answered = refl; state = e ∙ capped_offset t next.offset h k; end = refl; none = refl }
 
-pub quiet_takes : {s : State} {r : Taken} {w : Lent} {at : ℕ} {o : Outcome (Effect Buffered)} (l : List ℕ) (room : ℕ) → Quiet s r w at o → Takes s r w l at l o room
+pub quiet_takes : {s : State} {r : Result Taken Refusal} {w : Lent} {at : ℕ} {o : Outcome (Effect Buffered)} (l : List ℕ) (room : ℕ) → Quiet s r w at o → Takes s r w l at l o room
 quiet_takes {s} {r} {w} {at} {o} l room q =
     record {
       answered = q.answered;
       state = q.state;
       text = record { wrote = rw (q.none, q.end) (wrote_none l at); bound = omega (arith, q.end) };
-      kept = q.kept;
     }
 
+-- a state of the code holds no larger numbers
+pub refused_takes : (s : State) (why : Refusal) (l : List ℕ) (at : ℕ) (w : Lent) (room : ℕ) → s.blocks ≤ 18446744073709551615 → s.offset ≤ 18446744073709551615
+    → Takes s (Err why) w l at l (refused (unchanged (state_of s w)) why) room
+refused_takes s why l at w room h k = quiet_takes l room (quiet_kept s why at w h k)
+
 pub block_takes : {l t m : List ℕ} {at end e : ℕ} (s next : State) (w : Lent) (f : FeedState Buffered) (room : ℕ) → state_of next w ≡ capped f → e ≤ at + room
-    → WroteUpTo l at t m end e → Takes s (record { answer = (Ok tt); state = next; end = end }) w l at m (accepted (record { text = t; state = f })) room
+    → WroteUpTo l at t m end e → Takes s (Ok (record { state = next; end = end })) w l at m (accepted (record { text = t; state = f })) room
 block_takes s next w f room q h k =
-    record { answered = refl; state = q; text = record { wrote = k.wrote; bound = omega (arith, k.bound) }; kept = λ g. absurd (g refl) }
+    record { answered = refl; state = q; text = record { wrote = k.wrote; bound = omega (arith, k.bound) } }
 
 pub levels_given : {H : Type 0} {g : Option Parameters} (k : Keeper H) (s : FeedState H) (n : ℕ) (body : List ℕ) → s.given ≡ g → levels_effect k s n body ≡ levels_by k g s n body
 unfolding levels_effect

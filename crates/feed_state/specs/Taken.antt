@@ -1,12 +1,15 @@
 -- What a record that was taken leaves.
 --   state_of s w             what a state of the code and the four buffers stand for
 --   capped s                a state as the code holds it: blocks and offset stop at the largest 64-bit number, which no input reaches
+--   state_after s r, end_after at r    state and end of a record's text, by what was handed back: a refused one leaves both
+--   told r                   that without them
 --   answer_of o              number and place without the values
 --   Ample w                 each of the four buffers has room for the largest block
 --   Takes                   a record was taken, below the question of room: its text stands at a place of the buffer; a refused one leaves the state
 --   Quiet                   the same of a record without text
 --   Silent                  the same of one that leaves the four buffers, whatever they hold
-use Rattle.std.specs.Prelude.{◌≡◌, List, [], ℕ, ◌+◌, ◌≤◌, min, length}
+use Rattle.std.specs.Prelude.{◌≡◌, List, [], ℕ, ◌+◌, ◌≤◌, min, length, Result, Ok, Err}
+use Rattle.refusal.specs.declared.Refusal.{Refusal}
 use Rattle.refusal.specs.Outcome.{Outcome, answer}
 use Rattle.text.specs.Text.{WroteUpTo}
 use Rattle.feed_rules.specs.Block.{list_in}
@@ -35,6 +38,18 @@ capped s =
       offset = min s.offset 18446744073709551615;
     }
 
+abbrev pub state_after : State → Result Taken Refusal → State
+state_after s (Ok t) = t.state
+state_after s (Err why) = s
+
+abbrev pub end_after : ℕ → Result Taken Refusal → ℕ
+end_after at (Ok t) = t.end
+end_after at (Err why) = at
+
+abbrev pub told : Result Taken Refusal → Result (Unit {0}) Refusal
+told (Ok t) = Ok tt
+told (Err why) = Err why
+
 abbrev pub answer_of : {A : Type 0} → Outcome A → Outcome (Unit {0})
 answer_of o = record { number = o.number; place = o.place; row = o.row; column = o.column; value = tt }
 
@@ -44,18 +59,16 @@ pub record Ample (w : Lent) : Type 0 where
   pub inter : 1024 ≤ length w.buffers.inter
   pub res : 1024 ≤ length w.buffers.res
 
-pub record Takes (s : State) (r : Taken) (w : Lent) (l : List ℕ) (at : ℕ) (m : List ℕ) (o : Outcome (Effect Buffered)) (room : ℕ) : Type 0 where
-  pub answered : answer r.answer ≡ answer_of o
-  pub state : state_of r.state w ≡ capped o.value.state
-  pub text : WroteUpTo l at o.value.text m r.end (at + room)
-  pub kept : (o.number ≡ 0 → ⊥) → r.state ≡ s
+pub record Takes (s : State) (r : Result Taken Refusal) (w : Lent) (l : List ℕ) (at : ℕ) (m : List ℕ) (o : Outcome (Effect Buffered)) (room : ℕ) : Type 0 where
+  pub answered : answer (told r) ≡ answer_of o
+  pub state : state_of (state_after s r) w ≡ capped o.value.state
+  pub text : WroteUpTo l at o.value.text m (end_after at r) (at + room)
 
-pub record Quiet (s : State) (r : Taken) (w : Lent) (at : ℕ) (o : Outcome (Effect Buffered)) : Type 0 where
-  pub answered : answer r.answer ≡ answer_of o
-  pub state : state_of r.state w ≡ capped o.value.state
-  pub end : r.end ≡ at
+pub record Quiet (s : State) (r : Result Taken Refusal) (w : Lent) (at : ℕ) (o : Outcome (Effect Buffered)) : Type 0 where
+  pub answered : answer (told r) ≡ answer_of o
+  pub state : state_of (state_after s r) w ≡ capped o.value.state
+  pub end : end_after at r ≡ at
   pub none : o.value.text ≡ []
-  pub kept : (o.number ≡ 0 → ⊥) → r.state ≡ s
 
-pub record Silent (s : State) (r : Taken) (at : ℕ) (o : FeedState Buffered → Outcome (Effect Buffered)) : Type 0 where
+pub record Silent (s : State) (r : Result Taken Refusal) (at : ℕ) (o : FeedState Buffered → Outcome (Effect Buffered)) : Type 0 where
   pub leaves : (w : Lent) → Quiet s r w at (o (state_of s w))

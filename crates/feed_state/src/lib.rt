@@ -3,13 +3,12 @@
 
 use edited_block::EditedBlock;
 use feed_format::{List, Parameters};
-use refusal::Refusal;
 
 mod settings;
 mod states;
 
 pub use settings::{take_list, take_no_list, take_parameters};
-pub use states::{kept, moved, start, with_closed, with_open};
+pub use states::{list_for, scaling_list, start, with_closed, with_open};
 
 // What a feed keeps between records: the parameters and the list, once there are any, and the record of the block of the latest levels
 // record while it can be edited and read; its levels, coefficients, intermediate and residual are in buffers that stay with the caller.
@@ -23,10 +22,10 @@ pub struct State {
     pub offset: u64,
 }
 
-// The answer to one record below the question of room, the state after it, and the place in the buffer where its text ends.
+// What a record that was accepted leaves: the state after it, and the place in the buffer where its text ends. A refused one leaves both as
+// they were.
 #[derive(Clone, Copy)]
 pub struct Taken {
-    pub answer: Result<(), Refusal>,
     pub state: State,
     pub end: usize,
 }

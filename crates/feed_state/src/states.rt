@@ -1,15 +1,17 @@
-// The state before the first record, and the states behind one: refused, or accepted with a block open after it or with none.
+// The state before the first record, and the states behind one, with a block open after it or with none; and the list in force as scaling takes it.
 ghost use Rattle.std.specs.Prelude.{◌≡◌, Some, ◌+◌, min, T};
 ghost use Rattle.h265.specs.Range.{is_size};
-ghost use Rattle.refusal.specs.Outcome.{refused};
-ghost use Rattle.feed_rules.specs.Record.{FeedState, unchanged, counted};
+ghost use Rattle.scaling_values.specs.Given.{list_of, entries_of};
+ghost use Rattle.feed_rules.specs.Block.{list_in, list_for};
+ghost use Rattle.feed_rules.specs.Record.{counted};
 ghost use Rattle.feed_rules.specs.Feed.{beginning};
-ghost use Rattle.feed_state.specs.Buffers.{Lent, Buffered, closed, closed_in};
-ghost use Rattle.feed_state.specs.Taken.{state_of, capped, Silent};
+ghost use Rattle.feed_state.specs.Buffers.{Lent, closed, closed_in};
+ghost use Rattle.feed_state.specs.Taken.{state_of, capped};
 
-use crate::{State, Taken};
+use crate::State;
 use edited_block::EditedBlock;
-use refusal::Refusal;
+use feed_format::{List, Mode};
+use scaling_values::ScalingList;
 
 // The state before the first record.
 pub fn start() -> State
@@ -24,24 +26,26 @@ pub fn start() -> State
     }
 }
 
-pub fn kept(s: State, why: Refusal, at: usize) -> Taken
-    ensures { Silent s result at (λ (f : FeedState Buffered). refused (unchanged f) why) }
+// The list in force, or none, as scaling takes it.
+pub fn scaling_list(list: &Option<List>) -> ScalingList
+    ensures value { list_of result ≡ list_in list.now }
+    ensures entries { entries_of (list_in list.now) ≡ 64 }
 {
-    Taken {
-        answer: Err(why),
-        state: s,
-        end: at,
+    match list {
+        Some(list) => ScalingList::Listed(&list.entries, list.dc),
+        None => ScalingList::Flat,
     }
 }
 
-pub fn moved(next: State, at: usize) -> Taken
-    ensures { result ≡ record { answer = Ok tt; state = next; end = at } }
+// The list by which a block is scaled, by the one in force.
+pub fn list_for(list: &Option<List>, mode: Mode, n: usize) -> ScalingList
+    ensures value { list_of result ≡ list_for mode n (list_in list.now) }
+    ensures entries { entries_of (list_for mode n (list_in list.now)) ≡ 64 }
 {
-    Taken {
-        answer: Ok(()),
-        state: next,
-        end: at,
+    if feed_format::list_ignored(mode, n) {
+        return ScalingList::Flat;
     }
+    scaling_list(list)
 }
 
 // The offset behind a record with a body of this length; it stops before it would wrap.

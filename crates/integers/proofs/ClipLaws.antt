@@ -3,12 +3,14 @@
 --   clip3_between                     the result lies in the range
 --   clip3_idem, clip3_mono            a second limit changes nothing; the limit keeps the order
 --   clip3_within                      the result is no larger in size than the range's ends
-use mathlib.Core.Path.{◌≡◌, refl}
+--   clamp_clips, max_min_clips        std's `clamp` is the limit, and so is `max` before `min`
+use mathlib.Core.Path.{◌≡◌, refl, sym}
 use mathlib.Core.Bool.{Bool, true, false, cond}
 use Prim.Native.Nat.{ℕ}
 use native.Mathlib.Omega.{arith}
 use lib.IntN.{ℤ}
 use lib.Signed.{lt_z, ◌≤ℤ◌, ◌<ℤ◌, ≤ℤ_refl}
+use Rattle.std.specs.Int.{int_min, int_max}
 use Rattle.integers.specs.Clip.{clip3}
 use Rattle.integers.specs.Within.{Within}
 use Rattle.integers.proofs.LinearLaws.{le_in}
@@ -57,3 +59,19 @@ pub clip3_within : {b : ℕ} (lo hi x : ℤ) → lo ≤ℤ hi → Within b lo �
 clip3_within {b} lo hi x h f g =
     let e = clip3_between lo hi x h in
     within_out (clip3 lo hi x) (omega (arith, le_in e.0, le_in e.1, within_in f, within_in g))
+
+pub clamp_clips : (lo hi x : ℤ) → lo ≤ℤ hi → int_max lo (int_min x hi) ≡ clip3 lo hi x
+clamp_clips lo hi x h = by_tests (lt_z hi x) (lt_z x lo) refl refl
+  where
+    by_tests : (a b : Bool) → lt_z hi x ≡ a → lt_z x lo ≡ b → int_max lo (int_min x hi) ≡ clip3 lo hi x
+    by_tests true b e k = rw (e, lt_z_of_le h) (sym (clip3_high lo hi x (≤ℤ_trans h (<ℤ-≤ℤ (lt_z_true e))) (lt_z_true e)))
+    by_tests false true e k = rw (e, k) (sym (clip3_low lo hi x (lt_z_true k)))
+    by_tests false false e k = rw (e, k) (sym (clip3_id lo hi x (lt_z_false k) (lt_z_false e)))
+
+pub max_min_clips : (lo hi x : ℤ) → lo ≤ℤ hi → int_min (int_max lo x) hi ≡ clip3 lo hi x
+max_min_clips lo hi x h = by_tests (lt_z x lo) (lt_z hi x) refl refl
+  where
+    by_tests : (a b : Bool) → lt_z x lo ≡ a → lt_z hi x ≡ b → int_min (int_max lo x) hi ≡ clip3 lo hi x
+    by_tests true b e k = rw (e, lt_z_of_le h) (sym (clip3_low lo hi x (lt_z_true e)))
+    by_tests false true e k = rw (e, k) (sym (clip3_high lo hi x (lt_z_false e) (lt_z_true k)))
+    by_tests false false e k = rw (e, k) (sym (clip3_id lo hi x (lt_z_false e) (lt_z_false k)))

@@ -14,6 +14,7 @@ pub fn pow2(s: u32) -> i64
 }
 
 // x limited to lo .. hi.
+// Kept: `clamp` asks that lo ≤ hi, and this asks nothing; callers were promised the definition for every pair of ends.
 pub fn clip3(lo: i64, hi: i64, x: i64) -> i64
     ensures { result ≡ clip3 lo hi x }
 {
@@ -34,13 +35,9 @@ pub fn shift_right(x: i64, s: u32) -> i64
     x >> s
 }
 
-// The size of z; 64 bits hold the negation of every 32-bit number.
+// The size of z.
 pub fn magnitude(z: i32) -> u32
     ensures { result ≡ nat_abs z }
 {
-    let wide = z as i64;
-    if wide < 0 {
-        return (0 - wide) as u32;
-    }
-    wide as u32
+    z.unsigned_abs()
 }

@@ -1,20 +1,25 @@
 // A block that is opened on levels and then changed one level at a time (change request R-9).
 #![tactic(auto)]
 
+ghost use Rattle.scaling_values.specs.Given.{list_of};
 ghost use Rattle.block_rules.specs.Edit.{buffers};
-ghost use Rattle.block_rules.specs.Level.{level_edited, LevelEdits, on_levels, on_scaled_levels, level_opened, LevelOpens};
+ghost use Rattle.block_rules.specs.Level.{level_edited, LevelEdits, on_levels_by, level_opened, LevelOpens};
 
-use block_rules::{EditedBlock, Source};
+use block_rules::EditedBlock;
 pub use block_rules::{LevelsOpened, Limits};
 use block_work::columns::column_count;
 use level_work::refuse::level_refusal;
-use level_work::{coefficient_of, entries_of, looked_at};
+use level_work::{coefficient_of, looked_at, source_of};
 use parameters::QpPrime;
-use refusal::Refusal;
+use refusal::{Precision, Refusal};
+use scaling_blocks::blocks;
+use scaling_values::ScalingList;
 use transform_1d::Kind;
 
 // One level edit of an open block: sets the level, and writes the coefficient, the column count, the intermediate and the residual. A refused edit
 // changes nothing. It cannot meet 9 or 19: scaling limits.
+// Kept: the buffers apart, here and below: a struct of lent slices would have to promise for each slice that it stays the same one (its ghost_name),
+// a clause more for each.
 pub fn edit_level(
     block: &mut EditedBlock,
     levels: &mut [i32],
@@ -54,9 +59,13 @@ pub fn edit_level(
     }
     let at = row * n + column;
     levels[at] = level;
-    let scaled = coefficient_of(source, n, depth, extended, at, level);
+    let precision = Precision {
+        bit_depth: depth,
+        extended,
+    };
+    let scaled = coefficient_of(source, n, precision, at, level);
     let value = scaled.value;
-    let range = coefficients::transform_range(depth, extended);
+    let range = coefficients::transform_range(precision);
     block_work::edit_stages(
         kind, n, depth, range, coeff, inter, residual, row, column, value,
     );
@@ -67,110 +76,32 @@ pub fn edit_level(
     })
 }
 
-// Opens a block on lent levels without a list: writes its coefficients, its intermediate and its residual.
+// Opens a block on lent levels: writes its coefficients, its intermediate and its residual. The record keeps the list.
 pub fn open_levels(
     kind: Kind,
     n: usize,
-    bit_depth: u8,
-    extended_precision: bool,
+    precision: Precision,
     qp_prime: QpPrime,
+    list: ScalingList,
     levels: &[i32],
     coeff: &mut [i32],
     inter: &mut [i32],
     residual: &mut [i32],
 ) -> Result<LevelsOpened, Refusal>
-    ensures { LevelOpens (level_opened (on_levels kind n bit_depth extended_precision qp_prime.0) levels.now (buffers coeff.old inter.old residual.old)) result coeff.new inter.new residual.new }
+    ensures { LevelOpens (level_opened (on_levels_by kind n precision.bit_depth precision.extended qp_prime.0 (list_of list.entry)) levels.now (buffers coeff.old inter.old residual.old)) result coeff.new inter.new residual.new }
 {
     level_refusal(
         kind,
         n,
-        bit_depth,
-        64,
-        levels.len(),
-        coeff.len(),
-        inter.len(),
-        residual.len(),
-    )?;
-    let limited = scaling_wide::dequantize_into_scalar_i32(
-        levels,
-        n,
-        qp_prime,
-        bit_depth,
-        extended_precision,
-        coeff,
-    )?;
-    let source = Source {
-        levels: true,
-        qp_prime,
-        listed: false,
-        dc: 0,
-        entries: [0u8; 64],
-    };
-    let block = block_work::open_from(
-        kind,
-        n,
-        bit_depth,
-        extended_precision,
-        source,
-        coeff,
-        inter,
-        residual,
-    )?;
-    Ok(LevelsOpened { limited, block })
-}
-
-// The same with a list, which the record keeps.
-pub fn open_levels_scaled(
-    kind: Kind,
-    n: usize,
-    bit_depth: u8,
-    extended_precision: bool,
-    qp_prime: QpPrime,
-    list: &[u8],
-    dc: u8,
-    levels: &[i32],
-    coeff: &mut [i32],
-    inter: &mut [i32],
-    residual: &mut [i32],
-) -> Result<LevelsOpened, Refusal>
-    ensures { LevelOpens (level_opened (on_scaled_levels kind n bit_depth extended_precision qp_prime.0 list.now dc) levels.now (buffers coeff.old inter.old residual.old)) result coeff.new inter.new residual.new }
-{
-    level_refusal(
-        kind,
-        n,
-        bit_depth,
+        precision.bit_depth,
         list.len(),
         levels.len(),
         coeff.len(),
         inter.len(),
         residual.len(),
     )?;
-    let limited = scaling_wide::dequantize_scaled_into_scalar_i32(
-        levels,
-        n,
-        qp_prime,
-        bit_depth,
-        extended_precision,
-        list,
-        dc,
-        coeff,
-    )?;
-    let source = Source {
-        levels: true,
-        qp_prime,
-        listed: true,
-        dc,
-        entries: entries_of(list),
-    };
-    let block = block_work::open_from(
-        kind,
-        n,
-        bit_depth,
-        extended_precision,
-        source,
-        coeff,
-        inter,
-        residual,
-    )?;
+    let limited = blocks::dequantize(levels, n, qp_prime, precision, list, coeff)?;
+    let source = source_of(qp_prime, list);
+    let block = block_work::open_from(kind, n, precision, source, coeff, inter, residual)?;
     Ok(LevelsOpened { limited, block })
 }

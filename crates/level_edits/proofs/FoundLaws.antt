@@ -6,7 +6,6 @@
 --   params_are, params_refused   the numbers of a block that has passed it
 --   level_ask           what the search below asks
 --   level-wrote         an answer of 0: no condition holds, and both buffers are written
---   level_edits_found_flat   a block without a list is one with a list of sixteens
 use Rattle.std.specs.Prelude.{Ok, Err}
 use mathlib.Core.Path.{◌≡◌, refl, sym, ap, ap₂, subst, fun_ext, ◌∙◌}
 use mathlib.Core.Bool.{Bool, true, false}
@@ -43,10 +42,10 @@ use Rattle.transform_1d.specs.Kinds.{dst_refused}
 use Rattle.transform_1d.specs.MatrixOf.{matrix_of}
 use Rattle.scaling_values.specs.Level.{listed_level}
 use Rattle.scaling_values.proofs.LevelLaws.{listed_level_eq}
-use Rattle.scaling_blocks.specs.Blocks.{entries_of}
+use Rattle.scaling_values.specs.Given.{entries_of}
 use Rattle.level_search.specs.Work.{Invertible}
 use Rattle.least_level.proofs.LevelLaws.{inside_range}
-use Rattle.level_search.proofs.FoundLaws.{dequant_of_invertible, sixteens, sixteens_factor}
+use Rattle.level_search.proofs.FoundLaws.{dequant_of_invertible}
 use Rattle.edit_values.specs.Values.{least_where, most_where}
 use Rattle.edit_blocks.specs.Edits.{has_target}
 use Rattle.edit_search.specs.Found.{Found, left, wrote, Finds}
@@ -148,28 +147,3 @@ module _ (list : ScalingList) (kind : Kind) (n : ℕ) (q : ℤ) (b : ℕ) (x : B
         four : (k : Kind) → dst_refused k n ≡ false → k ≡ Dst → n ≡ 4
         four Dct f q = cc
         four Dst f q = eqb-true n 4 (not-false (eqb n 4) (unfold dst_refused in f))
-
--- ---- no list
-module _ (kind : Kind) (n : ℕ) (q : ℤ) (b : ℕ) (x : Bool) (levels target : List ℤ) (wanted : List ℕ) (least most : List ℤ) where
-  block_flat : T (is_size n) → (xs : List ℤ) → scaled_block sixteens n b x q xs ≡ scaled_block flat n b x q xs
-  unfolding scaled_block scaled_at scaling_factor factor_source factor_by
-  block_flat t xs =
-      let r : ℕ = transform_range b x in
-      tabulate_cong (n * n) (scaled_at sixteens n b x q xs) (scaled_at flat n b x q xs)
-      (λ i h. ap (λ (m : ℕ). scale_level r (bd_shift b (log2_size n) r) (nat_abs (clip_qp_prime b q)) m (get_or xs i (pos 0))) (sixteens_factor n i t h))
-
-  gives_flat : T (is_size n) → (i : ℕ) (v : ℤ) → level_gives sixteens kind n b x q levels target wanted i v ≡ level_gives flat kind n b x q levels target wanted i v
-  unfolding level_gives
-  gives_flat t i v = ap (λ (d : List ℤ). has_target n (residual (matrix_of kind n) n b (transform_range b x) n d) target wanted) (block_flat t (set levels i v))
-
-  pub level_edits_found_flat : level_edits_found sixteens kind n q b x levels target wanted least most ≡ level_edits_found flat kind n q b x levels target wanted least most
-  unfolding level_edits_found level_edit_ladder least_level_edit most_level_edit
-  level_edits_found_flat = by_test (size_refused n) refl
-    where
-      by_test : (t : Bool) → size_refused n ≡ t → level_edits_found sixteens kind n q b x levels target wanted least most ≡ level_edits_found flat kind n q b x levels target wanted least most
-      by_test true e = rw e
-      by_test false e =
-          let t = size_accepted n e in
-          ap₂ (λ (l m : List ℤ). level_edit_ladder (left least most) (wrote l m) kind n b 64 (length levels) (length target) (length wanted) (length least) (length most))
-          (overwrite_cong (n * n) (least_level_edit sixteens kind n b x q levels target wanted) (least_level_edit flat kind n b x q levels target wanted) least (λ i h. ap (least_where (transform_range b x)) (fun_ext (gives_flat t i))))
-          (overwrite_cong (n * n) (most_level_edit sixteens kind n b x q levels target wanted) (most_level_edit flat kind n b x q levels target wanted) most (λ i h. ap (most_where (transform_range b x)) (fun_ext (gives_flat t i))))

@@ -17,7 +17,7 @@ use Rattle.refusal.specs.Condition.{size_refused, depth_refused, list_refused, b
 use Rattle.transform_1d.specs.declared.Kind.{Kind}
 use Rattle.transform_1d.specs.Kinds.{dst_refused}
 use Rattle.transform_1d.specs.MatrixOf.{matrix_of}
-use Rattle.scaling_blocks.specs.Blocks.{entries_of}
+use Rattle.scaling_values.specs.Given.{entries_of}
 use Rattle.edit_values.specs.Values.{least_where, most_where}
 use Rattle.edit_blocks.specs.Edits.{has_target}
 use Rattle.edit_search.specs.Found.{Found, left, wrote}

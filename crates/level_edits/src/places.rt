@@ -38,6 +38,7 @@ fn first_beyond(m: u8, by: DequantParams, range: u32, end: i32, strict: bool) ->
 {
     let mut low: u32 = 0;
     let mut high: u32 = 2u32 << range;
+    // Kept: a search by halves, whose step is no index; one loop for this and the one of edit_values would take its test as a closure, with clauses longer than the loop.
     while low < high {
         let middle = (low + high) / 2;
         if beyond(m, by, range, end, strict, middle) {

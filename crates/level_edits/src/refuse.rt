@@ -7,6 +7,7 @@ use refusal::Refusal;
 use transform_1d::Kind;
 
 // The lowest row that applies, by the lengths of the buffers.
+// Kept: the conditions are edit_search's but for row 5, which stands between rows 4 and 6, so that none of the two ladders can call the other whole.
 pub(crate) fn level_edit_refusal(
     kind: Kind,
     n: usize,

@@ -30,7 +30,8 @@ use Rattle.refusal.proofs.RefusalLaws.{number_least}
 use Rattle.refusal.proofs.LadderLaws.{Rung, Passed, first, first_passed}
 use Rattle.refusal.proofs.LadderLaws.Rung.{rung}
 use Rattle.parameters.specs.Parameters.{KnownSize}
-use Rattle.scaling_blocks.specs.Blocks.{bits32, entries_of, scaling_ladder, block_written, dequantized, left_as_lent, counted}
+use Rattle.scaling_blocks.specs.Blocks.{bits32, scaling_ladder, block_written, dequantized, left_as_lent, counted}
+use Rattle.scaling_values.specs.Given.{entries_of}
 use Rattle.scaling_blocks.proofs.BlockLaws.{rungs}
 use Rattle.least_level.specs.Level.{LeastLevel}
 use Rattle.level_search.specs.Found.{scaling_at, missing_at, first_missing, least_at, block_found, levels_found, Missing}

@@ -4,22 +4,20 @@
 --   side_end_bound, nearest_size_bound   sizes stay at most 2^22
 --   sided_within, scaled_fits     so that 32 bits hold the level and what it scales to
 --   halved                        the end of the halving
---   negated_size                  the size of a number below 0, as code works it out
 --   reaches_below_is, reaches_above_is   the test of a size, by the side
 --   equal_bits                    the machine's test for equality
 use mathlib.Core.Path.{◌≡◌, refl, sym, ap, subst, ◌∙◌}
 use mathlib.Core.Bool.{Bool, true, false, not, cond}
-use Prim.Native.Nat.{ℕ, suc, ◌≤◌, ◌<◌}
+use Prim.Native.Nat.{ℕ, ◌≤◌, ◌<◌}
 use native.Mathlib.Omega.{arith}
 use borrow.Author.Tests.{eqb-true, eq-eqb, ltb-true, ltb-false}
 use lib.Dec.{eqb, ltb}
-use lib.IntN.{ℤ, pos, negsuc, neg_ℤ, nat_abs, ◌-ℤ◌, +ℤ_idl}
-use lib.Signed.{lt_z, ◌≤ℤ◌}
+use lib.IntN.{ℤ, pos, neg_ℤ, nat_abs}
+use lib.Signed.{lt_z}
 use mir.Syntax.{Width, w32}
 use mir.Val.{SFits, to_z, of_z}
 use Rattle.integers.specs.Search.{first_where}
 use Rattle.integers.specs.Within.{Within}
-use Rattle.integers.proofs.LinearLaws.{parts_add, parts_neg, parts_ext, le_in}
 use Rattle.integers.proofs.MachineLaws.{round_trip}
 use Rattle.integers.proofs.BoundLaws.{within_pos, within_neg}
 use Rattle.integers.proofs.SearchLaws.{None, first_where_first, first_where-none, first_where_found}
@@ -95,10 +93,6 @@ halved e p low high a b l n h = by_end (ltb low e) refl
         let k : e ≤ low = ltb-false low e d in
         let q : low ≡ e = omega arith in
         q ∙ sym (first_where-none e k n)
-
-pub negated_size : (z : ℤ) → z ≤ℤ pos 0 → pos 0 -ℤ z ≡ pos (nat_abs z)
-negated_size (pos n) h = parts_ext (pos 0 -ℤ pos n) (pos n) (omega (arith, le_in h, parts_add (pos 0) (neg_ℤ (pos n)), parts_neg (pos n)))
-negated_size (negsuc n) h = +ℤ_idl (pos (suc n))
 
 pub equal_bits : {w : Width} (a b : ℤ) → SFits w a → SFits w b → eqb (of_z w a) (of_z w b) ≡ equal a b
 equal_bits {w} a b f g = by_test (eqb (of_z w a) (of_z w b)) (equal a b) refl refl

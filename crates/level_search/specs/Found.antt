@@ -15,7 +15,8 @@ use Rattle.h265.specs.Scaling.{bd_shift, scale_level}
 use Rattle.h265.specs.ScalingFactor.{ScalingList, scaling_factor}
 use Rattle.refusal.specs.declared.Refusal.TheVariants.{LevelMissing}
 use Rattle.refusal.specs.Written.{Written, left, wrote}
-use Rattle.scaling_blocks.specs.Blocks.{bits32, entries_of, scaling_ladder}
+use Rattle.scaling_blocks.specs.Blocks.{bits32, scaling_ladder}
+use Rattle.scaling_values.specs.Given.{entries_of}
 use Rattle.least_level.specs.Level.{Gives, level_missing, least_level}
 
 unfoldable pub scaling_at : ScalingList → ℕ → ℕ → Bool → ℤ → ℕ → ℤ → ℤ

@@ -18,15 +18,17 @@ fn sided(x: i32, size: u32) -> i32
     size as i32
 }
 
+// Kept: `Invertible`, here and below, is what `find_levels` knows of the numbers of a block; a type for it would be opened again by each function that works by them.
+
 // The largest size on the side of x.
 fn side_end(x: i32, by: DequantParams) -> u32
     requires { Invertible by }
     ensures { result ≡ side_end by x }
 {
     if x < 0 {
-        return (0 - by.clip_min) as u32;
+        return by.clip_min.unsigned_abs() as u32;
     }
-    by.clip_max as u32
+    by.clip_max.unsigned_abs() as u32
 }
 
 // Whether the level of a size scales to x or past it.
@@ -50,6 +52,7 @@ fn nearest_size(x: i32, m: u8, by: DequantParams) -> u32
 {
     let mut low: u32 = 0;
     let mut high = side_end(x, by);
+    // Kept: the interval is halved; no index is counted.
     while low < high {
         let middle = (low + high) / 2;
         if reaches(x, middle, m, by) {

@@ -4,45 +4,39 @@
 #![tactic(auto)]
 
 use parameters::QpPrime;
-use refusal::Refusal;
+use refusal::{Precision, Refusal};
+use scaling_values::ScalingList;
 use std::io::Read;
 
 #[derive(Clone, Copy)]
 struct Case {
-    listed: bool,
     n: usize,
-    qp: i32,
-    bit_depth: u8,
-    extended: bool,
-    dc: u8,
+    qp: QpPrime,
+    precision: Precision,
+    // DC of the list, where there is one
+    dc: Option<u8>,
 }
 
 fn next_case(stdin: &mut impl Read) -> Case {
+    let listed = cases::next::<u8>(stdin) != 0;
     Case {
-        listed: cases::next::<u8>(stdin) != 0,
         n: cases::next(stdin),
-        qp: cases::next(stdin),
-        bit_depth: cases::next(stdin),
-        extended: cases::next::<u8>(stdin) != 0,
-        dc: cases::next(stdin),
+        qp: QpPrime(cases::next(stdin)),
+        precision: cases::next_precision(stdin),
+        dc: listed.then_some(cases::next(stdin)),
     }
 }
 
-fn call(case: Case, list: &[u8], coeff: &[i32], levels: &mut [i32]) -> Result<(), Refusal> {
-    let n = case.n;
-    let qp = QpPrime(case.qp);
-    let depth = case.bit_depth;
-    let extended = case.extended;
-    if case.listed {
-        return level_search::find_levels_scaled(
-            coeff, n, qp, depth, extended, list, case.dc, levels,
-        );
-    }
-    level_search::find_levels(coeff, n, qp, depth, extended, levels)
+fn call(case: Case, entries: &[u8], coeff: &[i32], levels: &mut [i32]) -> Result<(), Refusal> {
+    let list = match case.dc {
+        Some(dc) => ScalingList::Listed(entries, dc),
+        None => ScalingList::Flat,
+    };
+    level_search::find_levels(coeff, case.n, case.qp, case.precision, list, levels)
 }
 
-fn show(rt: &impl Print, case: Case, list: &[u8], coeff: &[i32], levels: &mut [i32]) {
-    cases::put_answer(rt, call(case, list, coeff, levels));
+fn show(rt: &impl Print, case: Case, entries: &[u8], coeff: &[i32], levels: &mut [i32]) {
+    cases::put_answer(rt, call(case, entries, coeff, levels));
     cases::put_all(rt, levels);
 }
 
@@ -73,9 +67,5 @@ fn replay(rt: &impl Print, stdin: &mut impl Read) -> bool {
 
 fn main(rt: HostRuntime) {
     let mut stdin = rt.stdin();
-    for _ in 0..u64::MAX {
-        if !replay(&rt, &mut stdin) {
-            break;
-        }
-    }
+    cases::replay_all(|| replay(&rt, &mut stdin));
 }

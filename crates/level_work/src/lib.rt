@@ -4,69 +4,80 @@
 ghost use Rattle.std.specs.Prelude.{◌≡◌, Bool, ◌*◌, ◌<◌, length};
 ghost use Rattle.h265.specs.ScalingFactor.{scaling_factor};
 ghost use Rattle.refusal.specs.Condition.{size_refused, depth_refused};
-ghost use Rattle.block_rules.specs.Level.{list_of, looked_at};
+ghost use Rattle.block_rules.specs.Level.{looked_at, source_by};
+ghost use Rattle.block_rules.specs.Level.{list_of as list_of_source};
+ghost use Rattle.scaling_values.specs.Given.{list_of, entries_of};
 ghost use Rattle.level_work.specs.Work.{Scaled};
 
 use block_rules::Source;
-use scaling_values::ScaledLevel;
+use parameters::QpPrime;
+use refusal::Precision;
+use scaling_values::{ScaledLevel, ScalingList};
 
 pub mod refuse;
 
 // m at an index of a block, by its source.
 pub fn factor_of(source: Source, n: usize, index: usize) -> u8
     requires { (size_refused n ≡ Bool.false) × (index < n * n) }
-    ensures { result ≡ scaling_factor (list_of source) n index }
+    ensures { result ≡ scaling_factor (list_of_source source) n index }
 {
-    let listed = source.listed;
-    let dc = source.dc;
     let entries = source.entries;
-    if listed {
-        let found = scaling::scaling_coeff(&entries, dc, n, index);
-        return match found {
-            Ok(m) => m,
-            Err(_) => 0,
-        };
-    }
-    16
+    let list = if source.listed {
+        ScalingList::Listed(&entries, source.dc)
+    } else {
+        ScalingList::Flat
+    };
+    scaling::factor_at(list, n, index)
 }
 
 // The coefficient that a level at an index gives, and what was limited.
 pub fn coefficient_of(
     source: Source,
     n: usize,
-    bit_depth: u8,
-    extended_precision: bool,
+    precision: Precision,
     index: usize,
     level: i32,
 ) -> ScaledLevel
-    requires { (size_refused n ≡ Bool.false) × (depth_refused bit_depth ≡ Bool.false) × (index < n * n) }
-    ensures { Scaled result source n bit_depth extended_precision index level }
+    requires { (size_refused n ≡ Bool.false) × (depth_refused precision.bit_depth ≡ Bool.false) × (index < n * n) }
+    ensures { Scaled result source n precision.bit_depth precision.extended index level }
 {
     let m = factor_of(source, n, index);
     let qp_prime = source.qp_prime;
-    let found = scaling::scale_level(level, m, n, qp_prime, bit_depth, extended_precision);
-    match found {
-        Ok(scaled) => scaled,
-        Err(_) => ScaledLevel {
-            value: 0,
-            level_limited: false,
-            result_limited: false,
-        },
-    }
+    scaling::scale_level(level, m, n, qp_prime, precision).unwrap()
 }
 
 // The length that row 6 looks at: of the level buffer where the block was opened on levels.
 pub fn looked_at(on: bool, levels: usize, coeff: usize) -> usize
     ensures { result ≡ looked_at on levels coeff }
 {
-    if on {
-        return levels;
+    if on { levels } else { coeff }
+}
+
+// What the record of a block keeps of what its levels are scaled by.
+pub fn source_of(qp_prime: QpPrime, list: ScalingList) -> Source
+    requires { entries_of (list_of list) ≡ 64 }
+    ensures { result ≡ source_by qp_prime.0 (list_of list.entry) }
+{
+    match list {
+        ScalingList::Flat => Source {
+            levels: true,
+            qp_prime,
+            listed: false,
+            dc: 0,
+            entries: [0u8; 64],
+        },
+        ScalingList::Listed(entries, dc) => Source {
+            levels: true,
+            qp_prime,
+            listed: true,
+            dc,
+            entries: kept(entries),
+        },
     }
-    coeff
 }
 
 // The entries of a list, for the record to keep.
-pub fn entries_of(list: &[u8]) -> [u8; 64]
+fn kept(list: &[u8]) -> [u8; 64]
     requires { length list.now ≡ 64 }
     ensures { result ≡ list.now }
 {

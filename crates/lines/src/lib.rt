@@ -54,6 +54,8 @@ fn fold<const H: usize, const M: usize>(e: &[i32; H], o: &[i32; H]) -> [i32; M]
     z
 }
 
+// Kept: a function for each size, and the bound on st of each. A line of n points calls that of n / 2, which Rust takes for no const argument,
+// and literal entries save lending a table through every line, with three facts for each read (DECISIONS 71).
 #[inline(always)]
 fn line_2<const N: usize>(x: &[i16; N], st: usize) -> [i32; 2]
     ensures { Twice 2 st x.now result }

@@ -1,22 +1,21 @@
 -- Laws of lines on values of up to 23 bits.
 --   most                       the size that no output exceeds
 --   read                       what the machine reads back of 32 bits
---   small_fits, value_fits     outputs and values fit 32 bits
+--   small_fits, value_fits, entry_fits   outputs, values and entries fit 32 bits
 --   reads_fit, reads_op        two numbers that are read and then added or subtracted
 --   sum_fits .. less_read      the same of two pairs of products, by their bounds
---   term, terms_4              literal entries and values that are read make terms
 --   below_4                    a fact of 0, 1, 2, 3 is one of each number below 4
 --   Output, outputs, outputs_4 one output, and those of a line
 --   quad_output                an output that is four products
 --   sum_output, less_output    an output that is the sum or the difference of two pairs of products
---   picked, picked_at, picked_values   four values that are read from an array
+--   picked, picked_at          four values that are read from an array
 --   outputs_dct, outputs_dst   the 4-point line of a kind of transform
 use mathlib.Core.Path.{◌≡◌, refl, sym, ap₂, subst, ◌∙◌}
 use mathlib.Core.List.{List, [], ◌∷◌}
 use Prim.Native.Nat.{ℕ, zero, suc, ◌+◌, ◌*◌, ◌^◌, ◌<◌}
 use native.Mathlib.Omega.{arith}
 use lib.Dec.{T, leb, leb→le}
-use lib.IntN.{ℤ, pos, neg_ℤ, nat_abs, ◌+ℤ◌, ◌-ℤ◌, ◌*ℤ◌}
+use lib.IntN.{ℤ, pos, neg_ℤ, ◌+ℤ◌, ◌-ℤ◌, ◌*ℤ◌}
 use lib.ListN.{get_or, length}
 use mir.Syntax.{w32}
 use mir.Val.{SFits, to_z, of_z}
@@ -27,11 +26,10 @@ use Rattle.integers.proofs.MachineLaws.{round_trip}
 use Rattle.integers.proofs.BoundLaws.{within_add, within_neg, within_le, within_eq, within_fits}
 use Rattle.h265.specs.Matrix.{trans_matrix, dst_matrix}
 use Rattle.h265.specs.Transform.{transform_line}
-use Rattle.h265.proofs.TransformLaws.{transform_line_cong}
 use Rattle.transform_1d.specs.MatrixOf.{matrix_of}
 use Rattle.transform_1d.specs.declared.Kind.{Kind}
 use Rattle.transform_1d.specs.declared.Kind.TheVariants.{Dct, Dst}
-use Rattle.lines_wide.specs.Values.{Term, WideValues, WideOutputs}
+use Rattle.lines_wide.specs.Values.{WideValues, WideOutputs}
 
 abbrev pub most : ℕ
 most = 479 * 2 ^ 22
@@ -44,6 +42,9 @@ small_fits f = within_fits {b = most} tt f
 
 pub value_fits : {z : ℤ} → Within (2 ^ 22) z → SFits w32 z
 value_fits f = within_fits {b = 2 ^ 22} tt f
+
+pub entry_fits : {z : ℤ} → Within 90 z → SFits w32 z
+entry_fits f = within_fits {b = 90} tt f
 
 module _ (op : ℤ → ℤ → ℤ) {p r : ℤ} (f : SFits w32 p) (g : SFits w32 r) (h : Within most (op p r)) where
   pub reads_fit : SFits w32 (op (read p) (read r))
@@ -78,14 +79,6 @@ module _ {m n : ℕ} {p r : ℤ} (f : Within m p) (g : Within n r) (l : T (leb (
   pub less_read : read (read p -ℤ read r) ≡ p -ℤ r
   less_read = reads_op ◌-ℤ◌ first_fits second_fits less_small
 
-pub term : {u x : ℤ} → T (leb (nat_abs u) 90) → Within (2 ^ 22) x → Term u (read x)
-term {u} t f = record { entry = record { within = leb→le (nat_abs u) 90 t }; value = within_eq (round_trip (value_fits f)) f }
-
-pub terms_4 : {u v w y a b d f : ℤ} → WideValues 4 (a ∷ b ∷ d ∷ f ∷ [])
-    → T (leb (nat_abs u) 90) → T (leb (nat_abs v) 90) → T (leb (nat_abs w) 90) → T (leb (nat_abs y) 90)
-    → Term u (read a) × Term v (read b) × Term w (read d) × Term y (read f)
-terms_4 h p q r s = (term p (h.at 0 (omega arith)), term q (h.at 1 (omega arith)), term r (h.at 2 (omega arith)), term s (h.at 3 (omega arith)))
-
 -- ---- outputs
 pub record Output (t : ℕ → ℕ → ℤ) (n : ℕ) (x : List ℤ) (j : ℕ) (z : ℤ) : Type 0 where
   pub is : z ≡ transform_line t n (λ k. get_or x k (pos 0)) j
@@ -106,17 +99,27 @@ pub outputs_4 : {t : ℕ → ℕ → ℤ} {x : List ℤ} {a b c d : ℤ}
 outputs_4 {t} {x} {a} {b} {c} {d} p q r s =
     outputs refl (below_4 (λ j. Output t 4 x j (get_or (a ∷ b ∷ c ∷ d ∷ []) j (pos 0))) p q r s)
 
-line_four : (t : ℕ → ℕ → ℤ) (a b d f : ℤ) (j : ℕ)
-    → transform_line t 4 (λ k. get_or (a ∷ b ∷ d ∷ f ∷ []) k (pos 0)) j ≡ (t 0 j *ℤ a +ℤ t 1 j *ℤ b) +ℤ (t 2 j *ℤ d +ℤ t 3 j *ℤ f)
+line_four : (t : ℕ → ℕ → ℤ) (x : List ℤ) (j : ℕ)
+    → transform_line t 4 (λ k. get_or x k (pos 0)) j
+    ≡ (t 0 j *ℤ get_or x 0 (pos 0) +ℤ t 1 j *ℤ get_or x 1 (pos 0)) +ℤ (t 2 j *ℤ get_or x 2 (pos 0) +ℤ t 3 j *ℤ get_or x 3 (pos 0))
 unfolding transform_line sum
-line_four t a b d f j = regroup (t 0 j *ℤ a) (t 1 j *ℤ b) (t 2 j *ℤ d) (t 3 j *ℤ f)
+line_four t x j = regroup (t 0 j *ℤ get_or x 0 (pos 0)) (t 1 j *ℤ get_or x 1 (pos 0)) (t 2 j *ℤ get_or x 2 (pos 0)) (t 3 j *ℤ get_or x 3 (pos 0))
   where
     regroup : (p q r s : ℤ) → pos 0 +ℤ p +ℤ q +ℤ r +ℤ s ≡ (p +ℤ q) +ℤ (r +ℤ s)
     regroup p q r s = rw (← split p, ← split q, ← split r, ← split s) (simp ring (diff_ext _ _ _ _ (omega arith)))
 
-module _ (t : ℕ → ℕ → ℤ) (j : ℕ) {a b d f : ℤ} (v : WideValues 4 (a ∷ b ∷ d ∷ f ∷ [])) where
-  abbrev values : List ℤ
-  values = a ∷ b ∷ d ∷ f ∷ []
+module _ (t : ℕ → ℕ → ℤ) (j : ℕ) {x : List ℤ} (v : WideValues 4 x) where
+  abbrev a : ℤ
+  a = get_or x 0 (pos 0)
+
+  abbrev b : ℤ
+  b = get_or x 1 (pos 0)
+
+  abbrev d : ℤ
+  d = get_or x 2 (pos 0)
+
+  abbrev f : ℤ
+  f = get_or x 3 (pos 0)
 
   at_0 : read a ≡ a
   at_0 = round_trip (value_fits (v.at 0 (omega arith)))
@@ -130,21 +133,21 @@ module _ (t : ℕ → ℕ → ℤ) (j : ℕ) {a b d f : ℤ} (v : WideValues 4 (
   at_3 : read f ≡ f
   at_3 = round_trip (value_fits (v.at 3 (omega arith)))
 
-  pub quad_output : (m : ℕ) {r : ℤ} → r ≡ (t 0 j *ℤ read a +ℤ t 1 j *ℤ read b) +ℤ (t 2 j *ℤ read d +ℤ t 3 j *ℤ read f)
-      → Within m r → T (leb m most) → Output t 4 values j (read r)
+  pub quad_output : (m : ℕ) {r : ℤ} → r ≡ (t 0 j *ℤ a +ℤ t 1 j *ℤ b) +ℤ (t 2 j *ℤ d +ℤ t 3 j *ℤ f)
+      → Within m r → T (leb m most) → Output t 4 x j (read r)
   quad_output m {r} e w l =
       let g : Within most r = within_le (leb→le m most l) w in
       let i : read r ≡ r = round_trip (small_fits g) in
-      record { is = i ∙ e ∙ rw (at_0, at_1, at_2, at_3) (sym (line_four t a b d f j)); small = within_eq i g }
+      record { is = i ∙ e ∙ sym (line_four t x j); small = within_eq i g }
 
   pub sum_output : {m n : ℕ} {p r : ℤ} → p ≡ t 0 j *ℤ read a +ℤ t 2 j *ℤ read d → r ≡ t 1 j *ℤ read b +ℤ t 3 j *ℤ read f
-      → Within m p → Within n r → T (leb (m + n) most) → Output t 4 values j (read (read p +ℤ read r))
+      → Within m p → Within n r → T (leb (m + n) most) → Output t 4 x j (read (read p +ℤ read r))
   sum_output e g h i l =
       let q = sum_read h i l in
       record {
         is =
             q ∙ ap₂ ◌+ℤ◌ e g
-            ∙ rw (at_0, at_1, at_2, at_3) (regroup (t 0 j *ℤ a) (t 1 j *ℤ b) (t 2 j *ℤ d) (t 3 j *ℤ f) ∙ sym (line_four t a b d f j));
+            ∙ rw (at_0, at_1, at_2, at_3) (regroup (t 0 j *ℤ a) (t 1 j *ℤ b) (t 2 j *ℤ d) (t 3 j *ℤ f) ∙ sym (line_four t x j));
         small = within_eq q (sum_small h i l);
       }
     where
@@ -152,13 +155,13 @@ module _ (t : ℕ → ℕ → ℤ) (j : ℕ) {a b d f : ℤ} (v : WideValues 4 (
       regroup p q r s = rw (← split p, ← split q, ← split r, ← split s) (simp ring (diff_ext _ _ _ _ (omega arith)))
 
   pub less_output : {m n : ℕ} {p r : ℤ} → p ≡ t 0 j *ℤ read a +ℤ t 2 j *ℤ read d → r ≡ neg_ℤ (t 1 j) *ℤ read b +ℤ neg_ℤ (t 3 j) *ℤ read f
-      → Within m p → Within n r → T (leb (m + n) most) → Output t 4 values j (read (read p -ℤ read r))
+      → Within m p → Within n r → T (leb (m + n) most) → Output t 4 x j (read (read p -ℤ read r))
   less_output e g h i l =
       let q = less_read h i l in
       record {
         is =
             q ∙ ap₂ ◌-ℤ◌ e g
-            ∙ rw (at_0, at_1, at_2, at_3) (regroup (t 0 j *ℤ a) (t 1 j) (t 2 j *ℤ d) (t 3 j) ∙ sym (line_four t a b d f j));
+            ∙ rw (at_0, at_1, at_2, at_3) (regroup (t 0 j *ℤ a) (t 1 j) (t 2 j *ℤ d) (t 3 j) ∙ sym (line_four t x j));
         small = within_eq q (less_small h i l);
       }
     where
@@ -179,23 +182,12 @@ module _ (i : ℕ → ℕ) {n : ℕ} {x : List ℤ} (v : WideValues n x) (h : (k
       at : (k : ℕ) → k < 4 → read (get_or x (i k) (pos 0)) ≡ get_or x (i k) (pos 0)
       at k l = round_trip (value_fits (v.at (i k) (h k l)))
 
-  pub picked_values : WideValues 4 (picked i x)
-  picked_values = record { at = λ k l. within_eq (picked_at k l) (v.at (i k) (h k l)) }
-
 -- ---- the four-point line by its kind
-module _ {x r : List ℤ} (v : WideValues 4 x) where
-  of_picked : {t : ℕ → ℕ → ℤ} → WideOutputs t 4 (picked (λ k. k) x) r → WideOutputs t 4 x r
-  of_picked {t} w =
-      record {
-        long = w.long;
-        output = λ j l. w.output j l ∙ transform_line_cong t 4 _ (λ k. get_or x k (pos 0)) j (picked_at (λ k. k) v (λ k m. m));
-        bound = w.bound;
-      }
-
-  pub outputs_dct : {kind : Kind} → kind ≡ Dct → WideOutputs (trans_matrix 4) 4 (picked (λ k. k) x) r → WideOutputs (matrix_of kind 4) 4 x r
+module _ {x r : List ℤ} where
+  pub outputs_dct : {kind : Kind} → kind ≡ Dct → WideOutputs (trans_matrix 4) 4 x r → WideOutputs (matrix_of kind 4) 4 x r
   unfolding matrix_of
-  outputs_dct e w = subst (λ (κ : Kind). WideOutputs (matrix_of κ 4) 4 x r) (sym e) (of_picked w)
+  outputs_dct e w = subst (λ (κ : Kind). WideOutputs (matrix_of κ 4) 4 x r) (sym e) w
 
-  pub outputs_dst : {kind : Kind} → kind ≡ Dst → WideOutputs dst_matrix 4 (picked (λ k. k) x) r → WideOutputs (matrix_of kind 4) 4 x r
+  pub outputs_dst : {kind : Kind} → kind ≡ Dst → WideOutputs dst_matrix 4 x r → WideOutputs (matrix_of kind 4) 4 x r
   unfolding matrix_of
-  outputs_dst e w = subst (λ (κ : Kind). WideOutputs (matrix_of κ 4) 4 x r) (sym e) (of_picked w)
+  outputs_dst e w = subst (λ (κ : Kind). WideOutputs (matrix_of κ 4) 4 x r) (sym e) w

@@ -4,19 +4,22 @@
 --   put_same, put_other           a place after a list was put at it, and every other place
 --   freed_same, freed_other       the same after it was freed
 --   entries_part                  the entries of a place as a part of the list
---   PutUpTo, put-none, -more, -length, -all   the invariant of the loop that puts a list at a place, and its needs
+--   part_is                       the same where the place starts
+--   put_whole                      flag, DC and entries put at a place
 use mathlib.Core.Path.{◌≡◌, refl, sym, ap, ap₂, ◌∙◌}
 use mathlib.Core.Bool.{Bool, true, false, cond}
-use mathlib.Core.List.{List, ◌∷◌, ◌++◌}
+use mathlib.Core.List.{List, [], ◌∷◌, ◌++◌}
 use mathlib.Core.Logic.{◌⊎◌, inl, inr}
 use Prim.Native.Nat.{ℕ, suc, ◌+◌, ◌-◌, ◌*◌, ◌≤◌, ◌<◌}
 use native.Mathlib.Nat.{add-zero}
-use native.Mathlib.Numerals.{add-one}
 use native.Mathlib.Omega.{arith}
+use Rattle.std.proofs.lemmas.List.{append_assoc}
+use Rattle.std.proofs.lemmas.Slice.{put_mid-paste}
 use borrow.Author.Tests.{ltb-true, ltb-false}
+use borrow.Rule.Slice.PartMut.{put_mid}
 use lib.Dec.{eqb, ltb}
-use lib.ListN.{length, get_or, take, drop, set, length-set, length-take, length-drop, get_or-append}
-use lib.Seq.{paste, paste-zero, paste-suc, length-paste, take-paste, drop-paste, take-take, drop-drop, take_at, get_or-take, get_or-drop, get_or-append-add, get_or-set_same, get_or-set_other, length-take-le, ext_get_or}
+use lib.ListN.{length, get_or, take, drop, set, length-take, length-drop, get_or-append}
+use lib.Seq.{paste, paste-zero, paste-suc, take-paste, drop-paste, drop-drop, get_or-take, get_or-drop, get_or-append-add, get_or-set_same, get_or-set_other, length-take-le, ext_get_or}
 use Rattle.integers.specs.Lists.{tabulate}
 use Rattle.integers.proofs.ListsLaws.{tabulate_cong, tabulate-length, tabulate-get_or}
 use Rattle.list_places.specs.Stream.{Place}
@@ -97,30 +100,7 @@ module _ (table : List ℕ) (p : ℕ) (room : 66 * p + 66 ≤ length table) wher
       place_at_cong (set table (66 * p) 0) table q (λ k a b. get_or-set_other table (66 * p) k 0 0 (λ e. omega (arith, h, e)))
 
 -- a part that was put up to some element, and then as a whole
-paste_again : (xs : List ℕ) (at : ℕ) (vs : List ℕ) (j n : ℕ) → j ≤ n → at + n ≤ length xs → n ≤ length vs → paste (paste xs at vs j) at vs n ≡ paste xs at vs n
-paste_again xs at vs j n l room long = ap₂ (λ (a b : List ℕ). a ++ take n vs ++ b) front back
-  where
-    front : take at (paste xs at vs j) ≡ take at xs
-    front =
-        sym (take-take at (at + j) (paste xs at vs j) (omega arith))
-        ∙ ap (take at) (take-paste xs at vs j (omega arith) (omega arith))
-        ∙ take_at (take at xs) (take j vs) at (length-take-le at xs (omega arith))
-
-    back : drop (at + n) (paste xs at vs j) ≡ drop (at + n) xs
-    back =
-        let e : at + j + (n - j) ≡ at + n = omega arith in
-        rw (← e)
-        (sym (drop-drop (n - j) (at + j) (paste xs at vs j))
-        ∙ ap (drop (n - j)) (drop-paste xs at vs j (omega arith) (omega arith))
-        ∙ drop-drop (n - j) (at + j) xs)
-
--- of a list that has flag and DC of a place: i entries are in their places too
-pub record PutUpTo (xs : List ℕ) (at : ℕ) (list : List ℕ) (dc : ℕ) (ys : List ℕ) (i : ℕ) : Type 0 where
-  pub is : ys ≡ paste xs at (1 ∷ dc ∷ list) (suc (suc i))
-  pub within : i ≤ 64
-  pub room : at + 66 ≤ length xs
-  pub long : length list ≡ 64
-
+-- a list and its DC, put at a place: flag and DC first, then the entries
 module _ (xs : List ℕ) (at : ℕ) (list : List ℕ) (dc : ℕ) (room : at + 66 ≤ length xs) (long : length list ≡ 64) where
   more : (j : ℕ) (ys : List ℕ) (v k : ℕ) → j < 66 → ys ≡ paste xs at (1 ∷ dc ∷ list) j → v ≡ get_or (1 ∷ dc ∷ list) j 0 → k ≡ at + j
       → set ys k v ≡ paste xs at (1 ∷ dc ∷ list) (suc j)
@@ -129,41 +109,35 @@ module _ (xs : List ℕ) (at : ℕ) (list : List ℕ) (dc : ℕ) (room : at + 66
   begun : set (set xs at 1) (at + 1) dc ≡ paste xs at (1 ∷ dc ∷ list) 2
   begun = more 1 (set xs at 1) dc (at + 1) (omega arith) (more 0 xs 1 at (omega arith) (paste-zero xs at (1 ∷ dc ∷ list)) refl (omega arith)) refl refl
 
-  again : (n : ℕ) → 2 ≤ n → n ≤ 66 → paste (set (set xs at 1) (at + 1) dc) at (1 ∷ dc ∷ list) n ≡ paste xs at (1 ∷ dc ∷ list) n
-  again n h l = ap (λ (ys : List ℕ). paste ys at (1 ∷ dc ∷ list) n) begun ∙ paste_again xs at (1 ∷ dc ∷ list) 2 n h (omega arith) (omega arith)
+  front : take (at + 2) (set (set xs at 1) (at + 1) dc) ≡ take at xs ++ (1 ∷ dc ∷ [])
+  front = ap (take (at + 2)) begun ∙ take-paste xs at (1 ∷ dc ∷ list) 2 (omega arith) (omega arith)
 
-  pub put-none : PutUpTo (set (set xs at 1) (at + 1) dc) at list dc (set (set xs at 1) (at + 1) dc) 0
-  put-none = record { is = begun ∙ sym (again 2 (omega arith) (omega arith)); within = omega arith; room = simp length-set room; long = long }
+  back : drop (at + 2 + 64) (set (set xs at 1) (at + 1) dc) ≡ drop (at + 66) xs
+  back =
+      sym (drop-drop 64 (at + 2) (set (set xs at 1) (at + 1) dc))
+      ∙ ap (λ (ys : List ℕ). drop 64 (drop (at + 2) ys)) begun
+      ∙ ap (drop 64) (drop-paste xs at (1 ∷ dc ∷ list) 2 (omega arith) (omega arith))
+      ∙ drop-drop 64 (at + 2) xs
+      ∙ ap (λ (k : ℕ). drop k xs) (omega arith)
 
-  pub put_all : (ys : List ℕ) (i : ℕ) → PutUpTo (set (set xs at 1) (at + 1) dc) at list dc ys i → 64 ≤ i → ys ≡ paste xs at (1 ∷ dc ∷ list) 66
-  put_all ys i s h =
-      let e : i ≡ 64 = omega (arith, s.within) in
-      s.is ∙ ap (λ (k : ℕ). paste (set (set xs at 1) (at + 1) dc) at (1 ∷ dc ∷ list) (suc (suc k))) e ∙ again 66 (omega arith) (omega arith)
-
-module _ {xs : List ℕ} {at : ℕ} {list : List ℕ} {dc : ℕ} {ys : List ℕ} {i : ℕ} (s : PutUpTo xs at list dc ys i) where
-  pub put-length : length ys ≡ length xs
-  put-length =
-      ap length s.is ∙ length-paste xs at (1 ∷ dc ∷ list) (suc (suc i)) (omega (arith, s.within, s.room)) (omega (arith, s.within, s.long))
-
-  pub put_more : i < 64 → PutUpTo xs at list dc (set ys (at + 2 + i) (get_or list i 0)) (i + 1)
-  put_more h =
-      let e : set ys (at + 2 + i) (get_or list i 0) ≡ paste xs at (1 ∷ dc ∷ list) (suc (suc (suc i))) =
-      more xs at list dc s.room s.long (suc (suc i)) ys (get_or list i 0) (at + 2 + i) (omega arith) s.is refl (omega arith) in
-      record { is = e ∙ ap (λ (k : ℕ). paste xs at (1 ∷ dc ∷ list) (suc (suc k))) (sym (add-one i)); within = omega arith; room = s.room; long = s.long }
+  pub put_whole : {part : List ℕ} → part ≡ list → put_mid (at + 2) (at + 66 - (at + 2)) (set (set xs at 1) (at + 1) dc) part ≡ paste xs at (1 ∷ dc ∷ list) 66
+  put_whole {part} e =
+      put_mid-paste (at + 2) (at + 66 - (at + 2)) (set (set xs at 1) (at + 1) dc) part list 64 e (omega arith) (sym long)
+      ∙ ap₂ (λ (a b : List ℕ). a ++ take 64 list ++ b) front back
+      ∙ ap (λ (ys : List ℕ). ys ++ drop (at + 66) xs) (append_assoc (take at xs) (1 ∷ dc ∷ []) (take 64 list))
 
 -- the entries of a place, where they stand
-entries_is : (table : List ℕ) (p : ℕ) → 66 * p + 66 ≤ length table → take 64 (drop (66 * p + 2) table) ≡ entries_at table p
-unfolding entries_at
-entries_is table p room =
-    ext_get_or 0 (take 64 (drop (66 * p + 2) table)) _ (long ∙ sym (tabulate-length 64 (λ j. get_or table (66 * p + 2 + j) 0)))
-    (λ i h. at i (rw long at h))
+pub part_is : (table : List ℕ) (at : ℕ) → at + 66 ≤ length table → take (at + 66 - (at + 2)) (drop (at + 2) table) ≡ tabulate 64 (λ j. get_or table (at + 2 + j) 0)
+part_is table at room =
+    let k : at + 66 - (at + 2) ≡ 64 = omega arith in
+    rw k (ext_get_or 0 (take 64 (drop (at + 2) table)) _ (long ∙ sym (tabulate-length 64 (λ j. get_or table (at + 2 + j) 0))) (λ i h. each i (rw long at h)))
   where
-    long : length (take 64 (drop (66 * p + 2) table)) ≡ 64
+    long : length (take 64 (drop (at + 2) table)) ≡ 64
     long = simp (length-take, length-drop) (omega arith)
 
-    at : (i : ℕ) → i < 64 → get_or (take 64 (drop (66 * p + 2) table)) i 0 ≡ get_or (entries_at table p) i 0
-    at i h = get_or-take 64 (drop (66 * p + 2) table) i 0 h ∙ get_or-drop (66 * p + 2) table i 0 ∙ sym (tabulate-get_or 64 (λ j. get_or table (66 * p + 2 + j) 0) i 0 h)
+    each : (i : ℕ) → i < 64 → get_or (take 64 (drop (at + 2) table)) i 0 ≡ get_or (tabulate 64 (λ j. get_or table (at + 2 + j) 0)) i 0
+    each i h = get_or-take 64 (drop (at + 2) table) i 0 h ∙ get_or-drop (at + 2) table i 0 ∙ sym (tabulate-get_or 64 (λ j. get_or table (at + 2 + j) 0) i 0 h)
 
 pub entries_part : (table : List ℕ) (p at : ℕ) → at ≡ 66 * p → at + 66 ≤ length table → take (at + 66 - (at + 2)) (drop (at + 2) table) ≡ entries_at table p
-entries_part table p at e room =
-    let f : at + 66 - (at + 2) ≡ 64 = omega arith in rw (f, e) (entries_is table p (omega arith))
+unfolding entries_at
+entries_part table p at e room = rw (← e) (part_is table at room)

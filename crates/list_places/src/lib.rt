@@ -5,11 +5,17 @@
 ghost use Rattle.std.specs.Prelude.{◌≡◌, ◌∷◌, ◌+◌, ◌*◌, ◌≤◌, ◌<◌, length, get_or};
 ghost use Rattle.std.proofs.Math.Seq.{paste};
 ghost use Rattle.integers.specs.Lists.{overwrite};
+ghost use Rattle.h265.specs.ScalingFactor.ScalingList.{listed};
 ghost use Rattle.refusal.specs.Outcome.{answer};
+ghost use Rattle.scaling_values.specs.Given.{list_of};
 ghost use Rattle.list_places.specs.Stream.{missing, lowest_free, number_answer};
 ghost use Rattle.list_places.specs.Table.{entries_at, stream_of, short};
 
 use refusal::Refusal;
+use scaling_values::ScalingList;
+
+// Kept: table, stream and number stand apart here and in the crates above, as C gives them. Some calls change the table and some lend it, so that a struct
+// with it would stand twice; that it has 24 places, and that the number is one, is tested once for each call.
 
 // The first byte of a number's place.
 pub fn start_of(stream: usize, number: usize) -> usize
@@ -59,6 +65,7 @@ pub fn lowest_free(table: &[u8], stream: usize) -> usize
     12
 }
 
+// Kept: list and DC stand apart, since a list to store is never none, as a `ScalingList` may be.
 // A list and its DC, put at a place that starts at `at`.
 pub fn put_place(table: &mut [u8], at: usize, list: &[u8], dc: u8)
     requires { (at + 66 ≤ length table.old) × (length list.now ≡ 64) }
@@ -66,9 +73,7 @@ pub fn put_place(table: &mut [u8], at: usize, list: &[u8], dc: u8)
 {
     table[at] = 1;
     table[at + 1] = dc;
-    for i in 0..64 {
-        table[at + 2 + i] = list[i];
-    }
+    table[at + 2..at + 66].copy_from_slice(list);
 }
 
 // The entries of a place that starts at `at`, at the start of a lent list.
@@ -76,24 +81,14 @@ pub fn entries_out(table: &[u8], at: usize, out: &mut [u8])
     requires { (at + 66 ≤ length table.now) × (64 ≤ length out.old) }
     ensures { out.new ≡ overwrite 64 (λ j. get_or table.now (at + 2 + j) 0) out.old }
 {
-    for i in 0..64 {
-        out[i] = table[at + 2 + i];
-    }
+    out[..64].copy_from_slice(&table[at + 2..at + 66]);
 }
 
-// The entries of a number, where they stand.
-pub fn entries<'a>(table: &'a [u8], stream: usize, number: usize) -> &'a [u8]
+// The list and the DC of a number, where they stand.
+pub fn scaling_list<'a>(table: &'a [u8], stream: usize, number: usize) -> ScalingList<'a>
     requires { (1584 ≤ length table.now) × (stream < 2) × (number < 12) }
-    ensures { result.now ≡ entries_at table.now (12 * stream + number) }
+    ensures { list_of result ≡ listed (entries_at table.now (12 * stream + number)) (get_or table.now (66 * (12 * stream + number) + 1) 0) }
 {
     let at = start_of(stream, number);
-    &table[at + 2..at + 66]
-}
-
-// The DC of a number.
-pub fn dc_at(table: &[u8], stream: usize, number: usize) -> u8
-    requires { (1584 ≤ length table.now) × (stream < 2) × (number < 12) }
-    ensures { result ≡ get_or table.now (66 * (12 * stream + number) + 1) 0 }
-{
-    table[start_of(stream, number) + 1]
+    ScalingList::Listed(&table[at + 2..at + 66], table[at + 1])
 }

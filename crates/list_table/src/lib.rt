@@ -8,6 +8,7 @@ ghost use Rattle.list_table.specs.Answers.{Stores, Drops, Finds};
 
 use refusal::Refusal;
 
+// Kept: list and DC stand apart, since a list to store is never none, as a `ScalingList` may be.
 // Stores a list and its DC under the lowest free number of a stream.
 pub fn store_list(table: &mut [u8], stream: usize, list: &[u8], dc: u8) -> Result<usize, Refusal>
     ensures { Stores result table.new table.old stream list.now dc }

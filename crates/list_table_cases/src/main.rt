@@ -4,28 +4,61 @@
 // tests/list_table_cases.py writes calls and text.
 #![tactic(auto)]
 
-ghost use Rattle.std.specs.Prelude.{◌≤◌};
-
+use calls::Asked;
+use function::{Amiss, Function, UnknownNumber};
+use parameters::QpPrime;
+use refusal::Precision;
 use std::io::Read;
 
 mod calls;
+mod function;
 mod lines;
 
-fn wide(byte: u8) -> usize
-    ensures { result ≤ 255 }
-{
-    byte as usize
+// A call by its bytes; `dc` is the size too of a block that is scaled.
+#[derive(Clone, Copy)]
+struct Call {
+    function: Function,
+    amiss: Amiss,
+    from: u8,
+    long: u8,
+    dc: u8,
+    asked: Asked,
 }
 
-fn signed(byte: u8) -> i32 {
-    byte as i32
-}
+impl TryFrom<[u8; 10]> for Call {
+    type Error = UnknownNumber;
 
-fn named(byte: u8) -> usize {
-    if byte == 255 {
-        return usize::MAX;
+    fn try_from(bytes: [u8; 10]) -> Result<Call, UnknownNumber> {
+        let [
+            function,
+            stream,
+            number,
+            from,
+            long,
+            dc,
+            amiss,
+            qp,
+            bit_depth,
+            extended,
+        ] = bytes;
+        Ok(Call {
+            function: Function::try_from(function)?,
+            amiss: Amiss::try_from(amiss)?,
+            from,
+            long,
+            dc,
+            asked: Asked {
+                stream: cases::named(stream),
+                number: cases::named(number),
+                n: dc as usize,
+                qp: QpPrime(qp as i32),
+                precision: Precision {
+                    bit_depth,
+                    extended: extended == 1,
+                },
+            },
+        })
     }
-    byte as usize
 }
 
 // Some levels, among them both ends of 16 bits and of 32.
@@ -49,43 +82,48 @@ fn level(i: usize) -> i32 {
 }
 
 fn fill(levels: &mut [i32]) {
-    let mut i = 0;
-    while i < levels.len() {
+    for i in 0..levels.len() {
         levels[i] = level(i);
-        i += 1;
     }
 }
 
-fn call(rt: &impl Print, r: [u8; 10], table: &mut [u8], pattern: &[u8], levels: &[i32]) {
-    let which = r[0];
-    let stream = named(r[1]);
-    let number = named(r[2]);
-    match which {
-        0 => calls::store(rt, table, stream, pattern, wide(r[3]), wide(r[4]), r[5]),
-        1 => calls::drop(rt, table, stream, number),
-        2 => calls::look(rt, table, stream, number, wide(r[4])),
-        _ => calls::scale(
-            rt,
-            which,
-            r[6],
-            table,
-            calls::Asked {
-                stream,
-                number,
-                n: wide(r[5]),
-                qp: signed(r[7]),
-                bit_depth: r[8],
-                extended: r[9] == 1,
-            },
-            levels,
-        ),
+// Kept: lent buffers, which a struct would only carry to the call; so below.
+fn make(rt: &impl Print, call: Call, table: &mut [u8], pattern: &[u8], levels: &[i32]) {
+    let asked = call.asked;
+    let amiss = call.amiss;
+    match call.function {
+        Function::Store => {
+            calls::store(
+                rt,
+                table,
+                asked.stream,
+                pattern,
+                call.from,
+                call.long,
+                call.dc,
+            )
+        }
+        Function::Drop => calls::drop(rt, table, asked.stream, asked.number),
+        Function::Look => calls::look(rt, table, asked.stream, asked.number, call.long),
+        Function::Wide(what) => {
+            let mut out = [7i32; 1025];
+            calls::scale(rt, what, amiss, table, asked, levels, &mut out);
+        }
+        Function::Narrow(what) => {
+            let mut out = [7i16; 1025];
+            calls::scale(rt, what, amiss, table, asked, levels, &mut out);
+        }
     }
 }
 
-// On a table that is too short, with every place held.
-fn short_call(rt: &impl Print, r: [u8; 10], pattern: &[u8], levels: &[i32]) {
-    let mut table = [1u8; 1583];
-    call(rt, r, &mut table, pattern, levels);
+// A call on the table, or on one that is too short, which has every place held.
+fn make_on(rt: &impl Print, call: Call, table: &mut [u8], pattern: &[u8], levels: &[i32]) {
+    let mut short = [1u8; 1583];
+    match call.amiss {
+        Amiss::ShortTable => make(rt, call, &mut short, pattern, levels),
+        _ => make(rt, call, table, pattern, levels),
+    }
+    cases::put_end(rt);
 }
 
 // One call; answers whether there was one.
@@ -96,17 +134,14 @@ fn turn(
     pattern: &[u8],
     levels: &[i32],
 ) -> bool {
-    let mut r = [0u8; 10];
-    if streams::read_full(stdin, &mut r) < 10 {
+    let mut bytes = [0u8; 10];
+    if streams::read_full(stdin, &mut bytes) < 10 {
         return false;
     }
-    if r[6] == calls::SHORT_TABLE {
-        short_call(rt, r, pattern, levels);
-        lines::end(rt);
-        return true;
-    }
-    call(rt, r, table, pattern, levels);
-    lines::end(rt);
+    let Ok(call) = Call::try_from(bytes) else {
+        return false;
+    };
+    make_on(rt, call, table, pattern, levels);
     true
 }
 
@@ -118,14 +153,13 @@ fn replay(
     pattern: &[u8],
     levels: &[i32],
 ) {
-    let mut going = true;
-    let mut turns = u64::MAX;
-    while turns > 0 && going {
-        going = turn(rt, stdin, table, pattern, levels);
-        turns -= 1;
+    for _ in 0..u64::MAX {
+        if !turn(rt, stdin, table, pattern, levels) {
+            break;
+        }
     }
-    lines::put_bytes(rt, table);
-    lines::end(rt);
+    cases::put_each(rt, table);
+    cases::put_end(rt);
 }
 
 fn main(rt: HostRuntime) {

@@ -1,4 +1,5 @@
 // The inverse transforms.
+// Kept: what is replayed are the functions that C gets, each under its own name.
 use crate::function::Transform;
 use crate::{Case, run_listed, run_short};
 use std::io::Read;

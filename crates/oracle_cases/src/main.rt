@@ -17,6 +17,7 @@ mod function; // the functions by their numbers
 mod inverted;
 mod scaled;
 
+// Kept: depth and flag stand apart, as C hands them over.
 // `byte` is DC or m, `qp` is QP or QP', `count` the column count or an index.
 #[derive(Clone, Copy)]
 struct Case {
@@ -150,6 +151,7 @@ where
 }
 
 // A transform 16 bits wide, which has no list.
+// Kept: one function for both would need a flag for the list that is not in these cases.
 fn run_short<F>(rt: &impl Print, stdin: &mut impl Read, call: F)
 where
     F: FnOnce(&[i16], &mut [i16]) -> Answered,

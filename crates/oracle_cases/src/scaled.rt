@@ -1,4 +1,5 @@
 // The functions that scale a block.
+// Kept: what is replayed are the functions that C gets, each under its own name.
 use crate::function::Scale;
 use crate::{Case, run_listed};
 use std::io::Read;

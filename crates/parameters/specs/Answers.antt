@@ -1,7 +1,6 @@
--- Each answer of this crate as number, place and values, which are zeros on refusal.
---   number_outcome, qp_prime_outcome, dequant_outcome, transform_skip_outcome   one for each enum
-use Rattle.std.specs.Prelude.{ℕ, pos}
-use Rattle.refusal.specs.Outcome.{Outcome, accepted, refused}
+-- What stands for each answer of this crate where the call is refused: zeros.
+--   no_qp_prime, no_dequant, no_transform_skip
+use Rattle.std.specs.Prelude.{pos}
 use Rattle.parameters.specs.declared.QpPrime.{QpPrime}
 use Rattle.parameters.specs.declared.DequantParams.{DequantParams}
 use Rattle.parameters.specs.declared.TransformSkipParams.{TransformSkipParams}

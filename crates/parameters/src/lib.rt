@@ -8,7 +8,7 @@ ghost use Rattle.refusal.specs.Outcome.{outcome};
 ghost use Rattle.parameters.specs.Answers.{no_qp_prime, no_dequant, no_transform_skip};
 ghost use Rattle.parameters.specs.Parameters.{max_log2_transform_dynamic_range, qp_bd_offset_of, qp_prime_of, dequant_of, dequant_params, ts_add, transform_skip_of, transform_skip_params, KnownSize};
 
-use refusal::Refusal;
+use refusal::{Precision, Refusal};
 
 // A quantization parameter, and the same with the depth's offset: code that scales takes the second.
 #[derive(Clone, Copy)]
@@ -48,6 +48,7 @@ fn log2_of_size(n: usize) -> u32
     }
 }
 
+// Kept: each entry point tests the depth and makes one call behind the test; a type for a depth that passed would be opened again at once.
 fn offset_of(bit_depth: u8) -> u32
     requires { (8 ≤ bit_depth) × (bit_depth ≤ 16) }
     ensures { result ≡ qp_bd_offset bit_depth }
@@ -55,19 +56,13 @@ fn offset_of(bit_depth: u8) -> u32
     (6 * (bit_depth - 8)) as u32
 }
 
-// QP with the offset, limited: tested before the sum, which could wrap.
+// QP with the offset, limited: before the sum, which could wrap.
 fn qp_prime_of(qp: i32, bit_depth: u8) -> i32
     requires { (8 ≤ bit_depth) × (bit_depth ≤ 16) }
     ensures { result ≡ qp_prime bit_depth qp }
 {
     let offset = offset_of(bit_depth) as i32;
-    if 51 < qp {
-        return 51 + offset;
-    }
-    if qp < 0 - offset {
-        return 0;
-    }
-    qp + offset
+    qp.clamp(0 - offset, 51) + offset
 }
 
 // QP' limited, as an unsigned number.
@@ -76,13 +71,7 @@ fn limited_qp(qp_prime: i32, bit_depth: u8) -> u32
     ensures { result ≡ nat_abs (clip_qp_prime bit_depth qp_prime) }
 {
     let top = 51 + 6 * (bit_depth - 8);
-    if qp_prime < 0 {
-        return 0;
-    }
-    if (top as i32) < qp_prime {
-        return top as u32;
-    }
-    qp_prime as u32
+    qp_prime.clamp(0, top as i32) as u32
 }
 
 // level_scale[QP' mod 6] × 2^(QP' div 6), for a limited QP'.
@@ -94,16 +83,17 @@ fn scale_of_qp(qp: u32) -> i64
     LEVEL_SCALE[k] * integers::pow2(qp / 6)
 }
 
-fn params_of(log2n: u32, qp_prime: i32, bit_depth: u8, extended_precision: bool) -> DequantParams
-    requires { KnownSize log2n bit_depth }
-    ensures { result ≡ dequant_of log2n qp_prime bit_depth extended_precision }
+// Kept: `KnownSize` is what the tests of two entry points give; a type for it would be opened again at once.
+fn params_of(log2n: u32, qp_prime: i32, precision: Precision) -> DequantParams
+    requires { KnownSize log2n precision.bit_depth }
+    ensures { result ≡ dequant_of log2n qp_prime precision.bit_depth precision.extended }
 {
-    let range = coefficients::transform_range(bit_depth, extended_precision);
-    let shift = (bit_depth as u32) + log2n + 10 - range;
+    let range = coefficients::transform_range(precision);
+    let shift = (precision.bit_depth as u32) + log2n + 10 - range;
     let half = integers::pow2(shift - 1);
     let end = integers::pow2(range);
     DequantParams {
-        factor: 16 * scale_of_qp(limited_qp(qp_prime, bit_depth)),
+        factor: 16 * scale_of_qp(limited_qp(qp_prime, precision.bit_depth)),
         add: half,
         shift,
         clip_min: 0 - end,
@@ -112,6 +102,7 @@ fn params_of(log2n: u32, qp_prime: i32, bit_depth: u8, extended_precision: bool)
 }
 
 // 2^(t-1) where t > 0, else 0.
+// Kept: these are the definition's two cases, and no method of std has them.
 fn skip_add(t: i32) -> i32
     requires { nat_abs t ≤ 30 }
     ensures { result ≡ ts_add t }
@@ -122,18 +113,13 @@ fn skip_add(t: i32) -> i32
     0
 }
 
-fn skip_params_of(
-    log2n: u32,
-    qp_prime: i32,
-    bit_depth: u8,
-    extended_precision: bool,
-) -> TransformSkipParams
-    requires { KnownSize log2n bit_depth }
-    ensures { result ≡ transform_skip_of log2n qp_prime bit_depth extended_precision }
+fn skip_params_of(log2n: u32, qp_prime: i32, precision: Precision) -> TransformSkipParams
+    requires { KnownSize log2n precision.bit_depth }
+    ensures { result ≡ transform_skip_of log2n qp_prime precision.bit_depth precision.extended }
 {
-    let dequant = params_of(log2n, qp_prime, bit_depth, extended_precision);
-    let range = coefficients::transform_range(bit_depth, extended_precision);
-    let tr_shift = (range as i32) - (((bit_depth as u32) + log2n) as i32);
+    let dequant = params_of(log2n, qp_prime, precision);
+    let range = coefficients::transform_range(precision);
+    let tr_shift = (range as i32) - (((precision.bit_depth as u32) + log2n) as i32);
     TransformSkipParams {
         dequant,
         tr_add: skip_add(tr_shift),
@@ -142,16 +128,13 @@ fn skip_params_of(
 }
 
 // R: coefficients lie in -2^R .. 2^R - 1.
-pub fn max_log2_transform_dynamic_range(
-    bit_depth: u8,
-    extended_precision: bool,
-) -> Result<u32, Refusal>
-    ensures { outcome 0 result ≡ max_log2_transform_dynamic_range bit_depth extended_precision }
+pub fn max_log2_transform_dynamic_range(precision: Precision) -> Result<u32, Refusal>
+    ensures { outcome 0 result ≡ max_log2_transform_dynamic_range precision.bit_depth precision.extended }
 {
-    if refusal::depth_refused(bit_depth) {
+    if refusal::depth_refused(precision.bit_depth) {
         return Err(Refusal::DepthInvalid);
     }
-    Ok(coefficients::transform_range(bit_depth, extended_precision))
+    Ok(coefficients::transform_range(precision))
 }
 
 // What QP' is above QP.
@@ -179,36 +162,34 @@ pub fn qp_prime(qp: Qp, bit_depth: u8) -> Result<QpPrime, Refusal>
 pub fn dequant_params(
     n: usize,
     qp_prime: QpPrime,
-    bit_depth: u8,
-    extended_precision: bool,
+    precision: Precision,
 ) -> Result<DequantParams, Refusal>
-    ensures { outcome no_dequant result ≡ dequant_params n qp_prime.0 bit_depth extended_precision }
+    ensures { outcome no_dequant result ≡ dequant_params n qp_prime.0 precision.bit_depth precision.extended }
 {
     if refusal::size_refused(n) {
         return Err(Refusal::SizeInvalid);
     }
-    if refusal::depth_refused(bit_depth) {
+    if refusal::depth_refused(precision.bit_depth) {
         return Err(Refusal::DepthInvalid);
     }
     let log2n = log2_of_size(n);
-    Ok(params_of(log2n, qp_prime.0, bit_depth, extended_precision))
+    Ok(params_of(log2n, qp_prime.0, precision))
 }
 
 // The same, with the shift of transform skip and its rounding.
 pub fn transform_skip_params(
     n: usize,
     qp_prime: QpPrime,
-    bit_depth: u8,
-    extended_precision: bool,
+    precision: Precision,
 ) -> Result<TransformSkipParams, Refusal>
-    ensures { outcome no_transform_skip result ≡ transform_skip_params n qp_prime.0 bit_depth extended_precision }
+    ensures { outcome no_transform_skip result ≡ transform_skip_params n qp_prime.0 precision.bit_depth precision.extended }
 {
     if refusal::size_refused(n) {
         return Err(Refusal::SizeInvalid);
     }
-    if refusal::depth_refused(bit_depth) {
+    if refusal::depth_refused(precision.bit_depth) {
         return Err(Refusal::DepthInvalid);
     }
     let log2n = log2_of_size(n);
-    Ok(skip_params_of(log2n, qp_prime.0, bit_depth, extended_precision))
+    Ok(skip_params_of(log2n, qp_prime.0, precision))
 }

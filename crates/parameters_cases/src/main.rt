@@ -4,62 +4,56 @@
 #![tactic(auto)]
 
 use parameters::{DequantParams, Qp, QpPrime};
-use refusal::Refusal;
+use refusal::Precision;
 use std::io::Read;
 
-// Every value here fits 32 bits.
-fn put_long(rt: &impl Print, z: i64) {
-    let low = -2147483647i64;
-    let high = 2147483647i64;
-    if z < low {
-        streams::write_all(rt, b" below");
-        return;
-    }
-    if high < z {
-        streams::write_all(rt, b" above");
-        return;
-    }
-    cases::put(rt, z as i32);
+// The function that a case is of, by its number.
+#[derive(Clone, Copy)]
+enum Function {
+    Range,
+    Offset,
+    QpPrime,
+    Dequant,
+    TransformSkip,
 }
 
-fn put_number(rt: &impl Print, answer: Result<u32, Refusal>) {
-    match answer {
-        Ok(value) => {
-            cases::put_answer(rt, Ok(()));
-            cases::put(rt, value as u64);
-        }
-        Err(why) => cases::put_refusal(rt, why),
-    }
-}
+// A number that a case gives no function.
+#[derive(Clone, Copy)]
+struct UnknownFunction;
 
-fn qp_prime(rt: &impl Print, qp: i32, bit_depth: u8) {
-    match parameters::qp_prime(Qp(qp), bit_depth) {
-        Ok(value) => {
-            cases::put_answer(rt, Ok(()));
-            cases::put(rt, value.0);
+impl TryFrom<u8> for Function {
+    type Error = UnknownFunction;
+
+    fn try_from(number: u8) -> Result<Function, UnknownFunction> {
+        match number {
+            0 => Ok(Function::Range),
+            1 => Ok(Function::Offset),
+            2 => Ok(Function::QpPrime),
+            3 => Ok(Function::Dequant),
+            4 => Ok(Function::TransformSkip),
+            _ => Err(UnknownFunction),
         }
-        Err(why) => cases::put_refusal(rt, why),
     }
 }
 
 fn put_params(rt: &impl Print, params: DequantParams) {
     cases::put_answer(rt, Ok(()));
-    put_long(rt, params.factor);
-    put_long(rt, params.add);
-    cases::put(rt, params.shift as u64);
-    put_long(rt, params.clip_min);
-    put_long(rt, params.clip_max);
+    cases::put(rt, params.factor);
+    cases::put(rt, params.add);
+    cases::put(rt, params.shift);
+    cases::put(rt, params.clip_min);
+    cases::put(rt, params.clip_max);
 }
 
-fn dequant(rt: &impl Print, n: usize, qp: i32, bit_depth: u8, extended: bool) {
-    match parameters::dequant_params(n, QpPrime(qp), bit_depth, extended) {
+fn dequant(rt: &impl Print, n: usize, qp: i32, precision: Precision) {
+    match parameters::dequant_params(n, QpPrime(qp), precision) {
         Ok(params) => put_params(rt, params),
         Err(why) => cases::put_refusal(rt, why),
     }
 }
 
-fn skip(rt: &impl Print, n: usize, qp: i32, bit_depth: u8, extended: bool) {
-    match parameters::transform_skip_params(n, QpPrime(qp), bit_depth, extended) {
+fn skip(rt: &impl Print, n: usize, qp: i32, precision: Precision) {
+    match parameters::transform_skip_params(n, QpPrime(qp), precision) {
         Ok(params) => {
             put_params(rt, params.dequant);
             cases::put(rt, params.tr_add);
@@ -74,20 +68,25 @@ fn replay(rt: &impl Print, stdin: &mut impl Read) -> bool {
     if !cases::copy_text(rt, stdin) {
         return false;
     }
-    let which = cases::next::<u8>(stdin);
+    let Ok(which) = Function::try_from(cases::next::<u8>(stdin)) else {
+        return false;
+    };
     let n = cases::next::<usize>(stdin);
     let qp = cases::next::<i32>(stdin);
-    let bit_depth = cases::next::<u8>(stdin);
-    let extended = cases::next::<u8>(stdin) != 0;
+    let precision = cases::next_precision(stdin);
+    let bit_depth = precision.bit_depth;
     match which {
-        0 => put_number(
+        Function::Range => cases::put_value(
             rt,
-            parameters::max_log2_transform_dynamic_range(bit_depth, extended),
+            parameters::max_log2_transform_dynamic_range(precision),
         ),
-        1 => put_number(rt, parameters::qp_bd_offset(bit_depth)),
-        2 => qp_prime(rt, qp, bit_depth),
-        3 => dequant(rt, n, qp, bit_depth, extended),
-        _ => skip(rt, n, qp, bit_depth, extended),
+        Function::Offset => cases::put_value(rt, parameters::qp_bd_offset(bit_depth)),
+        Function::QpPrime => cases::put_value(
+            rt,
+            parameters::qp_prime(Qp(qp), bit_depth).map(|qp| qp.0),
+        ),
+        Function::Dequant => dequant(rt, n, qp, precision),
+        Function::TransformSkip => skip(rt, n, qp, precision),
     }
     cases::put_end(rt);
     true
@@ -95,8 +94,5 @@ fn replay(rt: &impl Print, stdin: &mut impl Read) -> bool {
 
 fn main(rt: HostRuntime) {
     let mut stdin = rt.stdin();
-    let mut turns = u64::MAX;
-    while turns > 0 && replay(&rt, &mut stdin) {
-        turns -= 1;
-    }
+    cases::replay_all(|| replay(&rt, &mut stdin));
 }

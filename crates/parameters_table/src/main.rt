@@ -2,67 +2,65 @@
 #![tactic(auto)]
 
 use parameters::{Qp, QpPrime};
+use refusal::{Precision, Refusal};
+use std::fmt::Display;
 
-fn put_number(rt: &impl Print, n: u64) {
+fn put<T: Display + Drop>(rt: &impl Print, value: T) {
     streams::write_all(rt, b"\t");
-    streams::print(rt, n);
+    streams::print(rt, value);
 }
 
-fn put_signed(rt: &impl Print, z: i32) {
-    streams::write_all(rt, b"\t");
-    if z < 0 {
-        streams::write_all(rt, b"-");
-    }
-    streams::print(rt, integers::magnitude(z) as u64);
-}
-
-fn put_range(rt: &impl Print, bit_depth: u8, extended_precision: bool) {
-    match parameters::max_log2_transform_dynamic_range(bit_depth, extended_precision) {
-        Ok(range) => put_number(rt, range as u64),
-        Err(refusal) => put_number(rt, refusal.number() as u64),
+// The value, or the number of the refusal.
+fn put_value<T: Display + Drop>(rt: &impl Print, answer: Result<T, Refusal>) {
+    match answer {
+        Ok(value) => put(rt, value),
+        Err(refusal) => put(rt, refusal.number()),
     }
 }
 
-fn put_shifts(rt: &impl Print, n: usize, bit_depth: u8, extended_precision: bool) {
-    match parameters::transform_skip_params(n, QpPrime(0), bit_depth, extended_precision) {
+fn put_shifts(rt: &impl Print, n: usize, precision: Precision) {
+    match parameters::transform_skip_params(n, QpPrime(0), precision) {
         Ok(params) => {
-            put_number(rt, params.dequant.shift as u64);
-            put_signed(rt, params.tr_shift);
+            put(rt, params.dequant.shift);
+            put(rt, params.tr_shift);
         }
-        Err(refusal) => put_number(rt, refusal.number() as u64),
+        Err(refusal) => put(rt, refusal.number()),
     }
 }
 
-fn put_largest_qp(rt: &impl Print, bit_depth: u8) {
-    match parameters::qp_prime(Qp(51), bit_depth) {
-        Ok(largest) => put_signed(rt, largest.0),
-        Err(refusal) => put_number(rt, refusal.number() as u64),
-    }
-}
-
-fn put_line(rt: &impl Print, n: usize, bit_depth: u8, extended_precision: bool) {
-    streams::print(rt, bit_depth as u64);
-    put_number(rt, extended_precision as u64);
-    put_number(rt, n as u64);
-    put_range(rt, bit_depth, extended_precision);
-    put_shifts(rt, n, bit_depth, extended_precision);
-    put_largest_qp(rt, bit_depth);
+fn put_line(rt: &impl Print, n: usize, precision: Precision) {
+    streams::print(rt, precision.bit_depth);
+    put(rt, precision.extended as u8);
+    put(rt, n);
+    put_value(rt, parameters::max_log2_transform_dynamic_range(precision));
+    put_shifts(rt, n, precision);
+    let largest = parameters::qp_prime(Qp(51), precision.bit_depth);
+    put_value(rt, largest.map(|qp| qp.0));
     streams::write_all(rt, b"\n");
 }
 
-fn put_sizes(rt: &impl Print, bit_depth: u8, extended_precision: bool) {
-    put_line(rt, 4, bit_depth, extended_precision);
-    put_line(rt, 8, bit_depth, extended_precision);
-    put_line(rt, 16, bit_depth, extended_precision);
-    put_line(rt, 32, bit_depth, extended_precision);
+fn put_sizes(rt: &impl Print, precision: Precision) {
+    for n in [4, 8, 16, 32] {
+        put_line(rt, n, precision);
+    }
 }
 
 fn main(rt: HostRuntime) {
     streams::write_all(&rt, b"depth\text\tsize\tR\ts\tt\tQP'\n");
-    let mut bit_depth: u8 = 8;
-    while bit_depth < 17 {
-        put_sizes(&rt, bit_depth, false);
-        put_sizes(&rt, bit_depth, true);
-        bit_depth += 1;
+    for bit_depth in 8..17 {
+        put_sizes(
+            &rt,
+            Precision {
+                bit_depth,
+                extended: false,
+            },
+        );
+        put_sizes(
+            &rt,
+            Precision {
+                bit_depth,
+                extended: true,
+            },
+        );
     }
 }

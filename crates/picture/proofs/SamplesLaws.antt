@@ -1,6 +1,6 @@
 -- Laws of rebuilt samples and of their places in a plane.
 --   sample_max_most             a sample has at most 16 bits
---   rebuilt_below, rebuilt_above, rebuilt_between   the limited sum, by where the residual lies of what the prediction leaves
+--   rebuilt_moved              the limited sum is the prediction and the residual limited to what it leaves
 --   sum_least, sum_most        the sum of a residual in between
 --   placed_none, placed_more   a row of which c samples are put
 --   Rows, rows_none, rows_more, rows_all            a block of which k rows are put
@@ -17,17 +17,19 @@ use native.Mathlib.Omega.{arith}
 use borrow.Author.Tests.{lt-ltb, le-ltb, le-leb, lt-leb}
 use lib.Arith.{digits_div, digits_mod}
 use lib.Bits.{bit_or, or_add_and, and_le_l, and_le_r}
-use lib.IntN.{ℤ, pos, nat_abs, neg_ℤ, ◌+ℤ◌, ◌-ℤ◌}
+use lib.IntN.{ℤ, pos, neg_ℤ, ◌+ℤ◌, ◌-ℤ◌}
 use lib.ListN.{length, get_or, set, length-set}
 use lib.Pow.{pow_mono}
 use lib.Seq.{get_or-set_same, get_or-set_other, ext_get_or}
 use lib.Signed.{lt_z, ◌≤ℤ◌, ◌<ℤ◌}
+use Rattle.std.proofs.Math.IntN.{+ℤ_comm, -ℤ-+ℤ_cancel}
+use Rattle.integers.specs.Clip.{clip3}
 use Rattle.integers.specs.Lists.{tabulate}
 use Rattle.integers.proofs.LinearLaws.{parts_add, parts_neg, le_in, le_out, lt_in, lt_out}
 use Rattle.integers.proofs.MachineLaws.{lt_z_true, lt_z_false}
 use Rattle.integers.proofs.ClipLaws.{clip3_low, clip3_high, clip3_id}
 use Rattle.integers.proofs.ListsLaws.{tabulate-length, tabulate-get_or}
-use Rattle.picture.specs.Samples.{sample_max, rebuilt_sample, rebuilt_at, among, placed_at, rebuilt_plane}
+use Rattle.picture.specs.Samples.{sample_max, rebuilt_at, among, placed_at, rebuilt_plane}
 use Rattle.picture.specs.Rebuild.{Below, Placed}
 
 pub sample_max_most : (b : ℕ) → b ≤ 16 → sample_max b ≤ 65535
@@ -56,17 +58,17 @@ module _ (top p : ℕ) (z : ℤ) where
       let h : z ≤ℤ (pos top -ℤ pos p) = lt_z_false e in
       le_out (pos p +ℤ z) (pos top) (omega (arith, le_in h, parts_add (pos top) (neg_ℤ (pos p)), parts_neg (pos p), parts_add (pos p) z))
 
-  pub rebuilt_below : lt_z z (pos 0 -ℤ pos p) ≡ true → rebuilt_sample top p z ≡ 0
-  unfolding rebuilt_sample
-  rebuilt_below e = ap nat_abs (clip3_low (pos 0) (pos top) (pos p +ℤ z) (below e))
+  -- the sum limited, with the limit at the residual
+  pub rebuilt_moved : p ≤ top → pos p +ℤ clip3 (pos 0 -ℤ pos p) (pos top -ℤ pos p) z ≡ clip3 (pos 0) (pos top) (pos p +ℤ z)
+  rebuilt_moved h = by_tests (lt_z z (pos 0 -ℤ pos p)) (lt_z (pos top -ℤ pos p) z) refl refl
+    where
+      back : (t : ℤ) → pos p +ℤ (t -ℤ pos p) ≡ t
+      back t = +ℤ_comm (pos p) (t -ℤ pos p) ∙ -ℤ-+ℤ_cancel t (pos p)
 
-  pub rebuilt_above : lt_z z (pos 0 -ℤ pos p) ≡ false → lt_z (pos top -ℤ pos p) z ≡ true → rebuilt_sample top p z ≡ top
-  unfolding rebuilt_sample
-  rebuilt_above e d = ap nat_abs (clip3_high (pos 0) (pos top) (pos p +ℤ z) (sum_least e) (above d))
-
-  pub rebuilt_between : lt_z z (pos 0 -ℤ pos p) ≡ false → lt_z (pos top -ℤ pos p) z ≡ false → rebuilt_sample top p z ≡ nat_abs (pos p +ℤ z)
-  unfolding rebuilt_sample
-  rebuilt_between e d = ap nat_abs (clip3_id (pos 0) (pos top) (pos p +ℤ z) (sum_least e) (sum_most d))
+      by_tests : (u v : Bool) → lt_z z (pos 0 -ℤ pos p) ≡ u → lt_z (pos top -ℤ pos p) z ≡ v → pos p +ℤ clip3 (pos 0 -ℤ pos p) (pos top -ℤ pos p) z ≡ clip3 (pos 0) (pos top) (pos p +ℤ z)
+      by_tests true v e d = rw (clip3_low (pos 0 -ℤ pos p) (pos top -ℤ pos p) z (lt_z_true e), clip3_low (pos 0) (pos top) (pos p +ℤ z) (below e)) (back (pos 0))
+      by_tests false true e d = rw (clip3_high (pos 0 -ℤ pos p) (pos top -ℤ pos p) z (lt_z_false e) (lt_z_true d), clip3_high (pos 0) (pos top) (pos p +ℤ z) (sum_least e) (above d)) (back (pos top))
+      by_tests false false e d = rw (clip3_id (pos 0 -ℤ pos p) (pos top -ℤ pos p) z (lt_z_false e) (lt_z_false d), clip3_id (pos 0) (pos top) (pos p +ℤ z) (sum_least e) (sum_most d))
 
 pub below_some : {top k : ℕ} {xs : List ℕ} (m : ℕ) → m ≤ k → Below top k xs → Below top m xs
 below_some m h f = record { at = λ i l. f.at i (omega arith) }

@@ -4,6 +4,7 @@ ghost use Rattle.picture.specs.Rebuild.{rebuilt, Rebuilds, Below, Placed, Inside
 ghost use Rattle.picture.specs.Samples.{sample_max, rebuilt_sample, rebuilt_at, rebuilt_plane};
 
 use crate::refuse;
+use planes::Extent;
 use refusal::Refusal;
 
 // 2^depth - 1.
@@ -20,13 +21,7 @@ fn rebuilt_sample(top: u16, prediction: u16, residual: i32) -> u16
     ensures { result ≡ rebuilt_sample top prediction residual }
 {
     let p = prediction as i32;
-    if residual < 0 - p {
-        return 0;
-    }
-    if top as i32 - p < residual {
-        return top;
-    }
-    (p + residual) as u16
+    (p + residual.clamp(0 - p, top as i32 - p)) as u16
 }
 
 // One row of the block: n samples from `from` on, put into the plane from `at` on.
@@ -54,14 +49,14 @@ fn rebuild_rows(
     bit_depth: u8,
     residual: &[i32],
     prediction: &[u16],
-    stride: usize,
+    extent: Extent,
     x: usize,
     y: usize,
     plane: &mut [u16],
 )
-    requires inside { Inside n bit_depth stride x y (length residual.now) (length prediction.now) (length plane.old) }
+    requires inside { Inside n bit_depth extent.stride x y (length residual.now) (length prediction.now) (length plane.old) }
     requires below { Below (sample_max bit_depth) (n * n) prediction.now }
-    ensures { plane.new ≡ rebuilt_plane n bit_depth residual.now prediction.now stride x y plane.old }
+    ensures { plane.new ≡ rebuilt_plane n bit_depth residual.now prediction.now extent.stride x y plane.old }
 {
     let top = sample_max(bit_depth);
     for k in 0..n {
@@ -71,7 +66,7 @@ fn rebuild_rows(
             residual,
             prediction,
             k * n,
-            (y + k) * stride + x,
+            (y + k) * extent.stride + x,
             plane,
         );
     }
@@ -83,14 +78,12 @@ pub fn rebuild_block(
     bit_depth: u8,
     residual: &[i32],
     prediction: &[u16],
-    width: usize,
-    height: usize,
-    stride: usize,
+    extent: Extent,
     x: usize,
     y: usize,
     plane: &mut [u16],
 ) -> Result<(), Refusal>
-    ensures { Rebuilds result plane.new (rebuilt n bit_depth residual.now prediction.now width height stride x y plane.old) }
+    ensures { Rebuilds result plane.new (rebuilt n bit_depth residual.now prediction.now extent.width extent.height extent.stride x y plane.old) }
 {
     if refusal::size_refused(n) {
         return Err(Refusal::SizeInvalid);
@@ -104,16 +97,16 @@ pub fn rebuild_block(
     if prediction.len() < n * n {
         return Err(Refusal::InputTooShort);
     }
-    if planes::picture_refused(width, height, stride, plane.len()) {
+    if extent.refused(plane.len()) {
         return Err(Refusal::PictureInvalid);
     }
-    if planes::block_outside(n, width, height, x, y) {
+    if extent.block_outside(n, x, y) {
         return Err(Refusal::PictureInvalid);
     }
     let first = refuse::first_above(sample_max(bit_depth), n * n, prediction);
     if first < n * n {
         return Err(Refusal::SampleOutside(first));
     }
-    rebuild_rows(n, bit_depth, residual, prediction, stride, x, y, plane);
+    rebuild_rows(n, bit_depth, residual, prediction, extent, x, y, plane);
     Ok(())
 }

@@ -4,6 +4,7 @@
 // The text goes on with the answer, and the plane afterwards or the checksum. tests/picture_cases.py writes cases and text.
 #![tactic(auto)]
 
+use planes::Extent;
 use std::io::Read;
 
 // The function that a case is of, by its number.
@@ -34,11 +35,17 @@ struct Case {
     function: Function,
     n: usize,
     bit_depth: u8,
-    width: usize,
-    height: usize,
-    stride: usize,
+    extent: Extent,
     x: usize,
     y: usize,
+}
+
+fn next_extent(stdin: &mut impl Read) -> Extent {
+    Extent {
+        width: cases::next(stdin),
+        height: cases::next(stdin),
+        stride: cases::next(stdin),
+    }
 }
 
 fn next_case(stdin: &mut impl Read, function: Function) -> Case {
@@ -46,9 +53,7 @@ fn next_case(stdin: &mut impl Read, function: Function) -> Case {
         function,
         n: cases::next(stdin),
         bit_depth: cases::next(stdin),
-        width: cases::next(stdin),
-        height: cases::next(stdin),
-        stride: cases::next(stdin),
+        extent: next_extent(stdin),
         x: cases::next(stdin),
         y: cases::next(stdin),
     }
@@ -63,34 +68,29 @@ fn fill(first: u16, step: u16, plane: &mut [u16]) {
 }
 
 fn rebuild(rt: &impl Print, case: Case, residual: &[i32], prediction: &[u16], plane: &mut [u16]) {
-    let n = case.n;
-    let depth = case.bit_depth;
-    let width = case.width;
-    let height = case.height;
-    let stride = case.stride;
     cases::put_answer(
         rt,
         picture::rebuild_block(
-            n, depth, residual, prediction, width, height, stride, case.x, case.y, plane,
+            case.n,
+            case.bit_depth,
+            residual,
+            prediction,
+            case.extent,
+            case.x,
+            case.y,
+            plane,
         ),
     );
     cases::put_all(rt, plane);
 }
 
-fn checksum(rt: &impl Print, case: Case, plane: &[u16]) {
-    match checksum::picture_checksum(case.width, case.height, case.stride, case.bit_depth, plane) {
-        Ok(sum) => {
-            cases::put_answer(rt, Ok(()));
-            cases::put(rt, sum as u64);
-        }
-        Err(why) => cases::put_refusal(rt, why),
-    }
-}
-
 fn call(rt: &impl Print, case: Case, residual: &[i32], prediction: &[u16], plane: &mut [u16]) {
     match case.function {
         Function::Rebuild => rebuild(rt, case, residual, prediction, plane),
-        Function::Checksum => checksum(rt, case, plane),
+        Function::Checksum => cases::put_value(
+            rt,
+            checksum::picture_checksum(case.extent, case.bit_depth, plane),
+        ),
     }
 }
 
@@ -143,9 +143,5 @@ fn replay(rt: &impl Print, stdin: &mut impl Read) -> bool {
 
 fn main(rt: HostRuntime) {
     let mut stdin = rt.stdin();
-    for _ in 0..u64::MAX {
-        if !replay(&rt, &mut stdin) {
-            break;
-        }
-    }
+    cases::replay_all(|| replay(&rt, &mut stdin));
 }

@@ -24,22 +24,6 @@ fn stride_refused(width: usize, stride: usize) -> bool
     65536 < stride
 }
 
-// Row 13, of the plane.
-pub fn picture_refused(width: usize, height: usize, stride: usize, len: usize) -> bool
-    ensures { result ≡ picture_refused width height stride len }
-{
-    if side_refused(width) {
-        return true;
-    }
-    if side_refused(height) {
-        return true;
-    }
-    if stride_refused(width, stride) {
-        return true;
-    }
-    len < stride * height
-}
-
 // Whether k places from `first` on pass the end of a side. Both may be any number, so nothing is added.
 fn passes(first: usize, k: usize, side: usize) -> bool
     ensures { result ≡ ltb side (first + k) }
@@ -50,12 +34,38 @@ fn passes(first: usize, k: usize, side: usize) -> bool
     side - k < first
 }
 
-// Row 13, of the block.
-pub fn block_outside(n: usize, width: usize, height: usize, x: usize, y: usize) -> bool
-    ensures { result ≡ block_outside n width height x y }
-{
-    if passes(x, n, width) {
-        return true;
+// A picture in a plane: the sample of column x and row y stands at y × stride + x.
+#[derive(Clone, Copy)]
+pub struct Extent {
+    pub width: usize,
+    pub height: usize,
+    pub stride: usize,
+}
+
+impl Extent {
+    // Row 13, of a plane of `len` samples.
+    pub fn refused(self, len: usize) -> bool
+        ensures { result ≡ picture_refused self.width self.height self.stride len }
+    {
+        if side_refused(self.width) {
+            return true;
+        }
+        if side_refused(self.height) {
+            return true;
+        }
+        if stride_refused(self.width, self.stride) {
+            return true;
+        }
+        len < self.stride * self.height
     }
-    passes(y, n, height)
+
+    // Row 13, of a block of n columns and rows, whose first sample is at column x and row y.
+    pub fn block_outside(self, n: usize, x: usize, y: usize) -> bool
+        ensures { result ≡ block_outside n self.width self.height x y }
+    {
+        if passes(x, n, self.width) {
+            return true;
+        }
+        passes(y, n, self.height)
+    }
 }

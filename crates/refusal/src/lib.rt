@@ -112,7 +112,16 @@ impl Refusal {
     }
 }
 
+// The depth of samples, and whether precision is extended: what the range of coefficients follows from.
+#[derive(Clone, Copy)]
+pub struct Precision {
+    pub bit_depth: u8,
+    pub extended: bool,
+}
+
 // Row 1: the size is none of 4, 8, 16, 32.
+// Kept: a size stays a plain number, and that it is one a clause (`T (is_size n)`): nearly every function multiplies, divides or compares it, and would take a
+// type of its own apart again.
 pub fn size_refused(n: usize) -> bool
     ensures { result ≡ size_refused n }
 {
@@ -126,28 +135,19 @@ pub fn size_refused(n: usize) -> bool
 pub fn depth_refused(bit_depth: u8) -> bool
     ensures { result ≡ depth_refused bit_depth }
 {
-    if bit_depth < 8 {
-        return true;
-    }
-    16 < bit_depth
+    bit_depth < 8 || 16 < bit_depth
 }
 
 // Row 3: 16-bit output, and the depth is above 9 or precision is extended.
-pub fn width_refused(bit_depth: u8, extended_precision: bool) -> bool
-    ensures { result ≡ width_refused bit_depth extended_precision }
+pub fn width_refused(precision: Precision) -> bool
+    ensures { result ≡ width_refused precision.bit_depth precision.extended }
 {
-    if 9 < bit_depth {
-        return true;
-    }
-    extended_precision
+    9 < precision.bit_depth || precision.extended
 }
 
 // Row 25: rotation at a size other than 4.
 pub fn rotation_refused(rotate: bool, n: usize) -> bool
     ensures { result ≡ rotation_refused rotate n }
 {
-    if rotate {
-        return n != 4;
-    }
-    false
+    rotate && n != 4
 }

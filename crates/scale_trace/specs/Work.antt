@@ -4,7 +4,7 @@
 --   refusal_of error at             the line of a refusal
 --   TracesAt s r w l at m t room   a record was taken, below the question of room for its lines: they stand at a place of the buffer; w are the four
 --                                  buffers of the open block after it
-use Rattle.std.specs.Prelude.{◌≡◌, false, List, [], ℕ, ◌+◌, ◌≤◌, ◌<◌, length, Option, Some, None, Result, Ok, Err, is_ok}
+use Rattle.std.specs.Prelude.{◌≡◌, List, [], ℕ, ◌+◌, ◌≤◌, ◌<◌, length, Option, Some, None, Result}
 use Rattle.refusal.specs.Refusal.{number}
 use Rattle.text.specs.Text.{Wrote, WroteUpTo, Counts}
 use Rattle.feed_lines.specs.Lines.{refused_text}
@@ -15,8 +15,8 @@ use Rattle.feed_state.specs.Taken.{state_of, capped}
 use Rattle.feed_history.specs.Stepping.{Stepping, stepping_by}
 use Rattle.feed.specs.declared.StepError.{StepError}
 use Rattle.feed.specs.declared.StepError.TheVariants.{Refused, NoRoom}
-use Rattle.feed.specs.declared.Stepped.{Stepped}
-use Rattle.feed.specs.Answers.{step_answer}
+use Rattle.feed_state.specs.declared.Taken.{Taken}
+use Rattle.feed.specs.Answers.{step_answer, state_after, end_after}
 use Rattle.scale_trace_rules.specs.Trace.{trace_effect, list_room, trace_text, listing_room}
 
 abbrev pub tracing : FeedState Buffered → ℕ → List ℕ → ℕ → Stepping
@@ -31,8 +31,7 @@ abbrev pub refusal_of : StepError → ℕ → List ℕ
 refusal_of (Refused e) at = refused_text (number e) at
 refusal_of NoRoom at = []
 
-pub record TracesAt (s : State) (r : Stepped) (w : Lent) (l : List ℕ) (at : ℕ) (m : List ℕ) (t : Stepping) (room : ℕ) : Type 0 where
-  pub answered : step_answer r.answer ≡ t.answer
-  pub state : state_of r.state w ≡ capped t.state
-  pub text : WroteUpTo l at t.text m r.end (at + room)
-  pub kept : is_ok r.answer ≡ false → r.state ≡ s
+pub record TracesAt (s : State) (r : Result Taken StepError) (w : Lent) (l : List ℕ) (at : ℕ) (m : List ℕ) (t : Stepping) (room : ℕ) : Type 0 where
+  pub answered : step_answer r ≡ t.answer
+  pub state : state_of (state_after s r) w ≡ capped t.state
+  pub text : WroteUpTo l at t.text m (end_after at r) (at + room)

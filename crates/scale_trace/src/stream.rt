@@ -9,7 +9,7 @@ ghost use Rattle.feed.specs.Answers.{Steps};
 ghost use Rattle.scale_trace_rules.specs.Trace.{levels_lines, list_room, trace_text, listing_room};
 ghost use Rattle.scale_trace.specs.Work.{tracing, Lists, refusal_of, TracesAt};
 
-use feed::{StepError, Stepped};
+use feed::{StepError, Taken};
 use feed_state::State;
 
 // The lines of a block, by the parameters; a block of size 0 has none.
@@ -25,6 +25,7 @@ fn put_levels(state: State, n: usize, out: &mut [u8], at: usize) -> usize
 }
 
 // A record, whole or not: its lines at a place of the buffer. The text that the feed writes is put aside.
+// Kept: a struct of lent slices would have to promise for each slice that it stays the same one (its ghost_name), a clause more for each.
 fn take_record(
     state: State,
     kind: u8,
@@ -35,22 +36,19 @@ fn take_record(
     residual: &mut [i32],
     out: &mut [u8],
     at: usize,
-) -> Stepped
+) -> Result<Taken, StepError>
     requires { at + list_room kind ≤ length out.old }
     ensures { TracesAt state result (lent levels.new coeff.new inter.new residual.new) out.old at out.new (tracing (state_of state (lent levels.old coeff.old inter.old residual.old)) kind body.now (list_room kind)) (list_room kind) }
 {
     let mut text = [0u8; 12320];
-    let stepped = feed::step(state, kind, body, levels, coeff, inter, residual, &mut text);
-    if stepped.answer.is_err() {
-        return Stepped { end: at, ..stepped };
-    }
+    let taken = feed::step(state, kind, body, levels, coeff, inter, residual, &mut text)?;
     let end = put_levels(state, scale_trace_block::size_of(kind), out, at);
-    Stepped { end, ..stepped }
+    Ok(Taken { end, ..taken })
 }
 
 // One record: its kind, and as much of its body as there is; answer, state and the buffers of the open block are those of the feed's
 // step. Its lines go to the start of `out`, which must have 20 bytes for each index of its block; else, or where a buffer of the open
-// block has fewer than 1,024 elements, `NoRoom` is answered before anything else, and state and buffers are as given. A refused record
+// block has fewer than 1,024 elements, `NoRoom` is answered before anything else, and the buffers are as given. A refused record
 // too leaves all as given.
 pub fn step(
     state: State,
@@ -61,15 +59,11 @@ pub fn step(
     inter: &mut [i32],
     residual: &mut [i32],
     out: &mut [u8],
-) -> Stepped
+) -> Result<Taken, StepError>
     ensures { Steps state result (lent levels.new coeff.new inter.new residual.new) out.old out.new (tracing (state_of state (lent levels.old coeff.old inter.old residual.old)) kind body.now (length out.old)) }
 {
     if out.len() < scale_trace_block::list_room(kind) {
-        return Stepped {
-            answer: Err(StepError::NoRoom),
-            state,
-            end: 0,
-        };
+        return Err(StepError::NoRoom);
     }
     take_record(state, kind, body, levels, coeff, inter, residual, out, 0)
 }
@@ -89,6 +83,7 @@ fn put_refusal(error: StepError, offset: u64, out: &mut [u8], at: usize) -> usiz
 }
 
 // The listing of a whole feed, where there is room for it.
+// Kept: the loop is the feed's own; the reason is beside that one.
 fn run_within(input: &[u8], out: &mut [u8]) -> usize
     requires { listing_room input.now ≤ length out.old }
     ensures { Wrote out.old 0 (trace_text input.now) out.new result × Counts result out.new }
@@ -104,7 +99,7 @@ fn run_within(input: &[u8], out: &mut [u8]) -> usize
         let kind = input[at];
         let from = at + 1;
         let stop = (from + feed_format::record_length(kind)).min(input.len());
-        let taken = take_record(
+        match take_record(
             state,
             kind,
             &input[from..stop],
@@ -114,12 +109,13 @@ fn run_within(input: &[u8], out: &mut [u8]) -> usize
             &mut residual,
             out,
             end,
-        );
-        if let Err(why) = taken.answer {
-            return put_refusal(why, state.offset, out, taken.end);
+        ) {
+            Ok(taken) => {
+                state = taken.state;
+                end = taken.end;
+            }
+            Err(why) => return put_refusal(why, state.offset, out, end),
         }
-        state = taken.state;
-        end = taken.end;
     }
     end
 }

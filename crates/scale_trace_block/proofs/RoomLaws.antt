@@ -1,38 +1,39 @@
 -- Laws of the room that a listing may take.
---   size_none    a kind without levels has no size
---   kind_room    the lines of a kind fit its room
-use mathlib.Core.Path.{◌≡◌, refl}
-use mathlib.Core.Bool.{Bool, true, false, cond}
-use Prim.Native.Nat.{ℕ, ◌*◌}
-use borrow.Author.Tests.{ne_eqb}
-use lib.Dec.{eqb}
+--   room_is        the lines of a record fit its room
+--   size_most      no block has more than 1,024 indices
+--   room_none      a byte that is no kind has no lines
+use mathlib.Core.Path.{◌≡◌, refl, sym}
+use mathlib.Core.Bool.{true, true≢false}
+use Prim.Native.Nat.{ℕ, ◌*◌, ◌≤◌}
+use native.Mathlib.Omega.{arith}
+use Rattle.h265.proofs.RangeLaws.{size_square}
+use Rattle.feed_format.proofs.FormatLaws.{Sized, kind_size}
+use Rattle.std.specs.Prelude.{Option, Some, None}
 use Rattle.feed_format.specs.declared.Kind.{Kind}
-use Rattle.feed_format.specs.declared.Kind.TheVariants.{Parameters, List as ListKind, NoList, Levels, Edit, Reading, Unknown}
-use Rattle.feed_format.specs.Format.{kind_of}
-use Rattle.scale_trace_rules.specs.Trace.{size_of, lines_room, list_room}
+use Rattle.feed_format.specs.declared.Kind.TheVariants.{Parameters, List as ListKind, NoList, Levels, Edit, Reading}
+use Rattle.feed_format.specs.Format.{kind_of, is_unknown}
+use Rattle.scale_trace_rules.specs.Trace.{size_of, list_room}
 
-pub size_none : (k : ℕ) → (k ≡ 4 → ⊥) → (k ≡ 5 → ⊥) → (k ≡ 6 → ⊥) → (k ≡ 7 → ⊥) → ◌≡◌ {A = ℕ} 0 (size_of (kind_of k))
-unfolding kind_of
-size_none k a b c d =
-    simp (ne_eqb k 4 a, ne_eqb k 5 b, ne_eqb k 6 c, ne_eqb k 7 d) (either (eqb k 1) (eqb k 2) (eqb k 3) (eqb k 8) (eqb k 9))
-  where
-    either : (t u v w x : Bool) → ◌≡◌ {A = ℕ} 0 (size_of (cond t Parameters (cond u ListKind (cond v NoList (cond w Edit (cond x Reading Unknown))))))
-    either true u v w x = refl
-    either false true v w x = refl
-    either false false true w x = refl
-    either false false false true x = refl
-    either false false false false true = refl
-    either false false false false false = refl
-
-pub kind_room : {n : ℕ} (k : ℕ) → n ≡ size_of (kind_of k) → 20 * (n * n) ≡ list_room k
+pub room_is : (k : ℕ) → list_room k ≡ 20 * (size_of (kind_of k) * size_of (kind_of k))
 unfolding list_room
-kind_room k e = rw e (by_kind (kind_of k))
+room_is k = refl
+
+pub room_none : (k : ℕ) → is_unknown (kind_of k) ≡ true → list_room k ≡ 0
+unfolding list_room
+room_none k e = by (kind_of k) e
   where
-    by_kind : (kind : Kind) → 20 * (size_of kind * size_of kind) ≡ lines_room kind
-    by_kind Parameters = refl
-    by_kind ListKind = refl
-    by_kind NoList = refl
-    by_kind (Levels n) = refl
-    by_kind Edit = refl
-    by_kind Reading = refl
-    by_kind Unknown = refl
+    by : (kind : Option Kind) → is_unknown kind ≡ true → 20 * (size_of kind * size_of kind) ≡ 0
+    by None e = refl
+    by (Some kind) e = absurd (true≢false (sym e))
+
+pub size_most : {n : ℕ} (k : ℕ) → n ≡ size_of (kind_of k) → n * n ≤ 1024
+size_most k e = rw e (by (kind_of k) (kind_size k))
+  where
+    by : (kind : Option Kind) → Sized kind → size_of kind * size_of kind ≤ 1024
+    by None h = omega arith
+    by (Some Parameters) h = omega arith
+    by (Some ListKind) h = omega arith
+    by (Some NoList) h = omega arith
+    by (Some (Levels n)) h = size_square n h
+    by (Some Edit) h = omega arith
+    by (Some Reading) h = omega arith

@@ -1,32 +1,23 @@
--- Laws of the rule that supplies m, and of m as the lookup of `scaling` gives it.
+-- Laws of the rule that supplies m.
 --   source_none, -skip, -four, -eight, -dc, -repeat   each answer of `source_of`, from the tests that lead to it
---   factor_skip, -listed                              m, from the tests of `factor_of`
 --   position_16, position_32                          the position that the code works out
---   coeff_accepted, -factor, -refused                 the lookup refuses nothing that a line asks for, and gives m
-use mathlib.Core.Path.{◌≡◌, refl, ap, ◌∙◌}
+use mathlib.Core.Path.{◌≡◌, refl, ap}
 use mathlib.Core.Bool.{true, false}
 use mathlib.Core.List.{List}
 use Prim.Native.Nat.{ℕ, ◌+◌, ◌*◌, ◌/◌, ◌%◌, ◌<◌, ◌≤◌}
 use native.Mathlib.Omega.{arith}
-use borrow.Author.Tests.{eq-eqb, ne_eqb, lt-leb}
+use borrow.Author.Tests.{eq-eqb, ne_eqb}
 use lib.Dec.{T}
-use lib.ListN.{length}
 use Rattle.h265.specs.Range.{is_size, log2_size}
-use Rattle.h265.specs.ScalingFactor.{repeated_position, factor_source, factor_by, scaling_factor}
+use Rattle.h265.specs.ScalingFactor.{repeated_position, factor_source}
 use Rattle.h265.specs.ScalingFactor.ScalingList.{flat, listed}
 use Rattle.h265.proofs.RangeLaws.{size_cases}
-use Rattle.refusal.specs.declared.Refusal.{Refusal}
-use Rattle.refusal.specs.Condition.{size_refused, list_refused}
-use Rattle.refusal.specs.Outcome.{Outcome, accepted, refused}
-use Rattle.refusal.proofs.RefusalLaws.{number_least}
-use Rattle.scaling.specs.Factor.{scaling_coeff}
 use Rattle.scaling_values.proofs.FactorLaws.{position_inside}
 use Rattle.feed_format.specs.Format.{list_ignored}
 use Rattle.feed_format.specs.declared.Mode.{Mode}
-use Rattle.feed_rules.specs.Block.{list_for}
 use Rattle.scale_trace_block.specs.declared.Source.{Source}
 use Rattle.scale_trace_block.specs.declared.Source.TheVariants.{None, Four, Eight, Dc, Repeat, Skip}
-use Rattle.scale_trace_rules.specs.Block.{block_source, block_factor}
+use Rattle.scale_trace_rules.specs.Block.{block_source}
 use Rattle.scale_trace_rules.specs.Block.BlockSource.{rule}
 use Rattle.scale_trace_block.specs.Work.{source_is, position_of, SourceAt}
 
@@ -72,23 +63,3 @@ position_16 n i e = rw e refl
 pub position_32 : (n i : ℕ) → n ≡ 32 → i / 32 / 4 * 8 + i % 32 / 4 ≡ repeated_position n i
 unfolding repeated_position log2_size
 position_32 n i e = rw e refl
-
--- ---- m
-module _ (es : List ℕ) (d : ℕ) (mode : Mode) (n i : ℕ) where
-  pub factor_skip : list_ignored mode n ≡ true → ◌≡◌ {A = ℕ} 16 (block_factor (listed es d) mode n i)
-  unfolding block_factor list_for scaling_factor factor_by factor_source
-  factor_skip g = rw g refl
-
-  pub factor-listed : {m : ℕ} → list_ignored mode n ≡ false → m ≡ scaling_factor (listed es d) n i → m ≡ block_factor (listed es d) mode n i
-  unfolding block_factor list_for
-  factor-listed g e = rw g e
-
-pub coeff_accepted : (es : List ℕ) (d n i : ℕ) → length es ≡ 64 → T (is_size n) → i < n * n → scaling_coeff es d n i ≡ accepted (scaling_factor (listed es d) n i)
-unfolding scaling_coeff size_refused list_refused
-coeff_accepted es d n i w t h = simp (size_cases (λ m. size_refused m ≡ false) refl refl refl refl n t, eq-eqb (length es) 64 w, lt-leb (n * n) i h)
-
-pub coeff_factor : {m : ℕ} (es : List ℕ) (d n i : ℕ) → length es ≡ 64 → T (is_size n) → i < n * n → accepted m ≡ scaling_coeff es d n i → m ≡ scaling_factor (listed es d) n i
-coeff_factor es d n i w t h e = ap (λ (o : Outcome ℕ). o.value) (e ∙ coeff_accepted es d n i w t h)
-
-pub coeff_refused : {A : Type 0} (why : Refusal) (es : List ℕ) (d n i : ℕ) → length es ≡ 64 → T (is_size n) → i < n * n → refused 0 why ≡ scaling_coeff es d n i → A
-coeff_refused why es d n i w t h e = absurd (omega (arith, number_least why, ap (λ (o : Outcome ℕ). o.number) (e ∙ coeff_accepted es d n i w t h)))

@@ -86,10 +86,8 @@ pub fn put_lines(list: Option<List>, mode: Mode, n: usize, out: &mut [u8], at: u
     ensures { WroteUpTo out.old at (block_lines (list_in list) mode n) out.new result (at + 20 * (n * n)) }
 {
     let mut end = at;
-    let mut i = 0;
-    while i < n * n {
+    for i in 0..n * n {
         end = put_line(list, mode, n, i, out, end);
-        i += 1;
     }
     end
 }

@@ -39,14 +39,5 @@ pub(crate) fn factor_of(list: Option<List>, mode: Mode, n: usize, index: usize) 
     requires { T (is_size n) × (index < n * n) }
     ensures { result ≡ block_factor (list_in list) mode n index }
 {
-    let Some(list) = list else {
-        return 16;
-    };
-    if feed_format::list_ignored(mode, n) {
-        return 16;
-    }
-    match scaling::scaling_coeff(&list.entries, list.dc, n, index) {
-        Ok(m) => m,
-        Err(_) => 0,
-    }
+    scaling::factor_at(feed_state::list_for(&list, mode, n), n, index)
 }

@@ -44,14 +44,14 @@ LineNamesTheRule =
 -- ---- the m that scaling uses
 unfoldable pub scaled_with : ℕ → Parameters → ℕ → ℤ → ℤ
 scaled_with m p n level =
-    let r : ℕ = transform_range p.bit_depth p.extended_precision in
-    scale_level r (bd_shift p.bit_depth (log2_size n) r) (nat_abs (clip_qp_prime p.bit_depth (pos p.qp_prime))) m level
+    let r : ℕ = transform_range p.precision.bit_depth p.precision.extended in
+    scale_level r (bd_shift p.precision.bit_depth (log2_size n) r) (nat_abs (clip_qp_prime p.precision.bit_depth (pos p.qp_prime))) m level
 
 pub record FeedUses (list : ScalingList) (p : Parameters) (n : ℕ) (levels : List ℤ) (i m : ℕ) : Type 0 where
   pub coefficient : i < n * n → get_or (coefficients (list_for p.mode n list) p n levels) i (pos 0) ≡ scaled_with m p n (get_or levels i (pos 0))
   pub skipped : p.mode ≡ Skip
       → residual_at list p n levels i
-      ≡ ts_residual (ts_shift (transform_range p.bit_depth p.extended_precision) p.bit_depth (log2_size n)) (scaled_with m p n (get_or levels i (pos 0)))
+      ≡ ts_residual (ts_shift (transform_range p.precision.bit_depth p.precision.extended) p.precision.bit_depth (log2_size n)) (scaled_with m p n (get_or levels i (pos 0)))
 
 abbrev pub LineHasTheFactor : Type 0
 LineHasTheFactor =

@@ -1,9 +1,6 @@
--- The answers of this crate's enums as number, place and values, which are zeros on refusal.
---   factor_outcome   of a lookup of m
---   level_outcome    of one scaled level: its coefficient, whether the level was limited, and whether the result was
---   no_level         its zeros
-use Rattle.std.specs.Prelude.{false, ℕ, pos}
-use Rattle.refusal.specs.Outcome.{Outcome, accepted, refused}
+-- What stands for one scaled level where the call is refused.
+--   no_level   zeros
+use Rattle.std.specs.Prelude.{false, pos}
 use Rattle.scaling_values.specs.declared.ScaledLevel.{ScaledLevel}
 
 abbrev pub no_level : ScaledLevel

@@ -5,7 +5,7 @@ ghost use Rattle.scaling.specs.Level.{scaled_level};
 ghost use Rattle.scaling.specs.Answers.{no_level};
 
 use parameters::QpPrime;
-use refusal::Refusal;
+use refusal::{Precision, Refusal};
 use scaling_values::{ScaledLevel, level};
 
 // One level of a block, for every level, m and QP'.
@@ -14,11 +14,10 @@ pub fn scale_level(
     m: u8,
     n: usize,
     qp_prime: QpPrime,
-    bit_depth: u8,
-    extended_precision: bool,
+    precision: Precision,
 ) -> Result<ScaledLevel, Refusal>
-    ensures { outcome no_level result ≡ scaled_level level m n qp_prime.0 bit_depth extended_precision }
+    ensures { outcome no_level result ≡ scaled_level level m n qp_prime.0 precision.bit_depth precision.extended }
 {
-    let by = parameters::dequant_params(n, qp_prime, bit_depth, extended_precision)?;
+    let by = parameters::dequant_params(n, qp_prime, precision)?;
     Ok(level::scaled_listed(level, m, by))
 }

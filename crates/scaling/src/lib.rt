@@ -2,6 +2,7 @@
 #![tactic(auto)]
 
 pub use scaling_values::ScaledLevel;
+pub use scaling_values::factor::factor_at;
 
 mod factor;
 mod level;
@@ -12,6 +13,7 @@ pub use level::scale_level;
 pub use matrix::coeff;
 
 // A scaling matrix: it points at the caller's list.
+// Kept: the record of the ported Rust (docs/DIFFERENCES.md says what is left out of it); `ScalingList` has no size.
 #[derive(Clone, Copy)]
 pub struct ScalingMatrix<'a> {
     pub list: &'a [u8],

@@ -1,17 +1,19 @@
 -- Laws of a call on a block, of every width and with or without a list: what its numbers answer, what is known below the
 -- refusals, and what the working functions' lists are in clause 8.6's terms.
 --   refused_params, passed_params   what the ladder without its numbers says of the one with them
---   block_refused_lem        a call whose numbers are refused hands back that refusal and the output as lent
 --   Ready, block_ready   what holds once the numbers are there
 --   ready_regular, ready_listed   the numbers are regular, and listable where R = 15
 --   narrow_ends, narrow_shift   of a 16-bit output: the range's ends fit 16 bits, and t > 0
---   ready_ends, ready_rounds, ready_read   the same of either output, and of what is read of it
---   flat_writes, listed_writes, flat_skips, listed_skips   what was written and counted is what the definition says
+--   ready_ends, ready_rounds, ready_scalable   the same of either output, and all that scaling relies on
+--   ladder_ready         what holds behind the ladder
+--   numbers_is, numbers_given, skip_given   behind it the numbers are the block's, and none is refused
+--   scaled_counted, scaled_within   by these numbers the coefficients are those of the definition, and small
+--   block_told           what was written and counted is what the definition says
+--   block_refused_lem    a call that is refused hands back that refusal and the output as lent
 use Rattle.std.specs.Prelude.{Ok, Err}
 use mathlib.Core.Path.{◌≡◌, refl, sym, ap, subst, ◌∙◌}
 use mathlib.Core.Bool.{Bool, true, false, ◌&&◌}
-use mathlib.Core.List.{List, [], ◌∷◌, map}
-use Rattle.std.proofs.lemmas.List.{length-map}
+use mathlib.Core.List.{List, [], ◌∷◌}
 use Prim.Native.Nat.{ℕ, ◌+◌, ◌*◌, ◌≤◌}
 use native.Mathlib.Omega.{arith}
 use lib.Dec.{lit<}
@@ -21,37 +23,42 @@ use lib.Signed.{◌≤ℤ◌}
 use mir.Syntax.{w16}
 use Rattle.integers.specs.Lists.{overwrite}
 use Rattle.integers.proofs.LinearLaws.{parts_add, parts_neg, le_out}
-use Rattle.integers.proofs.BoundLaws.{within_out}
+use Rattle.integers.specs.Within.{Within}
+use Rattle.integers.proofs.BoundLaws.{within_out, within_eq}
 use Rattle.integers.proofs.ListsLaws.{overwrite_cong}
 use Rattle.h265.specs.Range.{log2_size, transform_range, coeff_min, coeff_max}
-use Rattle.h265.specs.ScalingFactor.{ScalingList, factor_source, factor_by, scaling_factor}
-use Rattle.h265.specs.ScalingFactor.ScalingList.{flat, listed}
+use Rattle.h265.specs.ScalingFactor.{ScalingList, scaling_factor}
 use Rattle.h265.specs.Scaling.{scaled_at}
-use Rattle.h265.specs.Limited.{limited_at, count_of, limited_count}
-use Rattle.h265.specs.TransformSkip.{ts_shift, ts_residual, skipped_at}
+use Rattle.h265.specs.Limited.{limited_at, limited_count}
+use Rattle.h265.specs.TransformSkip.{ts_shift}
 use Rattle.h265.proofs.RangeLaws.{transform_range_least, transform_range_depth, size_square}
 use Rattle.refusal.specs.declared.Refusal.{Refusal}
 use Rattle.refusal.specs.declared.Refusal.TheVariants.{SizeInvalid, DepthInvalid, WidthTooNarrow, ListLengthInvalid, InputTooShort, OutputTooShort}
 use Rattle.refusal.specs.Condition.{size_refused, depth_refused, width_refused, list_refused, block_refused}
 use Rattle.refusal.specs.Outcome.{Outcome, accepted, refused}
+use Rattle.refusal.proofs.RefusalLaws.{number_least}
 use Rattle.refusal.proofs.ConditionLaws.{size_accepted, width_accepted, block_room, list_whole}
+use Rattle.parameters.specs.declared.DequantParams.{DequantParams}
 use Rattle.parameters.specs.declared.TransformSkipParams.{TransformSkipParams}
-use Rattle.parameters.specs.Answers.{no_transform_skip}
-use Rattle.parameters.specs.Parameters.{dequant_of, transform_skip_of, transform_skip_params, KnownSize}
+use Rattle.parameters.specs.Answers.{no_dequant, no_transform_skip}
+use Rattle.parameters.specs.Parameters.{dequant_params, dequant_of, transform_skip_of, transform_skip_params, KnownSize}
 use Rattle.parameters.proofs.ParametersLaws.{known_accepted}
-use Rattle.scaling_blocks.specs.Blocks.{scaling_ladder, block_answer, not_refused, block_params, block_written, dequantized, transform_skipped, output_width, entries_of, CountWritten, CountWrites, left_as_lent, counted}
+use Rattle.scaling_blocks.specs.Blocks.{scaling_ladder, block_answer, not_refused, block_params, block_written, output_width, CountWritten, CountWrites, left_as_lent, counted}
+use Rattle.scaling_values.specs.Given.{entries_of}
 use Rattle.scaling_values.specs.Factor.{WholeList}
 use Rattle.scaling_values.specs.Level.{Ends}
 use Rattle.scaling_values.specs.Flat.{Regular}
 use Rattle.scaling_values.specs.Long.{Listed}
 use Rattle.scaling_values.specs.Skip.{Skippable}
-use Rattle.scaling_values.specs.Work.{flat_at, listed_at, flat_limited_at, listed_limited_at, flat_residual_at, listed_residual_at, Counted, Room}
+use Rattle.scaling_values.specs.Work.{listed_at, listed_limited_at, Counted, Room}
 use Rattle.refusal.proofs.LadderLaws.{Rung, Passed, first_accepted, first_passed, first_refused, with_value}
 use Rattle.refusal.proofs.LadderLaws.Rung.{rung}
+use Rattle.scaling_blocks.specs.Each.{Scalable}
+use Rattle.scaling_blocks.proofs.WorkLaws.{listed_at_within}
 use Rattle.scaling_values.proofs.FlatLaws.{dequant_of_regular}
 use Rattle.scaling_values.proofs.LongLaws.{dequant_of-listed}
 use Rattle.scaling_values.proofs.CountLaws.{count_cong}
-use Rattle.scaling_values.proofs.LevelLaws.{manageable_ends, dequant_of_manageable, flat_level_eq, listed_level_eq, listed_limited_eq}
+use Rattle.scaling_values.proofs.LevelLaws.{manageable_ends, dequant_of_manageable, listed_level_eq, listed_limited_eq}
 
 abbrev pub rungs : Bool → ℕ → ℕ → Bool → ℕ → ℕ → ℕ → List Rung
 rungs narrow n b x entries levels places =
@@ -89,15 +96,6 @@ module _ (narrow : Bool) (n : ℕ) (q : ℤ) (b : ℕ) (x : Bool) (entries level
   passed_params h =
       let s = (first_accepted tt tt tt (rungs narrow n b x entries levels places) h).0 in
       params_is s.0 s.1.0 ∙ passed_is h
-
--- ---- refused
-pub block_refused_lem : (narrow : Bool) (list : ScalingList) (n : ℕ) (q : ℤ) (b : ℕ) (x : Bool) (levels out : List ℤ) (at : ℕ → ℤ) (e : Refusal)
-    → refused no_transform_skip e ≡ block_params narrow n q b x (entries_of list) (length levels) (length out)
-    → CountWrites (Err e) out (block_written narrow list n q b x levels out at)
-unfolding block_params block_written scaling_ladder
-block_refused_lem narrow list n q b x levels out at e h =
-    first_refused no_transform_skip (transform_skip_of (log2_size n) q b x) _ _ (λ w. CountWrites (Err e) out w) e
-    (λ f k. record { answered = with_value 0 e f k; out = refl }) (rungs narrow n b x (entries_of list) (length levels) (length out)) h
 
 -- ---- accepted
 transform_skip_of_skippable : (l : ℕ) (q : ℤ) (b : ℕ) (x : Bool) → KnownSize l b → Skippable (transform_skip_of l q b x)
@@ -187,72 +185,67 @@ pub ready_rounds : {narrow : Bool} {n : ℕ} {q : ℤ} {b : ℕ} {x : Bool} {ent
 ready_rounds {narrow} {n} {q} {b} {x} {entries} {levels} {places} {p} r e =
     narrow_shift n q b x entries levels places p (subst (λ (y : Bool). Ready y n q b x entries levels places p) e r)
 
--- the places of an output are those of what is read of it
-pub ready_read : {narrow : Bool} {n : ℕ} {q : ℤ} {b : ℕ} {x : Bool} {entries levels : ℕ} {p : TransformSkipParams} {A : Type 0} (f : A → ℤ) (out : List A)
-    → Ready narrow n q b x entries levels (length out) p → Ready narrow n q b x entries levels (length (map f out)) p
-ready_read {narrow} {n} {q} {b} {x} {entries} {levels} {p} f out r =
-    subst (λ (k : ℕ). Ready narrow n q b x entries levels k p) (sym (length-map out f)) r
+-- ---- behind the ladder
+module _ (narrow : Bool) (n : ℕ) (q : ℤ) (b : ℕ) (x : Bool) (entries levels places : ℕ) where
+  pub ladder_ready : not_refused ≡ block_answer narrow n b x entries levels places → Ready narrow n q b x entries levels places (transform_skip_of (log2_size n) q b x)
+  ladder_ready h = block_ready narrow n q b x entries levels places (transform_skip_of (log2_size n) q b x) (passed_is narrow n q b x entries levels places h)
+
+  dequant_is : not_refused ≡ block_answer narrow n b x entries levels places → dequant_params n q b x ≡ accepted (dequant_of (log2_size n) q b x)
+  unfolding dequant_params
+  dequant_is h = let s = (ladder_ready h).passed in rw (s.0, s.1.0)
+
+  pub numbers_is : (p : DequantParams) → not_refused ≡ block_answer narrow n b x entries levels places → accepted p ≡ dequant_params n q b x → p ≡ dequant_of (log2_size n) q b x
+  numbers_is p h e = ap (λ (o : Outcome DequantParams). o.value) (e ∙ dequant_is h)
+
+  pub numbers_given : (e : Refusal) → not_refused ≡ block_answer narrow n b x entries levels places → refused no_dequant e ≡ dequant_params n q b x → ⊥
+  numbers_given e h k = omega (arith, number_least e, ap (λ (o : Outcome DequantParams). o.number) (k ∙ dequant_is h))
+
+  pub skip_given : (e : Refusal) → not_refused ≡ block_answer narrow n b x entries levels places → refused no_transform_skip e ≡ transform_skip_params n q b x → ⊥
+  skip_given e h k =
+      let s = (ladder_ready h).passed in
+      omega (arith, number_least e, ap (λ (o : Outcome TransformSkipParams). o.number) (k ∙ params_is narrow n q b x entries levels places s.0 s.1.0))
+
+pub ready_scalable : (narrow : Bool) {n : ℕ} {q : ℤ} {b : ℕ} {x : Bool} {entries levels places : ℕ} {p : TransformSkipParams}
+    → Ready narrow n q b x entries levels places p → Scalable (output_width narrow) p.dequant
+ready_scalable narrow r = record { manageable = r.skippable.scaling; regular = ready_regular r; listed = ready_listed r; ends = ready_ends narrow r }
 
 -- ---- what was written
-flat_at_lem : (n : ℕ) (q : ℤ) (b : ℕ) (x : Bool) (levels : List ℤ) (i : ℕ) → flat_at (dequant_of (log2_size n) q b x) levels i ≡ scaled_at flat n b x q levels i
-unfolding flat_at scaled_at scaling_factor factor_source factor_by
-flat_at_lem n q b x levels i = flat_level_eq (log2_size n) q b x (get_or levels i (pos 0))
+module _ (list : ScalingList) (n : ℕ) (q : ℤ) (b : ℕ) (x : Bool) (levels : List ℤ) where
+  scaled_eq : (i : ℕ) → listed_at (dequant_of (log2_size n) q b x) list n levels i ≡ scaled_at list n b x q levels i
+  unfolding listed_at scaled_at
+  scaled_eq i = listed_level_eq (log2_size n) q b x (scaling_factor list n i) (get_or levels i (pos 0))
 
-listed-at : (list : ScalingList) (n : ℕ) (q : ℤ) (b : ℕ) (x : Bool) (levels : List ℤ) (i : ℕ) → listed_at (dequant_of (log2_size n) q b x) list n levels i ≡ scaled_at list n b x q levels i
-unfolding listed_at scaled_at
-listed-at list n q b x levels i = listed_level_eq (log2_size n) q b x (scaling_factor list n i) (get_or levels i (pos 0))
+  limited_eq : (i : ℕ) → listed_limited_at (dequant_of (log2_size n) q b x) list n levels i ≡ limited_at list n b x q levels i
+  unfolding listed_limited_at limited_at
+  limited_eq i = listed_limited_eq (log2_size n) q b x (scaling_factor list n i) (get_or levels i (pos 0))
 
-flat_limited-at : (n : ℕ) (q : ℤ) (b : ℕ) (x : Bool) (levels : List ℤ) (i : ℕ) → flat_limited_at (dequant_of (log2_size n) q b x) levels i ≡ limited_at flat n b x q levels i
-unfolding flat_limited_at limited_at scaling_factor factor_source factor_by
-flat_limited-at n q b x levels i = listed_limited_eq (log2_size n) q b x 16 (get_or levels i (pos 0))
+  -- what is written and counted by the block's numbers is what the definition says
+  pub scaled_counted : {p : DequantParams} → p ≡ dequant_of (log2_size n) q b x → {k m : ℕ} {out after : List ℤ}
+      → Counted (listed_at p list n levels) (listed_limited_at p list n levels) k out after m
+      → Counted (scaled_at list n b x q levels) (limited_at list n b x q levels) k out after m
+  scaled_counted {p} e {k} {m} {out} {after} c =
+      let d = subst (λ (s : DequantParams). Counted (listed_at s list n levels) (listed_limited_at s list n levels) k out after m) e c in
+      record {
+        out = d.out ∙ overwrite_cong k (listed_at (dequant_of (log2_size n) q b x) list n levels) (scaled_at list n b x q levels) out (λ i h. scaled_eq i);
+        count = d.count ∙ count_cong (listed_limited_at (dequant_of (log2_size n) q b x) list n levels) (limited_at list n b x q levels) k (λ i h. limited_eq i);
+      }
 
-listed-limited-at : (list : ScalingList) (n : ℕ) (q : ℤ) (b : ℕ) (x : Bool) (levels : List ℤ) (i : ℕ) → listed_limited_at (dequant_of (log2_size n) q b x) list n levels i ≡ limited_at list n b x q levels i
-unfolding listed_limited_at limited_at
-listed-limited-at list n q b x levels i = listed_limited_eq (log2_size n) q b x (scaling_factor list n i) (get_or levels i (pos 0))
+  pub scaled_within : KnownSize (log2_size n) b → (i : ℕ) → Within 4194304 (scaled_at list n b x q levels i)
+  scaled_within k i = within_eq (sym (scaled_eq i)) (listed_at_within levels i (dequant_of_manageable (log2_size n) q b x k) list n)
 
-module _ (narrow : Bool) (n : ℕ) (q : ℤ) (b : ℕ) (x : Bool) (levels out after : List ℤ) (p : TransformSkipParams) (m : ℕ) where
-  -- `by` and `told` are the working function's at the block's numbers, `at` and `limited_at` the definition's
-  written : (list : ScalingList) (by : TransformSkipParams → ℕ → ℤ) (told : TransformSkipParams → ℕ → Bool) (at : ℕ → ℤ) → Ready narrow n q b x (entries_of list) (length levels) (length out) p
-      → Counted (by p) (told p) (n * n) out after m → ((i : ℕ) → by (transform_skip_of (log2_size n) q b x) i ≡ at i)
-      → ((i : ℕ) → told (transform_skip_of (log2_size n) q b x) i ≡ limited_at list n b x q levels i)
-      → CountWrites (Ok m) after (block_written narrow list n q b x levels out at)
+module _ (narrow : Bool) (list : ScalingList) (n : ℕ) (q : ℤ) (b : ℕ) (x : Bool) (levels out : List ℤ) where
+  pub block_told : (at : ℕ → ℤ) {m : ℕ} {after : List ℤ} → not_refused ≡ block_answer narrow n b x (entries_of list) (length levels) (length out)
+      → Counted at (limited_at list n b x q levels) (n * n) out after m → CountWrites (Ok m) after (block_written narrow list n q b x levels out at)
   unfolding block_written scaling_ladder limited_count
-  written list by told at r c k l =
+  block_told at {m} {after} h c =
       subst (λ (w : CountWritten). CountWrites (Ok m) after w)
-      (sym (first_passed (left_as_lent out) (counted (limited_count list n b x q levels) (overwrite (n * n) at out)) (rungs narrow n b x (entries_of list) (length levels) (length out)) r.passed))
-      (record {
-        answered =
-            ap accepted
-            (c.count ∙ ap (λ (s : TransformSkipParams). count_of (told s) (n * n)) r.is
-            ∙ count_cong (told (transform_skip_of (log2_size n) q b x)) (limited_at list n b x q levels) (n * n) (λ i h. l i));
-        out = c.out ∙ ap (λ (s : TransformSkipParams). overwrite (n * n) (by s) out) r.is ∙ overwrite_cong (n * n) (by (transform_skip_of (log2_size n) q b x)) at out (λ i h. k i);
-      })
+      (sym (first_passed (left_as_lent out) (counted (limited_count list n b x q levels) (overwrite (n * n) at out)) (rungs narrow n b x (entries_of list) (length levels) (length out))
+      (ladder_ready narrow n q b x (entries_of list) (length levels) (length out) h).passed))
+      (record { answered = ap accepted c.count; out = c.out })
 
-  pub flat_writes : Ready narrow n q b x 64 (length levels) (length out) p → Counted (flat_at p.dequant levels) (flat_limited_at p.dequant levels) (n * n) out after m
-      → CountWrites (Ok m) after (dequantized narrow flat n q b x levels out)
-  unfolding dequantized transform_skip_of
-  flat_writes r c =
-      written flat (λ s. flat_at s.dequant levels) (λ s. flat_limited_at s.dequant levels) (scaled_at flat n b x q levels) r c (flat_at_lem n q b x levels) (flat_limited-at n q b x levels)
-
-  pub flat_skips : Ready narrow n q b x 64 (length levels) (length out) p → Counted (flat_residual_at p levels) (flat_limited_at p.dequant levels) (n * n) out after m
-      → CountWrites (Ok m) after (transform_skipped narrow flat n q b x levels out)
-  unfolding transform_skipped transform_skip_of flat_residual_at skipped_at
-  flat_skips r c =
-      written flat (λ s. flat_residual_at s levels) (λ s. flat_limited_at s.dequant levels) (skipped_at flat n b x q levels) r c
-      (λ i. ap (ts_residual (ts_shift (transform_range b x) b (log2_size n))) (flat_at_lem n q b x levels i)) (flat_limited-at n q b x levels)
-
-  pub listed_writes : (es : List ℕ) (d : ℕ) → Ready narrow n q b x (length es) (length levels) (length out) p
-      → Counted (listed_at p.dequant (listed es d) n levels) (listed_limited_at p.dequant (listed es d) n levels) (n * n) out after m
-      → CountWrites (Ok m) after (dequantized narrow (listed es d) n q b x levels out)
-  unfolding dequantized transform_skip_of
-  listed_writes es d r c =
-      written (listed es d) (λ s. listed_at s.dequant (listed es d) n levels) (λ s. listed_limited_at s.dequant (listed es d) n levels) (scaled_at (listed es d) n b x q levels) r c
-      (listed-at (listed es d) n q b x levels) (listed-limited-at (listed es d) n q b x levels)
-
-  pub listed_skips : (es : List ℕ) (d : ℕ) → Ready narrow n q b x (length es) (length levels) (length out) p
-      → Counted (listed_residual_at p (listed es d) n levels) (listed_limited_at p.dequant (listed es d) n levels) (n * n) out after m
-      → CountWrites (Ok m) after (transform_skipped narrow (listed es d) n q b x levels out)
-  unfolding transform_skipped transform_skip_of listed_residual_at skipped_at
-  listed_skips es d r c =
-      written (listed es d) (λ s. listed_residual_at s (listed es d) n levels) (λ s. listed_limited_at s.dequant (listed es d) n levels) (skipped_at (listed es d) n b x q levels) r c
-      (λ i. ap (ts_residual (ts_shift (transform_range b x) b (log2_size n))) (listed-at (listed es d) n q b x levels i)) (listed-limited-at (listed es d) n q b x levels)
+  pub block_refused_lem : (at : ℕ → ℤ) (e : Refusal) → refused_by e ≡ block_answer narrow n b x (entries_of list) (length levels) (length out)
+      → CountWrites (Err e) out (block_written narrow list n q b x levels out at)
+  unfolding block_written scaling_ladder
+  block_refused_lem at e h =
+      first_refused tt tt _ _ (λ w. CountWrites (Err e) out w) e
+      (λ f k. record { answered = with_value 0 e f k; out = refl }) (rungs narrow n b x (entries_of list) (length levels) (length out)) h

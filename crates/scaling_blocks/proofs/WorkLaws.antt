@@ -3,6 +3,7 @@
 --   residual_holds                         a residual fits the output
 --   output_within                          what an output holds, 32 bits hold
 --   by_entry_same, by_entry_fits, by_entry_listed   what is written and counted by the m at every index: the same by equal m, fitting, the block's
+--   flat_listed                            without a list every m is 16
 --   row_position                           the position of an index of a row
 --   shared_row                             a row that is not the first of those that share their entries has the quotient of the row above
 --   stored_rest                            a place that a loop has not come to is as lent
@@ -18,7 +19,7 @@ use native.Mathlib.Nat.{mod-lt}
 use native.Mathlib.Decide.{dec_lt}
 use native.Mathlib.Omega.{arith}
 use lib.Arith.{digits_div, digits_mod}
-use lib.IntN.{ℤ, pos}
+use lib.IntN.{ℤ, pos, ◌*ℤ◌, *ℤ_comm, pos-*ℤ-pos}
 use lib.ListN.{length, get_or, set, length-set}
 use lib.Signed.{◌≤ℤ◌}
 use lib.Pow.{pow_pos, split, high}
@@ -27,19 +28,23 @@ use mir.Syntax.{Width, w16, w32}
 use mir.Val.{SFits}
 use mir.Facts.{sfits_widen}
 use Rattle.integers.specs.Lists.{overwrite}
+use Rattle.integers.specs.Shift.{shift_right}
 use Rattle.integers.specs.Within.{Within}
 use Rattle.integers.proofs.BoundLaws.{within_eq}
 use Rattle.integers.proofs.ListsLaws.{Stored, stored_more, overwrite_cong, overwrite-get_or, overwrite-get_or-past, overwrite_twice}
 use Rattle.h265.specs.Range.{log2_size}
-use Rattle.h265.specs.ScalingFactor.{ScalingList, repeated_position, scaling_factor}
+use Rattle.h265.specs.ScalingFactor.{ScalingList, repeated_position, factor_source, factor_by, scaling_factor}
+use Rattle.h265.specs.ScalingFactor.ScalingList.{flat}
 use Rattle.h265.specs.TransformSkip.{ts_residual}
 use Rattle.parameters.specs.declared.DequantParams.{DequantParams}
-use Rattle.scaling_values.specs.Level.{listed_level, listed_limited, Manageable, Ends}
-use Rattle.scaling_values.specs.Work.{flat_at, listed_at, listed_limited_at, residual_at, Counted, Rows, Coefficients, Fills}
+use Rattle.scaling_values.specs.Level.{level_by, flat_level, listed_level, listed_limited, Manageable, Ends}
+use Rattle.scaling_values.specs.Flat.{Regular}
+use Rattle.scaling_values.specs.Work.{flat_at, listed_at, flat_limited_at, listed_limited_at, residual_at, Counted, Rows, Coefficients, Fills}
 use Rattle.scaling_values.proofs.CountLaws.{count_cong}
 use Rattle.std.proofs.lemmas.List.{map-set}
 use Rattle.scaling_blocks.specs.Blocks.{output_width}
 use Rattle.scaling_blocks.specs.Each.{by_entry}
+use Rattle.scaling_values.proofs.FlatLaws.{base_eq}
 use Rattle.scaling_values.proofs.SkipLaws.{ts_residual_fits}
 use Rattle.scaling_values.proofs.LevelLaws.{flat_level_within, listed_level_fits, listed_level_within}
 
@@ -51,6 +56,19 @@ module _ (levels : List ℤ) (i : ℕ) {p : DequantParams} (m : Manageable p) wh
   pub listed_at_within : (list : ScalingList) (n : ℕ) → Within 4194304 (listed_at p list n levels i)
   unfolding listed_at
   listed_at_within list n = listed_level_within (scaling_factor list n i) (get_or levels i (pos 0)) m
+
+-- without a list every m is 16
+pub flat_listed : {p : DequantParams} → Regular p → (n : ℕ) (levels : List ℤ) {k r : ℕ} {xs ys : List ℤ}
+    → Counted (flat_at p levels) (flat_limited_at p levels) k xs ys r → Counted (listed_at p flat n levels) (listed_limited_at p flat n levels) k xs ys r
+unfolding flat_at listed_at flat_limited_at listed_limited_at scaling_factor factor_source factor_by flat_level listed_level
+flat_listed {p} g n levels {k} {xs = xs} c =
+    let e : p.factor ≡ shift_right p.factor 4 *ℤ pos 16 =
+    g.factor ∙ sym (pos-*ℤ-pos 16 g.scale) ∙ *ℤ_comm (pos 16) (pos g.scale) ∙ ap (λ (z : ℤ). z *ℤ pos 16) (sym (base_eq p g.scale g.factor g.add g.low))
+    in
+    record {
+      out = c.out ∙ overwrite_cong k (flat_at p levels) (listed_at p flat n levels) xs (λ i a. ap (λ (z : ℤ). level_by p z (get_or levels i (pos 0))) e);
+      count = c.count;
+    }
 
 pub row_position : (n r row c : ℕ) → Rows n r → c < n → row / 2 ^ r * 8 + c / 2 ^ r ≡ repeated_position n (row * n + c)
 unfolding repeated_position

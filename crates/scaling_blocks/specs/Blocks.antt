@@ -16,8 +16,8 @@ use Rattle.std.specs.Int.{Width, w16, w32}
 use Rattle.integers.specs.Lists.{overwrite}
 use Rattle.h265.specs.Range.{log2_size}
 use Rattle.h265.specs.ScalingFactor.{ScalingList}
-use Rattle.h265.specs.ScalingFactor.ScalingList.{flat, listed}
 use Rattle.h265.specs.Scaling.{scaled_at}
+use Rattle.scaling_values.specs.Given.{entries_of}
 use Rattle.h265.specs.Limited.{limited_count}
 use Rattle.h265.specs.TransformSkip.{skipped_at}
 use Rattle.refusal.specs.declared.Refusal.{Refusal}
@@ -38,11 +38,6 @@ bits32 = false
 -- what an element of the output has room for
 abbrev pub output_width : Bool → Width
 output_width narrow = cond narrow w16 w32
-
--- row 5 applies to a list alone: without one, 64 entries stand for nothing to refuse
-abbrev pub entries_of : ScalingList → ℕ
-entries_of flat = 64
-entries_of (listed entries d) = length entries
 
 unfoldable pub scaling_ladder : {A : Type 0} → (Refusal → A) → A → Bool → ℕ → ℕ → Bool → ℕ → ℕ → ℕ → A
 scaling_ladder stop done narrow n b x entries levels places =

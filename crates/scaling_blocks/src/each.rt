@@ -3,29 +3,26 @@ ghost use Rattle.std.specs.Prelude.{◌≡◌, ◌*◌, ◌≤◌, ℕ, ℤ, tru
 ghost use Rattle.std.proofs.Common.{SFits};
 ghost use Rattle.integers.specs.Lists.{overwrite};
 ghost use Rattle.h265.specs.ScalingFactor.{scaling_factor};
-ghost use Rattle.h265.specs.ScalingFactor.ScalingList.{listed};
+ghost use Rattle.h265.specs.ScalingFactor.ScalingList.{flat, listed};
+ghost use Rattle.h265.specs.Scaling.{scaled_at};
+ghost use Rattle.h265.specs.Limited.{limited_at};
 ghost use Rattle.scaling_values.specs.Factor.{WholeList};
-ghost use Rattle.scaling_values.specs.Level.{Manageable, Ends};
 ghost use Rattle.scaling_values.specs.Flat.{short_at, short_limited_at, Short, ShortFits};
-ghost use Rattle.scaling_values.specs.Long.{Listed};
 ghost use Rattle.scaling_values.specs.Skip.{Skippable};
 ghost use Rattle.scaling_values.specs.Work.{listed_at, listed_limited_at, residual_at, Counted, Room, Coefficients};
-ghost use Rattle.scaling_blocks.specs.Blocks.{output_width};
-ghost use Rattle.scaling_blocks.specs.Each.{by_entry};
+ghost use Rattle.scaling_blocks.specs.Blocks.{output_width, not_refused, block_answer};
+ghost use Rattle.scaling_blocks.specs.Each.{by_entry, Scalable};
 
 use crate::entry::ByEntry;
 use crate::residual::Residual;
 use crate::spread;
-use parameters::{DequantParams, TransformSkipParams};
+use parameters::{DequantParams, QpPrime, TransformSkipParams};
+use refusal::Precision;
 use scaling_values::{FlatParams, flat, listed, long, skip};
 
 // The coefficients of a block without a list, and how many were limited.
-pub(crate) fn scale_flat<R: Residual>(
-    levels: &[i32],
-    count: usize,
-    by: FlatParams,
-    out: &mut [R],
-) -> u16
+// Kept: a loop of its own beside `scale_entries`, since without a list there is no entry to read; one loop for both would read entries of 16, or ask at every index.
+fn scale_flat<R: Residual>(levels: &[i32], count: usize, by: FlatParams, out: &mut [R]) -> u16
     requires short { Short by }
     requires room { Room count (length levels.now) (length out.old) }
     requires count_bound { count ≤ 1024 }
@@ -89,7 +86,7 @@ fn scale_by<P: ByEntry, R: Residual>(
 }
 
 // The same by the numbers of the block's range: where R = 15 without the power of two.
-pub(crate) fn scale_listed<R: Residual>(
+fn scale_listed<R: Residual>(
     levels: &[i32],
     n: usize,
     by: DequantParams,
@@ -97,17 +94,52 @@ pub(crate) fn scale_listed<R: Residual>(
     dc: u8,
     out: &mut [R],
 ) -> u16
-    requires manageable { Manageable by }
-    requires ends { Ends (output_width R.NARROW) by }
+    requires scalable { Scalable (output_width R.NARROW) by }
     requires room { Room (n * n) (length levels.now) (length out.old) }
     requires whole_list { WholeList (length list.now) n }
-    requires listed { Listed by }
     ensures { Counted (listed_at by (listed list.now dc) n levels.now) (listed_limited_at by (listed list.now dc) n levels.now) (n * n) (map R.reads out.old) (map R.reads out.new) result }
 {
     if by.clip_max == 32767 {
         return scale_by(levels, n, listed::listed_params(by), list, dc, out);
     }
     scale_by(levels, n, long::long_params(by), list, dc, out)
+}
+
+// A block without a list that is not refused.
+#[inline(always)]
+pub(crate) fn flat_block<R: Residual>(
+    levels: &[i32],
+    n: usize,
+    qp_prime: QpPrime,
+    precision: Precision,
+    out: &mut [R],
+) -> u16
+    requires { not_refused ≡ block_answer R.NARROW n precision.bit_depth precision.extended 64 (length levels.now) (length out.old) }
+    ensures { Counted (scaled_at flat n precision.bit_depth precision.extended qp_prime.0 levels.now) (limited_at flat n precision.bit_depth precision.extended qp_prime.0 levels.now) (n * n) (map R.reads out.old) (map R.reads out.new) result }
+{
+    match parameters::dequant_params(n, qp_prime, precision) {
+        Ok(by) => scale_flat(levels, n * n, flat::flat_params(by), out),
+        Err(_) => 0,
+    }
+}
+
+// A block with a list that is not refused. It works its numbers out beside the loops, so that they stay in registers.
+pub(crate) fn listed_block<R: Residual>(
+    levels: &[i32],
+    n: usize,
+    qp_prime: QpPrime,
+    precision: Precision,
+    list: &[u8],
+    dc: u8,
+    out: &mut [R],
+) -> u16
+    requires { not_refused ≡ block_answer R.NARROW n precision.bit_depth precision.extended (length list.now) (length levels.now) (length out.old) }
+    ensures { Counted (scaled_at (listed list.now dc) n precision.bit_depth precision.extended qp_prime.0 levels.now) (limited_at (listed list.now dc) n precision.bit_depth precision.extended qp_prime.0 levels.now) (n * n) (map R.reads out.old) (map R.reads out.new) result }
+{
+    match parameters::dequant_params(n, qp_prime, precision) {
+        Ok(by) => scale_listed(levels, n, by, list, dc, out),
+        Err(_) => 0,
+    }
 }
 
 // Coefficients turned into residuals, where they stand.

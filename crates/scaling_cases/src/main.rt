@@ -4,204 +4,147 @@
 // throughout. The text goes on with the answer, and the value with what was limited, or the count of limited coefficients and the output. tests/scaling_cases.py writes cases and text.
 #![tactic(auto)]
 
-ghost use Rattle.std.specs.Prelude.{◌≤◌};
-
 use parameters::QpPrime;
-use refusal::Refusal;
+use refusal::{Precision, Refusal};
+use std::fmt::Display;
 use std::io::Read;
+
+// The function that a case is of, by its number.
+#[derive(Clone, Copy)]
+enum Function {
+    Factor,
+    Level,
+    Wide(Scaling),
+    Narrow(Scaling),
+}
+
+// What becomes of a block.
+#[derive(Clone, Copy)]
+enum Scaling {
+    Flat,
+    Listed,
+    SkipFlat,
+    SkipListed,
+}
+
+// A number that a case gives no function.
+#[derive(Clone, Copy)]
+struct UnknownFunction;
+
+impl TryFrom<u8> for Function {
+    type Error = UnknownFunction;
+
+    fn try_from(number: u8) -> Result<Function, UnknownFunction> {
+        match number {
+            0 => Ok(Function::Factor),
+            1 => Ok(Function::Level),
+            2 => Ok(Function::Wide(Scaling::Flat)),
+            3 => Ok(Function::Wide(Scaling::Listed)),
+            4 => Ok(Function::Wide(Scaling::SkipFlat)),
+            5 => Ok(Function::Wide(Scaling::SkipListed)),
+            6 => Ok(Function::Narrow(Scaling::Flat)),
+            7 => Ok(Function::Narrow(Scaling::Listed)),
+            8 => Ok(Function::Narrow(Scaling::SkipFlat)),
+            9 => Ok(Function::Narrow(Scaling::SkipListed)),
+            _ => Err(UnknownFunction),
+        }
+    }
+}
 
 #[derive(Clone, Copy)]
 struct Case {
-    which: u8,
     n: usize,
     index: usize,
-    qp: i32,
+    qp: QpPrime,
     level: i32,
-    bit_depth: u8,
-    extended: bool,
+    precision: Precision,
     dc: u8,
 }
 
 fn next_case(stdin: &mut impl Read) -> Case {
-    let which = cases::next::<u8>(stdin);
-    let n = cases::next::<usize>(stdin);
-    let index = cases::next::<usize>(stdin);
-    let qp = cases::next::<i32>(stdin);
-    let level = cases::next::<i32>(stdin);
-    let bit_depth = cases::next::<u8>(stdin);
-    let extended = cases::next::<u8>(stdin) != 0;
-    let dc = cases::next::<u8>(stdin);
     Case {
-        which,
-        n,
-        index,
-        qp,
-        level,
-        bit_depth,
-        extended,
-        dc,
-    }
-}
-
-fn factor(rt: &impl Print, case: Case, list: &[u8]) {
-    match scaling::scaling_coeff(list, case.dc, case.n, case.index) {
-        Ok(m) => {
-            cases::put_answer(rt, Ok(()));
-            cases::put(rt, m as u64);
-        }
-        Err(why) => cases::put_refusal(rt, why),
-    }
-}
-
-fn put_limited(rt: &impl Print, limited: bool) {
-    if limited {
-        cases::put(rt, 1);
-    } else {
-        cases::put(rt, 0);
-    }
-}
-
-// The answer, and how many coefficients were limited.
-fn put_count(rt: &impl Print, answer: Result<u16, Refusal>) {
-    match answer {
-        Ok(limited) => {
-            cases::put_answer(rt, Ok(()));
-            cases::put(rt, limited as u64);
-        }
-        Err(why) => {
-            cases::put_refusal(rt, why);
-            cases::put(rt, 0);
-        }
+        n: cases::next(stdin),
+        index: cases::next(stdin),
+        qp: QpPrime(cases::next(stdin)),
+        level: cases::next(stdin),
+        precision: cases::next_precision(stdin),
+        dc: cases::next(stdin),
     }
 }
 
 // With DC as m.
 fn level(rt: &impl Print, case: Case) {
-    let qp = QpPrime(case.qp);
-    match scaling::scale_level(
-        case.level,
-        case.dc,
-        case.n,
-        qp,
-        case.bit_depth,
-        case.extended,
-    ) {
+    match scaling::scale_level(case.level, case.dc, case.n, case.qp, case.precision) {
         Ok(scaled) => {
             cases::put_answer(rt, Ok(()));
             cases::put(rt, scaled.value);
-            put_limited(rt, scaled.level_limited);
-            put_limited(rt, scaled.result_limited);
+            cases::put_flag(rt, scaled.level_limited);
+            cases::put_flag(rt, scaled.result_limited);
         }
         Err(why) => cases::put_refusal(rt, why),
     }
 }
 
-fn scale_wide(case: Case, list: &[u8], levels: &[i32], out: &mut [i32]) -> Result<u16, Refusal> {
-    let which = case.which;
+// Kept: a match on each width's four names; a trait with two impls would hold the same two matches.
+fn scale_wide(
+    what: Scaling,
+    case: Case,
+    list: &[u8],
+    levels: &[i32],
+    out: &mut [i32],
+) -> Result<u16, Refusal> {
     let n = case.n;
-    let qp = QpPrime(case.qp);
-    let depth = case.bit_depth;
-    let extended = case.extended;
+    let qp = case.qp;
+    let precision = case.precision;
     let dc = case.dc;
-    match which {
-        2 => scaling_wide::dequantize_into_scalar_i32(levels, n, qp, depth, extended, out),
-        3 => scaling_wide::dequantize_scaled_into_scalar_i32(
-            levels, n, qp, depth, extended, list, dc, out,
+    match what {
+        Scaling::Flat => scaling_wide::dequantize_into_scalar_i32(levels, n, qp, precision, out),
+        Scaling::Listed => scaling_wide::dequantize_scaled_into_scalar_i32(
+            levels, n, qp, precision, list, dc, out,
         ),
-        4 => scaling_wide::dequantize_transform_skip_into_scalar_i32(
-            levels, n, qp, depth, extended, out,
+        Scaling::SkipFlat => scaling_wide::dequantize_transform_skip_into_scalar_i32(
+            levels, n, qp, precision, out,
         ),
-        _ => scaling_wide::dequantize_transform_skip_scaled_into_scalar_i32(
-            levels, n, qp, depth, extended, list, dc, out,
+        Scaling::SkipListed => scaling_wide::dequantize_transform_skip_scaled_into_scalar_i32(
+            levels, n, qp, precision, list, dc, out,
         ),
     }
 }
 
-fn scale_narrow(case: Case, list: &[u8], levels: &[i32], out: &mut [i16]) -> Result<u16, Refusal> {
-    let which = case.which;
+fn scale_narrow(
+    what: Scaling,
+    case: Case,
+    list: &[u8],
+    levels: &[i32],
+    out: &mut [i16],
+) -> Result<u16, Refusal> {
     let n = case.n;
-    let qp = QpPrime(case.qp);
-    let depth = case.bit_depth;
-    let extended = case.extended;
+    let qp = case.qp;
+    let precision = case.precision;
     let dc = case.dc;
-    match which {
-        6 => scaling_narrow::dequantize_into_scalar_i16(levels, n, qp, depth, extended, out),
-        7 => scaling_narrow::dequantize_scaled_into_scalar_i16(
-            levels, n, qp, depth, extended, list, dc, out,
+    match what {
+        Scaling::Flat => scaling_narrow::dequantize_into_scalar_i16(levels, n, qp, precision, out),
+        Scaling::Listed => scaling_narrow::dequantize_scaled_into_scalar_i16(
+            levels, n, qp, precision, list, dc, out,
         ),
-        8 => scaling_narrow::dequantize_transform_skip_into_scalar_i16(
-            levels, n, qp, depth, extended, out,
+        Scaling::SkipFlat => scaling_narrow::dequantize_transform_skip_into_scalar_i16(
+            levels, n, qp, precision, out,
         ),
-        _ => scaling_narrow::dequantize_transform_skip_scaled_into_scalar_i16(
-            levels, n, qp, depth, extended, list, dc, out,
+        Scaling::SkipListed => scaling_narrow::dequantize_transform_skip_scaled_into_scalar_i16(
+            levels, n, qp, precision, list, dc, out,
         ),
     }
 }
 
-fn wide(rt: &impl Print, case: Case, list: &[u8], levels: &[i32], out: &mut [i32]) {
-    put_count(rt, scale_wide(case, list, levels, out));
+// The answer of a call, how many coefficients were limited, and the output.
+fn show<T, F>(rt: &impl Print, out: &mut [T], call: F)
+where
+    T: Display + Copy,
+    F: FnOnce(&mut [T]) -> Result<u16, Refusal>,
+    requires { F.IsAlwaysCallable call }
+{
+    cases::put_count(rt, call(out));
     cases::put_all(rt, out);
-}
-
-fn narrow(rt: &impl Print, case: Case, list: &[u8], levels: &[i32], out: &mut [i16]) {
-    put_count(rt, scale_narrow(case, list, levels, out));
-    cases::put_all(rt, out);
-}
-
-// How long a list is, or a block; none is longer.
-fn list_length(stdin: &mut impl Read) -> usize
-    ensures { result ≤ 65 }
-{
-    let n = cases::next::<u16>(stdin) as usize;
-    if n <= 65 {
-        return n;
-    }
-    65
-}
-
-fn block_length(stdin: &mut impl Read) -> usize
-    ensures { result ≤ 1040 }
-{
-    let n = cases::next::<u16>(stdin) as usize;
-    if n <= 1040 {
-        return n;
-    }
-    1040
-}
-
-fn read_list(stdin: &mut impl Read, count: usize, list: &mut [u8]) {
-    if count <= list.len() {
-        streams::read_full(stdin, &mut list[0..count]);
-    }
-}
-
-fn read_levels(stdin: &mut impl Read, count: usize, levels: &mut [i32]) {
-    if count <= levels.len() {
-        cases::read_all(stdin, &mut levels[0..count]);
-    }
-}
-
-fn block(rt: &impl Print, case: Case, len: usize, list: &[u8], levels: &[i32])
-    requires { len ≤ 1040 }
-{
-    let mut out = [7i32; 1040];
-    let mut small = [7i16; 1040];
-    if case.which < 6 {
-        wide(rt, case, list, levels, &mut out[0..len]);
-    } else {
-        narrow(rt, case, list, levels, &mut small[0..len]);
-    }
-}
-
-fn call(rt: &impl Print, case: Case, len: usize, list: &[u8], levels: &[i32])
-    requires { len ≤ 1040 }
-{
-    let which = case.which;
-    match which {
-        0 => factor(rt, case, list),
-        1 => level(rt, case),
-        _ => block(rt, case, len, list, levels),
-    }
 }
 
 // One case; answers whether there was one.
@@ -209,23 +152,49 @@ fn replay(rt: &impl Print, stdin: &mut impl Read) -> bool {
     if !cases::copy_text(rt, stdin) {
         return false;
     }
+    let Ok(function) = Function::try_from(cases::next::<u8>(stdin)) else {
+        return false;
+    };
     let case = next_case(stdin);
     let mut list = [0u8; 65];
     let mut levels = [0i32; 1040];
-    let entries = list_length(stdin);
-    let count = block_length(stdin);
-    let len = block_length(stdin);
-    read_list(stdin, entries, &mut list);
-    read_levels(stdin, count, &mut levels);
-    call(rt, case, len, &list[0..entries], &levels[0..count]);
+    let entries = cases::next_short_length(stdin, 65);
+    let count = cases::next_short_length(stdin, 1040);
+    let len = cases::next_short_length(stdin, 1040);
+    cases::read_first(stdin, entries, &mut list);
+    cases::read_first(stdin, count, &mut levels);
+    let list = &list[..entries];
+    let levels = &levels[..count];
+    match function {
+        Function::Factor => {
+            cases::put_value(
+                rt,
+                scaling::scaling_coeff(list, case.dc, case.n, case.index),
+            );
+        }
+        Function::Level => level(rt, case),
+        Function::Wide(what) => {
+            let mut out = [7i32; 1040];
+            show(
+                rt,
+                &mut out[..len],
+                |out| scale_wide(what, case, list, levels, out),
+            );
+        }
+        Function::Narrow(what) => {
+            let mut out = [7i16; 1040];
+            show(
+                rt,
+                &mut out[..len],
+                |out| scale_narrow(what, case, list, levels, out),
+            );
+        }
+    }
     cases::put_end(rt);
     true
 }
 
 fn main(rt: HostRuntime) {
     let mut stdin = rt.stdin();
-    let mut turns = u64::MAX;
-    while turns > 0 && replay(&rt, &mut stdin) {
-        turns -= 1;
-    }
+    cases::replay_all(|| replay(&rt, &mut stdin));
 }

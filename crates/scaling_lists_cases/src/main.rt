@@ -6,8 +6,7 @@
 
 ghost use Rattle.std.specs.Prelude.{◌≤◌};
 
-use cases::put;
-use refusal::Refusal;
+use cases::{Defaults, kept, put, put_each, put_refused};
 use std::io::Read;
 use std::rt::Files;
 use std::{env, fs, io};
@@ -27,8 +26,8 @@ enum Amiss {
     ShortFourAndLists,
 }
 
-impl Amiss {
-    fn named(byte: u8) -> Amiss {
+impl From<u8> for Amiss {
+    fn from(byte: u8) -> Amiss {
         match byte {
             1 => Amiss::ShortFour,
             2 => Amiss::LongFour,
@@ -39,7 +38,9 @@ impl Amiss {
             _ => Amiss::Nothing,
         }
     }
+}
 
+impl Amiss {
     fn four_length(self) -> usize
         ensures { result ≤ 65 }
     {
@@ -79,38 +80,6 @@ impl Amiss {
     }
 }
 
-// The default lists of a file.
-#[derive(Clone, Copy)]
-struct Defaults {
-    four: [u8; 65],
-    intra: [u8; 64],
-    inter: [u8; 64],
-}
-
-impl Defaults {
-    fn read(file: &mut impl Read) -> Defaults {
-        let mut four = [0; 65];
-        let mut intra = [0; 64];
-        let mut inter = [0; 64];
-        streams::read_full(file, &mut four);
-        streams::read_full(file, &mut intra);
-        streams::read_full(file, &mut inter);
-        Defaults { four, intra, inter }
-    }
-}
-
-// The other program on scaling lists has these three too: a crate for them would be longer than they are.
-fn put_each(rt: &impl Print, xs: &[u8]) {
-    for x in xs {
-        put(rt, *x);
-    }
-}
-
-// Whether every element is still the mark.
-fn kept(xs: &[u8]) -> bool {
-    xs.iter().all(|x| *x == 7)
-}
-
 // The lists that were read, and what stands behind them.
 fn put_lists(rt: &impl Print, lists: &[u8], dcs: &[u8]) {
     for (list, dc) in lists.chunks_exact(64).zip(dcs) {
@@ -125,12 +94,6 @@ fn put_lists(rt: &impl Print, lists: &[u8], dcs: &[u8]) {
         put_each(rt, behind);
     }
     cases::put_end(rt);
-}
-
-fn put_refused(rt: &impl Print, why: Refusal, same: bool) {
-    put(rt, why.number());
-    put(rt, why.place());
-    streams::write_all(rt, if same { b" kept\n" } else { b" changed\n" });
 }
 
 // One call on buffers that hold the mark.
@@ -172,7 +135,7 @@ fn replay(rt: &impl Print, file: &mut impl Read, number: u64, defaults: Defaults
     streams::write_all(rt, b"case");
     put(rt, number);
     streams::write_all(rt, b":");
-    read_case(rt, Amiss::named(amiss), defaults, &stream[..there]);
+    read_case(rt, Amiss::from(amiss), defaults, &stream[..there]);
     true
 }
 
@@ -187,6 +150,7 @@ fn replay_all(rt: &impl Print, file: &mut impl Read) {
 }
 
 // The file that an argument names.
+// Kept: as in the other program on files; a shared one would need a closure with Files, Print and Eprint.
 fn replay_file<R: Files + Print + Eprint>(rt: &R, path: &str) {
     match fs::open(rt, path) {
         Ok(mut file) => {

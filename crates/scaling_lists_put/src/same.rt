@@ -23,6 +23,7 @@ pub fn has_dc(j: usize) -> bool
     1 < j / 6
 }
 
+// Kept: equality to a size is no derived one: entries that the size does not use, and DC where it has none, do not count.
 fn same_dc(j: usize, a: u8, b: u8) -> bool
     ensures { result ≡ cond (has_dc (size_id j)) (eqb a b) true }
 {

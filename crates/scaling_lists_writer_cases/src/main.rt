@@ -6,8 +6,7 @@
 
 ghost use Rattle.std.specs.Prelude.{◌≤◌};
 
-use cases::put;
-use refusal::Refusal;
+use cases::{Defaults, kept, put, put_each, put_refused};
 use std::io::Read;
 
 // The largest room that is lent.
@@ -27,8 +26,8 @@ enum Amiss {
     NoneBehind,
 }
 
-impl Amiss {
-    fn named(byte: u8) -> Amiss {
+impl From<u8> for Amiss {
+    fn from(byte: u8) -> Amiss {
         match byte {
             1 => Amiss::ShortFour,
             2 => Amiss::LongFour,
@@ -40,7 +39,9 @@ impl Amiss {
             _ => Amiss::Nothing,
         }
     }
+}
 
+impl Amiss {
     fn four_length(self) -> usize
         ensures { result ≤ 65 }
     {
@@ -88,44 +89,6 @@ impl Amiss {
             _ => 21,
         }
     }
-}
-
-// The default lists.
-#[derive(Clone, Copy)]
-struct Defaults {
-    four: [u8; 65],
-    intra: [u8; 64],
-    inter: [u8; 64],
-}
-
-impl Defaults {
-    fn read(stdin: &mut impl Read) -> Defaults {
-        let mut four = [0; 65];
-        let mut intra = [0; 64];
-        let mut inter = [0; 64];
-        streams::read_full(stdin, &mut four);
-        streams::read_full(stdin, &mut intra);
-        streams::read_full(stdin, &mut inter);
-        Defaults { four, intra, inter }
-    }
-}
-
-// The other program on scaling lists has these three too: a crate for them would be longer than they are.
-fn put_each(rt: &impl Print, xs: &[u8]) {
-    for x in xs {
-        put(rt, *x);
-    }
-}
-
-// Whether every element is still the mark.
-fn kept(xs: &[u8]) -> bool {
-    xs.iter().all(|x| *x == 7)
-}
-
-fn put_refused(rt: &impl Print, why: Refusal, same: bool) {
-    put(rt, why.number());
-    put(rt, why.place());
-    streams::write_all(rt, if same { b" kept\n" } else { b" changed\n" });
 }
 
 // One call on a buffer that holds the mark.
@@ -176,7 +139,7 @@ fn replay(rt: &impl Print, stdin: &mut impl Read, number: u64, defaults: Default
     streams::write_all(rt, b"case");
     put(rt, number);
     streams::write_all(rt, b":");
-    write_case(rt, Amiss::named(amiss), room, &lists, &dcs, defaults);
+    write_case(rt, Amiss::from(amiss), room, &lists, &dcs, defaults);
     true
 }
 

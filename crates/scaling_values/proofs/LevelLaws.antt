@@ -3,19 +3,18 @@
 --   manageable_ends               32 bits hold the ends of every range
 --   level_by_within                a coefficient is at most 2^22 in size
 --   flat_level-…, listed_level-…    the same of a level without a list, and of one with the m of a list
---   raised_high, raised_within    a limit by one end after the other is the limit
 --   moved_outside                 a limit changes what lies outside its ends, and nothing else
 --   dequant_of_manageable          the numbers of every block are manageable
 --   flat_level_eq, listed_level_eq  the machine's numbers of a block give clause 8.6's coefficient
 --   outside_by_eq, listed_result_eq, listed_limited_eq   and tell what was limited
-use mathlib.Core.Path.{◌≡◌, refl, sym, ap, subst, ◌∙◌}
-use mathlib.Core.Bool.{Bool, true, false, ◌||◌, cond}
+use mathlib.Core.Path.{◌≡◌, refl, sym, ap, ◌∙◌}
+use mathlib.Core.Bool.{Bool, true, false, ◌||◌}
 use Prim.Native.Nat.{ℕ, ◌+◌, ◌-◌, ◌*◌}
 use native.Mathlib.Nat.{mul-le-mul_left}
 use native.Mathlib.Omega.{arith}
 use lib.IntN.{ℤ, pos, negsuc, nat_abs, ◌*ℤ◌, *ℤ_comm, pos-*ℤ-pos}
 use lib.Pow.{pow_mono}
-use lib.Signed.{lt_z, ◌≤ℤ◌, ≤ℤ_refl, clash_ℤ}
+use lib.Signed.{lt_z, ◌≤ℤ◌, ≤ℤ_refl}
 use mir.Syntax.{Width, w32}
 use mir.Val.{SFits}
 use Rattle.integers.specs.Clip.{clip3}
@@ -66,24 +65,6 @@ listed_level_fits {p = p} k level e = level_by_fits (shift_right p.factor 4 *ℤ
 pub listed_level_within : {p : DequantParams} (k : ℕ) (level : ℤ) → Manageable p → Within 4194304 (listed_level p k level)
 unfolding listed_level
 listed_level_within {p} k level m = level_by_within (shift_right p.factor 4 *ℤ pos k) level m
-
--- ---- a limit by one end after the other
-module _ (lo hi x : ℤ) (h : lo ≤ℤ hi) where
-  pub raised_high : {v : ℤ} → v ≡ cond (lt_z x lo) lo x → lt_z hi v ≡ true → hi ≡ clip3 lo hi x
-  unfolding clip3
-  raised_high {v} e k = by_test (lt_z x lo) (subst (λ (y : ℤ). lt_z hi y ≡ true) e k)
-    where
-      by_test : (b : Bool) → lt_z hi (cond b lo x) ≡ true → hi ≡ cond b lo (cond (lt_z hi x) hi x)
-      by_test true q = clash_ℤ (lt_z_true q) h
-      by_test false q = rw q
-
-  pub raised_within : {v : ℤ} → v ≡ cond (lt_z x lo) lo x → lt_z hi v ≡ false → v ≡ clip3 lo hi x
-  unfolding clip3
-  raised_within {v} e k = e ∙ by_test (lt_z x lo) (subst (λ (y : ℤ). lt_z hi y ≡ false) e k)
-    where
-      by_test : (b : Bool) → lt_z hi (cond b lo x) ≡ false → cond b lo x ≡ cond b lo (cond (lt_z hi x) hi x)
-      by_test true q = refl
-      by_test false q = rw q
 
 -- ---- what a limit changes
 module _ (lo hi x : ℤ) (h : lo ≤ℤ hi) where

@@ -5,3 +5,4 @@ pub mod Listed
 pub mod Long
 pub mod Skip
 pub mod Work
+pub mod Given

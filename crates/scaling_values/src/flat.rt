@@ -32,6 +32,8 @@ fn low_level(base: u32, add: u32, most: u32, shift: u32) -> u32
 }
 
 // The numbers of a block: the 4 bits of m = 16 are shifted out of factor and rounding.
+// Kept: `Manageable`, here and below, was tried as a ghost field of `DequantParams`; the check refuses it as an import cycle, since the functions in
+// the struct's file have clauses that speak of the struct.
 pub fn flat_params(by: DequantParams) -> FlatParams
     requires manageable { Manageable by }
     requires regular { Regular by }

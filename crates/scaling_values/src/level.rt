@@ -1,5 +1,5 @@
 // One level by the numbers of its block. Every product stays in 64 bits: a level is limited to 2^22 in size before it is scaled, and no factor reaches 2^35.
-ghost use Rattle.std.specs.Prelude.{◌≡◌, ◌||◌, cond, ◌≤ℤ◌};
+ghost use Rattle.std.specs.Prelude.{◌≡◌, ◌||◌, ◌≤ℤ◌};
 ghost use Rattle.std.specs.Int.Signed.{lt_z};
 ghost use Rattle.integers.specs.Clip.{clip3};
 ghost use Rattle.integers.specs.Within.{Within};
@@ -8,35 +8,19 @@ ghost use Rattle.scaling_values.specs.Level.{Manageable, ScaledBy, ListedBy};
 use crate::ScaledLevel;
 use parameters::DequantParams;
 
-fn at_least(lo: i64, x: i64) -> i64
-    ensures { result ≡ cond (lt_z x lo) lo x }
-{
-    if x < lo {
-        return lo;
-    }
-    x
-}
-
-// x limited to lo .. hi, by one end after the other: that takes an instruction less than the two tests of x.
+// x limited to lo .. hi, by one end after the other: `clamp` tests x twice.
 fn limited(lo: i64, hi: i64, x: i64) -> i64
     requires { lo ≤ℤ hi }
     ensures { result ≡ clip3 lo hi x }
 {
-    let raised = at_least(lo, x);
-    if hi < raised {
-        return hi;
-    }
-    raised
+    lo.max(x).min(hi)
 }
 
 // Whether a limit changed x.
 fn moved(x: i64, limited: i64) -> bool
     ensures { result ≡ lt_z x limited || lt_z limited x }
 {
-    if x < limited {
-        return true;
-    }
-    limited < x
+    x != limited
 }
 
 // A level scaled by a factor, with the rounding, the shift and the limits of a block.

@@ -2,12 +2,35 @@
 // Internal: no refusal; callers meet each `requires`.
 #![tactic(auto)]
 
+ghost use Rattle.std.specs.Prelude.{◌≡◌};
+ghost use Rattle.scaling_values.specs.Given.{list_of, entries_of};
+
+pub mod factor;
 pub mod flat;
 pub mod level;
 pub mod listed;
 pub mod long;
 mod range;
 pub mod skip;
+
+// What gives the scaling factor m: nothing, so that it is 16 throughout, or a list with its DC number.
+#[derive(Clone, Copy)]
+pub enum ScalingList<'a> {
+    Flat,
+    Listed(&'a [u8], u8),
+}
+
+impl<'a> ScalingList<'a> {
+    // How many entries it has, for row 5; the 64 of no list refuse nothing.
+    pub fn len(self) -> usize
+        ensures { result ≡ entries_of (list_of self.entry) }
+    {
+        match self {
+            ScalingList::Flat => 64,
+            ScalingList::Listed(entries, _) => entries.len(),
+        }
+    }
+}
 
 // The coefficient of a level, whether the level was limited, and whether the result was.
 #[derive(Clone, Copy)]

@@ -8,13 +8,7 @@ pub(crate) fn limited_level(level: i32, least: i32, most: i32) -> i32
     requires { least ≤ℤ most }
     ensures { result ≡ clip3 least most level }
 {
-    if level < least {
-        return least;
-    }
-    if most < level {
-        return most;
-    }
-    level
+    level.clamp(least, most)
 }
 
 // 1 where it lies outside it.

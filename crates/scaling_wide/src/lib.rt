@@ -6,21 +6,21 @@ ghost use Rattle.h265.specs.ScalingFactor.ScalingList.{flat, listed};
 ghost use Rattle.scaling_blocks.specs.Blocks.{bits32, dequantized, transform_skipped, CountWrites};
 
 use parameters::QpPrime;
-use refusal::Refusal;
+use refusal::{Precision, Refusal};
 use scaling_blocks::blocks;
+use scaling_values::ScalingList;
 
 // The coefficients of a block without a list, and how many were limited.
 pub fn dequantize_into_scalar_i32(
     levels: &[i32],
     n: usize,
     qp_prime: QpPrime,
-    bit_depth: u8,
-    extended_precision: bool,
+    precision: Precision,
     out: &mut [i32],
 ) -> Result<u16, Refusal>
-    ensures { CountWrites result out.new (dequantized bits32 flat n qp_prime.0 bit_depth extended_precision levels.now out.old) }
+    ensures { CountWrites result out.new (dequantized bits32 flat n qp_prime.0 precision.bit_depth precision.extended levels.now out.old) }
 {
-    blocks::dequantize(levels, n, qp_prime, bit_depth, extended_precision, out)
+    blocks::dequantize(levels, n, qp_prime, precision, ScalingList::Flat, out)
 }
 
 // The coefficients of a block with a list, and how many were limited.
@@ -28,24 +28,15 @@ pub fn dequantize_scaled_into_scalar_i32(
     levels: &[i32],
     n: usize,
     qp_prime: QpPrime,
-    bit_depth: u8,
-    extended_precision: bool,
+    precision: Precision,
     list: &[u8],
     dc: u8,
     out: &mut [i32],
 ) -> Result<u16, Refusal>
-    ensures { CountWrites result out.new (dequantized bits32 (listed list.now dc) n qp_prime.0 bit_depth extended_precision levels.now out.old) }
+    ensures { CountWrites result out.new (dequantized bits32 (listed list.now dc) n qp_prime.0 precision.bit_depth precision.extended levels.now out.old) }
 {
-    blocks::dequantize_scaled(
-        levels,
-        n,
-        qp_prime,
-        bit_depth,
-        extended_precision,
-        list,
-        dc,
-        out,
-    )
+    let given = ScalingList::Listed(list, dc);
+    blocks::dequantize(levels, n, qp_prime, precision, given, out)
 }
 
 // The residuals of a block without a list, and how many of its coefficients were limited.
@@ -53,13 +44,12 @@ pub fn dequantize_transform_skip_into_scalar_i32(
     levels: &[i32],
     n: usize,
     qp_prime: QpPrime,
-    bit_depth: u8,
-    extended_precision: bool,
+    precision: Precision,
     out: &mut [i32],
 ) -> Result<u16, Refusal>
-    ensures { CountWrites result out.new (transform_skipped bits32 flat n qp_prime.0 bit_depth extended_precision levels.now out.old) }
+    ensures { CountWrites result out.new (transform_skipped bits32 flat n qp_prime.0 precision.bit_depth precision.extended levels.now out.old) }
 {
-    blocks::transform_skip(levels, n, qp_prime, bit_depth, extended_precision, out)
+    blocks::transform_skip(levels, n, qp_prime, precision, ScalingList::Flat, out)
 }
 
 // The residuals of a block with a list, and how many of its coefficients were limited.
@@ -67,22 +57,13 @@ pub fn dequantize_transform_skip_scaled_into_scalar_i32(
     levels: &[i32],
     n: usize,
     qp_prime: QpPrime,
-    bit_depth: u8,
-    extended_precision: bool,
+    precision: Precision,
     list: &[u8],
     dc: u8,
     out: &mut [i32],
 ) -> Result<u16, Refusal>
-    ensures { CountWrites result out.new (transform_skipped bits32 (listed list.now dc) n qp_prime.0 bit_depth extended_precision levels.now out.old) }
+    ensures { CountWrites result out.new (transform_skipped bits32 (listed list.now dc) n qp_prime.0 precision.bit_depth precision.extended levels.now out.old) }
 {
-    blocks::transform_skip_scaled(
-        levels,
-        n,
-        qp_prime,
-        bit_depth,
-        extended_precision,
-        list,
-        dc,
-        out,
-    )
+    let given = ScalingList::Listed(list, dc);
+    blocks::transform_skip(levels, n, qp_prime, precision, given, out)
 }

@@ -14,6 +14,7 @@ use crate::passes::{columns_4, rows_4};
 use crate::sample::Sample;
 use crate::scan::narrow;
 use tiles::{Stage, half};
+use tiles_quarter::rest_zero;
 use transform_1d::{Kind, lanes_4, lanes_dst};
 
 // The layout of a kind of 4 points.
@@ -27,6 +28,7 @@ fn lanes_of(kind: Kind) -> [i16; 64]
     }
 }
 
+// Kept: 4 points are no `Stage`: their lines read a layout of lanes, and are of two kinds.
 // A block of size 4.
 #[inline(always)]
 pub fn block_4<V: Sample>(kind: Kind, coeff: &[V], nx: usize, s: u32, out: &mut [V])
@@ -64,7 +66,7 @@ pub fn block_dct<V: Sample, W: Stage, Q: Stage, const A: usize, const B: usize>(
     ensures { map V.value out.new ≡ overwrite (W.POINTS * W.POINTS) (row_order W.POINTS (shifted_residual (trans_matrix W.POINTS) W.POINTS s nx (map V.value coeff.now))) (map V.value out.old) }
 {
     if nx <= Q::ROWS {
-        if V::rest_zero(coeff, B, A) {
+        if rest_zero(coeff, B, A) {
             block::<V, Q, B>(coeff, nx, s, out);
             return;
         }

@@ -49,8 +49,15 @@ fn dct_plain<V: Sample>(coeff: &[V], n: usize, nx: usize, s: u32, out: &mut [V])
     }
 }
 
-// The residual of a block at depths at which it fits.
-fn plain<V: Sample>(kind: Kind, n: usize, bit_depth: u8, nx: usize, coeff: &[V], out: &mut [V])
+// The residual of a block at depths at which it fits: in 16 bits at 8 and 9.
+pub fn residual_plain<V: Sample>(
+    kind: Kind,
+    n: usize,
+    bit_depth: u8,
+    nx: usize,
+    coeff: &[V],
+    out: &mut [V],
+)
     requires { PlainNeeds kind n bit_depth nx (map V.value coeff.now) (length out.old) × (V.least_shift ≤ 20 - bit_depth) }
     ensures { map V.value out.new ≡ overwrite (n * n) (row_order n (residual (matrix_of kind n) n bit_depth 15 nx (map V.value coeff.now))) (map V.value out.old) }
 {
@@ -59,34 +66,4 @@ fn plain<V: Sample>(kind: Kind, n: usize, bit_depth: u8, nx: usize, coeff: &[V],
         Kind::Dct => dct_plain(coeff, n, nx, s, out),
         Kind::Dst => blocks::block_4(kind, coeff, nx, s, out),
     }
-}
-
-// The residual of a block.
-pub fn residual_plain(
-    kind: Kind,
-    n: usize,
-    bit_depth: u8,
-    nx: usize,
-    coeff: &[i32],
-    out: &mut [i32],
-)
-    requires { PlainNeeds kind n bit_depth nx coeff.now (length out.old) }
-    ensures { out.new ≡ overwrite (n * n) (row_order n (residual (matrix_of kind n) n bit_depth 15 nx coeff.now)) out.old }
-{
-    plain(kind, n, bit_depth, nx, coeff, out);
-}
-
-// The residual of a block at depths 8 and 9, where it fits 16 bits.
-pub fn residual_plain16(
-    kind: Kind,
-    n: usize,
-    bit_depth: u8,
-    nx: usize,
-    coeff: &[i16],
-    out: &mut [i16],
-)
-    requires { PlainNeeds kind n bit_depth nx coeff.now (length out.old) × (bit_depth ≤ 9) }
-    ensures { out.new ≡ overwrite (n * n) (row_order n (residual (matrix_of kind n) n bit_depth 15 nx coeff.now)) out.old }
-{
-    plain(kind, n, bit_depth, nx, coeff, out);
 }

@@ -8,6 +8,7 @@ use crate::finish::{put_clipped, put_rounded};
 use crate::sample::Sample;
 use transform_1d::idct_raw_4;
 
+// Kept: 4 points are no `Stage`, as in blocks.rt.
 // Stage one at size 4: column c of x becomes row c of d, for c < nx.
 pub fn columns_4(t: &[i16], x: &[i16], nx: usize, groups: usize, d: &mut [i16])
     requires { PassNeeds 4 t.now x.now nx groups (length d.old) }

@@ -12,19 +12,19 @@ pub fn first_row_alone<V: Sample>(coeff: &[V], n: usize) -> bool
     ensures { result ≡ true → RowsUsed (map V.value coeff.now) n 1 1 }
 {
     for k in 1..n {
-        if coeff[k * n].number() != 0 {
+        if !coeff[k * n].is_zero() {
             return false;
         }
     }
     true
 }
 
-// The first coefficients, each limited to 16 bits: the compiler's pack does that.
+// The first coefficients, each limited to 16 bits, since columns that are not read may hold anything: the compiler's pack does that.
 pub fn narrow<V: Sample>(coeff: &[V], a: &mut [i16])
     requires { length a.old ≤ length coeff.now }
     ensures { Placed 0 (length a.old) (λ j. clip_coeff 15 (get_or (map V.value coeff.now) j (pos 0))) a.old a.new }
 {
     for i in 0..a.len() {
-        a[i] = coeff[i].limited();
+        a[i] = tiles::limited(coeff[i].number());
     }
 }

@@ -2,12 +2,17 @@
 --   turned_rows   a stage over a block that is turned over is stage two of the block
 --   put-rows      the rows of stage one, limited and put as columns, are the intermediate
 --   put_one_lem       so is one column
-use mathlib.Core.Path.{ap, ◌∙◌}
+--   moved_32      a column that is moved as it is, as numbers
+use mathlib.Core.Path.{◌≡◌, sym, ap, ◌∙◌, subst}
+use mathlib.Core.Bool.{true, false}
 use mathlib.Core.List.{List}
 use Prim.Native.Nat.{ℕ, ◌+◌, ◌*◌}
 use native.Mathlib.Nat.{zero-add}
+use lib.Dec.{T}
 use lib.IntN.{ℤ, pos}
 use lib.ListN.{get_or}
+use Rattle.std.specs.Prelude.{map}
+use Rattle.std.proofs.lemmas.List.{map-id}
 use Rattle.h265.specs.Range.{clip_coeff}
 use Rattle.h265.specs.Transform.{block_at, stage_one_sum, stage_one_value, intermediate, stage_two_sum, stage_two}
 use Rattle.transform_1d.specs.Rows.{Filled}
@@ -37,3 +42,7 @@ put_one_lem t n r coeff {column} {x = x} {y = y} p f q =
     (λ m a. ap (limited_at r y) (zero-add m)
     ∙ ap (clip_coeff r) (filled_first f m a ∙ stage_cong t n 7 (limited_block r n x) (limited_block r n coeff) 0 column m (λ k l. ap (clip_coeff r) (p.done k l))))
     q
+
+pub moved_32 : {n c m : ℕ} {f : ℕ → ℤ} {xs ys : List ℤ} → ColumnPlaced n c f m (map (λ (x : ℤ). x) xs) (map (λ (x : ℤ). x) ys) → ColumnPlaced n c f m xs ys
+moved_32 {n} {c} {m} {f} {xs} {ys} p =
+    subst (λ (zs : List ℤ). ColumnPlaced n c f m zs ys) (map-id xs) (subst (λ (zs : List ℤ). ColumnPlaced n c f m (map (λ (x : ℤ). x) xs) zs) (map-id ys) p)

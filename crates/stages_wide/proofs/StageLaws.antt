@@ -4,8 +4,9 @@
 --   filled_first               the one row of one line
 --   stage_cong                 lines over equal values
 --   past-rows                  a list of q rows reads as zero past them
+--   rest_used                  where all values from row q on are zero, so are those of the columns read
 --   pass_rows, short-rows      what a pass over the first q rows gives, where the rows after them are zero, or are not there
-use mathlib.Core.Path.{◌≡◌, sym, ap, ◌∙◌}
+use mathlib.Core.Path.{◌≡◌, sym, ap, ◌∙◌, subst}
 use mathlib.Core.List.{List}
 use Prim.Native.Nat.{ℕ, suc, ◌+◌, ◌*◌, ◌-◌, ◌≤◌, ◌<◌}
 use native.Mathlib.Nat.{mul-le-mul_right, mul-le-mul_left, mul-one, mul-add, suc-mul}
@@ -14,6 +15,8 @@ use native.Mathlib.Omega.{arith}
 use lib.Arith.{digits_lt}
 use lib.IntN.{ℤ, pos, ◌+ℤ◌, ◌*ℤ◌}
 use lib.ListN.{get_or, length, get_or-eq_default}
+use Rattle.std.specs.Prelude.{map}
+use Rattle.std.proofs.lemmas.List.{map-id}
 use Rattle.integers.specs.Shift.{pow2, shift_right, round_shift}
 use Rattle.integers.proofs.LinearLaws.{split, ring, diff_ext}
 use Rattle.integers.proofs.SumLaws.{sum-short}
@@ -22,6 +25,7 @@ use Rattle.h265.specs.Range.{clip_coeff}
 use Rattle.h265.specs.Transform.{transform_line, block_at}
 use Rattle.h265.proofs.RangeLaws.{clip_coeff_zero}
 use Rattle.h265.proofs.TransformLaws.{transform_line_cong}
+use Rattle.coefficients.specs.Rows.{RowsUsed}
 use Rattle.transform_1d.specs.Rows.{Filled}
 use Rattle.transform_1d.proofs.RowsLaws.{filled_cong}
 use Rattle.tiles.specs.Tile.{line_value}
@@ -85,3 +89,13 @@ module _ (q n r : ℕ) (xs : List ℤ) {count : ℕ} (h : count ≤ n) (z : (k c
 pub short-rows : (q n r : ℕ) (xs : List ℤ) {count : ℕ} → count ≤ n → length xs ≡ q * n → (s : ℕ) {out out₂ : List ℤ} → PassGives q n r count s xs out out₂
     → Filled n n (stage_of (trans_matrix n) n (limited_block r n xs) s) count out out₂
 short-rows q n r xs h e s p = pass_rows q n r xs h (λ k c u v w. past-rows q n xs e k c u) s p
+
+pub rest_used : {n q nx : ℕ} (coeff : List ℤ) → q ≤ n → nx ≤ n
+    → ((i : ℕ) → q * n ≤ i → i < n * n → get_or (map (λ (x : ℤ). x) coeff) i (pos 0) ≡ pos 0) → RowsUsed coeff n nx q
+rest_used {n} {q} coeff few l z =
+    record {
+      most = few;
+      zero = λ k c a b d.
+          subst (λ (xs : List ℤ). get_or xs (k * n + c) (pos 0) ≡ pos 0) (map-id coeff)
+          (z (k * n + c) (omega (arith, mul-le-mul_right n a)) (digits_lt {q = k} {m = n} {r = c} {c = n} b (omega arith)));
+    }

@@ -20,10 +20,8 @@ fn fill(v: i32, w: usize, out: &mut [i32])
     requires { w ≤ length out.old }
     ensures { Placed 0 w (λ i. v) out.old out.new }
 {
-    let mut i: usize = 0;
-    while i < w {
+    for i in 0..w {
         out[i] = v;
-        i += 1;
     }
 }
 

@@ -6,7 +6,6 @@
 mod parts; // values limited to the range, and sums rounded
 mod products; // lines of 4 points in 32-bit products
 mod moves; // blocks turned over, columns taken and put
-mod narrow; // the same where values fit 16 bits
 mod sizes; // stages of a block, a function for each size
 mod blocks; // both stages of a block of any size, and a block with one coefficient
 
@@ -87,6 +86,7 @@ pub fn column_and_residual(
     residual_of(kind, n, bit_depth, range, inter, out);
 }
 
+// Kept: no twin of `stages::residual_plain`: its stages are others, and every value is limited as it is read.
 // The residual of a block whose columns from nx on are zero and are not read.
 pub fn residual_wide(
     kind: Kind,

@@ -1,43 +1,85 @@
 // Blocks turned over, and columns taken and put: a stage reads columns and writes rows.
-ghost use Rattle.std.specs.Prelude.{◌≡◌, ℕ, ◌+◌, ◌*◌, ◌<◌, ◌≤◌, pos, length, get_or};
+ghost use Rattle.std.specs.Prelude.{◌≡◌, Bool, true, false, ℕ, ◌+◌, ◌*◌, ◌<◌, ◌≤◌, pos, length, get_or, map};
+ghost use Rattle.std.specs.Int.{w16};
+ghost use Rattle.std.proofs.Common.{SFits};
 ghost use Rattle.transform_1d.specs.Rows.{Placed, Filled};
-ghost use Rattle.stages_wide.specs.Parts.{limited_at, ColumnPlaced};
+ghost use Rattle.wide_parts.specs.Split.{Narrow};
+ghost use Rattle.stages_wide.specs.Parts.{limited_at, ColumnPlaced, NarrowColumn};
 
 use crate::parts::limited;
+use tiles::Output;
+use wide_parts::is_wide;
+
+// What a block is moved into: values as they are, or in 16 bits where they fit them.
+pub trait Moved: Output {
+    // Whether it is 16 bits wide.
+    ghost short: { Bool };
+
+    fn moved(x: i32) -> Self
+        requires { short ≡ true → SFits w16 x }
+        ensures { Self.value result ≡ x };
+}
+
+impl Moved for i32 {
+    ghost short = { false };
+
+    #[inline(always)]
+    fn moved(x: i32) -> i32 {
+        x
+    }
+}
+
+impl Moved for i16 {
+    ghost short = { true };
+
+    #[inline(always)]
+    fn moved(x: i32) -> i16 {
+        x as i16
+    }
+}
 
 // One column of a block, as row c of g.
-fn turn_column(s: &[i32], n: usize, c: usize, g: &mut [i32])
-    requires { (n ≤ 32) × (c < n) × (n * n ≤ length s.now) × (n * n ≤ length g.old) }
-    ensures { Placed (c * n) n (λ k. get_or s.now (k * n + c) (pos 0)) g.old g.new }
+fn turn_column<V: Moved>(s: &[i32], n: usize, c: usize, g: &mut [V])
+    requires { (n ≤ 32) × (c < n) × (n * n ≤ length s.now) × (n * n ≤ length g.old) × (V.short ≡ true → Narrow (n * n) s.now) }
+    ensures { Placed (c * n) n (λ k. get_or s.now (k * n + c) (pos 0)) (map V.value g.old) (map V.value g.new) }
 {
-    let mut k: usize = 0;
-    while k < n {
-        g[c * n + k] = s[k * n + c];
-        k += 1;
+    for k in 0..n {
+        g[c * n + k] = V::moved(s[k * n + c]);
     }
 }
 
 // A block turned over.
-pub fn turn(s: &[i32], n: usize, g: &mut [i32])
-    requires { (n ≤ 32) × (n * n ≤ length s.now) × (n * n ≤ length g.old) }
-    ensures { Filled n n (λ c k. get_or s.now (k * n + c) (pos 0)) n g.old g.new }
+pub fn turn<V: Moved>(s: &[i32], n: usize, g: &mut [V])
+    requires { (n ≤ 32) × (n * n ≤ length s.now) × (n * n ≤ length g.old) × (V.short ≡ true → Narrow (n * n) s.now) }
+    ensures { Filled n n (λ c k. get_or s.now (k * n + c) (pos 0)) n (map V.value g.old) (map V.value g.new) }
 {
-    let mut c: usize = 0;
-    while c < n {
+    for c in 0..n {
         turn_column(s, n, c, g);
-        c += 1;
     }
 }
 
-// One column of a block, as the first column of g.
-pub fn take_column(s: &[i32], n: usize, column: usize, g: &mut [i32])
-    requires { (n ≤ 32) × (column < n) × (n * n ≤ length s.now) × (n * n ≤ length g.old) }
-    ensures { ColumnPlaced n 0 (λ k. get_or s.now (k * n + column) (pos 0)) n g.old g.new }
+// Whether the values of one column all fit 16 bits.
+pub fn column_narrow(s: &[i32], n: usize, column: usize) -> bool
+    requires { (n ≤ 32) × (column < n) × (n * n ≤ length s.now) }
+    ensures { result ≡ true → NarrowColumn n column n s.now }
 {
-    let mut k: usize = 0;
-    while k < n {
-        g[k * n] = s[k * n + column];
-        k += 1;
+    let mut fits = true;
+    for k in 0..n {
+        if is_wide(s[k * n + column]) {
+            fits = false;
+        }
+    }
+    fits
+}
+
+// Kept: a function for each direction: a run along a row and one down a column are said by two relations, `Placed` and `ColumnPlaced`.
+// One column of a block, as the first column of g.
+pub fn take_column<V: Moved>(s: &[i32], n: usize, column: usize, g: &mut [V])
+    requires { (n ≤ 32) × (column < n) × (n * n ≤ length s.now) × (n * n ≤ length g.old) × (V.short ≡ true → NarrowColumn n column n s.now) }
+    ensures { ColumnPlaced n 0 (λ k. get_or s.now (k * n + column) (pos 0)) n (map V.value g.old) (map V.value g.new) }
+{
+    for k in 0..n {
+        g[k * n] = V::moved(s[k * n + column]);
     }
 }
 
@@ -46,10 +88,8 @@ pub fn limited_column(s: &[i32], n: usize, range: u32, column: usize, x: &mut [i
     requires { (range ≤ 22) × (n ≤ 32) × (column < n) × (n * n ≤ length s.now) × (n ≤ length x.old) }
     ensures { Placed 0 n (λ k. limited_at range s.now (k * n + column)) x.old x.new }
 {
-    let mut k: usize = 0;
-    while k < n {
+    for k in 0..n {
         x[k] = limited(s[k * n + column], range);
-        k += 1;
     }
 }
 
@@ -58,10 +98,8 @@ pub fn put_column(r: &[i32], base: usize, n: usize, range: u32, inter: &mut [i32
     requires { (range ≤ 22) × (n ≤ 32) × (column < n) × (base + n ≤ length r.now) × (n * n ≤ length inter.old) }
     ensures { ColumnPlaced n column (λ m. limited_at range r.now (base + m)) n inter.old inter.new }
 {
-    let mut m: usize = 0;
-    while m < n {
+    for m in 0..n {
         inter[m * n + column] = limited(r[base + m], range);
-        m += 1;
     }
 }
 
@@ -70,9 +108,7 @@ pub fn put_columns(g: &[i32], n: usize, range: u32, inter: &mut [i32])
     requires { (range ≤ 22) × (n ≤ 32) × (n * n ≤ length g.now) × (n * n ≤ length inter.old) }
     ensures { Filled n n (λ m c. limited_at range g.now (c * n + m)) n inter.old inter.new }
 {
-    let mut c: usize = 0;
-    while c < n {
+    for c in 0..n {
         put_column(g, c * n, n, range, inter, c);
-        c += 1;
     }
 }

@@ -4,6 +4,7 @@ ghost use Rattle.integers.specs.Shift.{round_shift};
 ghost use Rattle.integers.specs.Within.{Within};
 ghost use Rattle.h265.specs.Range.{coeff_min, coeff_max, clip_coeff};
 
+// Kept: an end of the range and the other one: nothing is compared.
 // The least value of the range.
 fn least(range: u32) -> i32
     requires { range ≤ 22 }
@@ -25,15 +26,7 @@ pub fn limited(x: i32, range: u32) -> i32
     requires { range ≤ 22 }
     ensures { result ≡ clip_coeff range x }
 {
-    let lo = least(range);
-    let hi = most(range);
-    if x < lo {
-        return lo;
-    }
-    if hi < x {
-        return hi;
-    }
-    x
+    x.clamp(least(range), most(range))
 }
 
 // A rounded sum.

@@ -15,10 +15,8 @@ fn limit(s: &[i32], w: usize, range: u32, x: &mut [i32])
     requires { (range ≤ 22) × (w ≤ length s.now) × (w ≤ length x.old) }
     ensures { Placed 0 w (limited_at range s.now) x.old x.new }
 {
-    let mut j: usize = 0;
-    while j < w {
+    for j in 0..w {
         x[j] = limited(s[j], range);
-        j += 1;
     }
 }
 
@@ -27,24 +25,21 @@ pub fn put_rounded(z: &[i32], w: usize, shift: u32, out: &mut [i32], at: usize)
     requires { RoundNeeds w z.now shift × (at + w ≤ length out.old) }
     ensures { Placed at w (λ j. round_shift (get_or z.now j (pos 0)) shift) out.old out.new }
 {
-    let mut j: usize = 0;
-    while j < w {
+    for j in 0..w {
         out[at + j] = rounded(z[j], shift);
-        j += 1;
     }
 }
 
+// Kept: functions of 4 points, here and in sizes.rt: their lines are 32-bit products and of two kinds, so that 4 points are no `Stage`.
 // Lines of 4 points down the first columns of a block: line c becomes row c of out.
 fn columns_4(kind: Kind, x: &[i32], nx: usize, shift: u32, out: &mut [i32])
-    requires { ProductsNeeds 4 x.now nx 1 4 shift (length out.old) }
+    requires { ProductsNeeds 4 x.now nx 1 4 shift (length out.old) × (nx ≤ 4) × (16 ≤ length x.now) }
     ensures { Filled 4 4 (matrix_value (matrix_of kind 4) 4 (λ i. get_or x.now i (pos 0)) 1 4 shift) nx out.old out.new }
 {
-    let mut c: usize = 0;
-    while c < nx {
+    for c in 0..nx {
         let v = [x[c], x[c + 4], x[c + 8], x[c + 12]];
         let z = line_4(kind, v);
         put_rounded(&z[..], 4, shift, out, c * 4);
-        c += 1;
     }
 }
 

@@ -9,8 +9,7 @@ ghost use Rattle.coefficients.specs.Rows.{RowsUsed};
 ghost use Rattle.stages_wide.specs.Wide.{limited_block};
 ghost use Rattle.stages_wide.specs.Parts.{ColumnPlaced, SizeNeeds, StagesNeeds, both_stages};
 
-use crate::moves::{limited_column, put_column, put_columns, take_column, turn};
-use crate::narrow::{column_narrow, take_narrow, turn_narrow};
+use crate::moves::{column_narrow, limited_column, put_column, put_columns, take_column, turn};
 use crate::products::{put_rounded, stage_4};
 use lines_wide::{line_4, line_8};
 use tiles::{Stage, half};
@@ -19,6 +18,7 @@ use tiles_wide::pass;
 use transform_1d::Kind;
 use wide_parts::all_narrow;
 
+// Kept: functions of 4 points, as in products.rt.
 // Stage two of 4 points over an intermediate in row order.
 pub fn rows_4(kind: Kind, inter: &[i32], range: u32, shift: u32, out: &mut [i32])
     requires { SizeNeeds 4 range shift (length inter.now) (length out.old) }
@@ -115,7 +115,7 @@ pub fn rows<S: Stage, const A: usize, const N: usize>(
 {
     if all_narrow(inter, A) {
         let mut l = [0i16; A];
-        turn_narrow(inter, N, &mut l[..]);
+        turn(inter, N, &mut l[..]);
         S::stage(&l[..], N, half(shift), shift, out);
     } else {
         wide_rows::<S, A, N>(inter, range, shift, out);
@@ -136,6 +136,7 @@ pub fn columns<S: Stage, const A: usize, const N: usize>(
     put_columns(&g[..], N, range, inter);
 }
 
+// Kept: one function for this and `column_4` would take a trait over their lines with two impls, longer than both.
 // One column of stage one of 8 points.
 pub fn column_8(coeff: &[i32], range: u32, column: usize, inter: &mut [i32])
     requires { SizeNeeds 8 range 7 (length coeff.now) (length inter.old) × (column < 8) }
@@ -179,7 +180,7 @@ pub fn column<S: Stage, const A: usize, const N: usize>(
     if column_narrow(coeff, N, column) {
         let mut l = [0i16; A];
         let mut r = [0i32; N];
-        take_narrow(coeff, N, column, &mut l[..]);
+        take_column(coeff, N, column, &mut l[..]);
         S::stage(&l[..], 1, 64, 7, &mut r[..]);
         put_column(&r[..], 0, N, range, inter, column);
     } else {

@@ -25,6 +25,7 @@ pub fn read_full<R: Read>(input: &mut R, buffer: &mut [u8]) -> usize
     ensures bytes { Consumes (R.remaining input.old) (R.remaining input.new) (take result buffer.new) }
 {
     let mut done = 0;
+    // Kept: a turn adds what a read gave, so that no index is counted; `read_exact` tells no number where the input ends.
     while done < buffer.len() {
         match input.read(&mut buffer[done..]) {
             Ok(0) => break,

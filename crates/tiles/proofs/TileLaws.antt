@@ -184,9 +184,6 @@ put_more {j} {d} {f} {v} {w} {u} p e l q =
       kept = λ k t i a b y. r.kept (32 * t + 8 * k + i) (λ m o g. y (omega arith)) ∙ p.kept k t i a b y;
     }
 
-pub put_all : {j d : ℕ} (e : ℕ) {f : ℕ → ℤ} {v w : List ℤ} → d ≡ e → LinePut j d f v w → LinePut j e f v w
-put_all {j} e {f} {v} {w} q p = subst (λ (i : ℕ). LinePut j i f v w) q p
-
 -- the first d lines of a tile of four
 pub record LinesDone (n : ℕ) (h : ℤ) (s : ℕ) (xs : List ℤ) (b d : ℕ) (v : List ℤ) : Type 0 where
   pub long : length v ≡ 4 * n

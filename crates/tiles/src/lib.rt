@@ -4,7 +4,7 @@
 // Internal: no refusal; callers meet each `requires`.
 #![tactic(auto)]
 
-ghost use Rattle.std.specs.Prelude.{◌≡◌, ℕ, ◌+◌, ◌*◌, ◌-◌, ◌/◌, ◌%◌, ◌<◌, ◌≤◌, ◌^◌, ℤ, pos, ◌+ℤ◌, length, get_or, map};
+ghost use Rattle.std.specs.Prelude.{◌≡◌, true, ℕ, ◌+◌, ◌*◌, ◌-◌, ◌/◌, ◌%◌, ◌<◌, ◌≤◌, ◌^◌, ℤ, pos, ◌+ℤ◌, length, get_or, map};
 ghost use Rattle.integers.specs.Shift.{pow2, shift_right};
 ghost use Rattle.integers.specs.Within.{Within};
 ghost use Rattle.h265.specs.Range.{clip_coeff};
@@ -25,6 +25,9 @@ pub trait Output: Copy {
 
     fn of(x: i32) -> Self
         ensures { value result ≡ made x };
+
+    fn is_zero(self) -> bool
+        ensures { result ≡ true → value self ≡ pos 0 };
 }
 
 impl Output for i32 {
@@ -35,6 +38,11 @@ impl Output for i32 {
     #[inline(always)]
     fn of(x: i32) -> i32 {
         x
+    }
+
+    #[inline(always)]
+    fn is_zero(self) -> bool {
+        self == 0
     }
 }
 
@@ -47,6 +55,11 @@ impl Output for i16 {
     fn of(x: i32) -> i16 {
         limited(x)
     }
+
+    #[inline(always)]
+    fn is_zero(self) -> bool {
+        self == 0
+    }
 }
 
 // A line of N points of which the first Q values are there, at twice its value.
@@ -55,13 +68,22 @@ pub trait Line<const Q: usize, const N: usize> {
         ensures { Twice N 1 x.now result };
 }
 
-// (x + twice) >> s.
-#[inline(always)]
-fn rounded(x: i32, twice: i32, s: u32) -> i32
-    requires { Within (2 ^ 28) x × Within (2 ^ 28) twice × (s ≤ 31) }
-    ensures { result ≡ shift_right (x +ℤ twice) s }
-{
-    (x + twice) >> s
+// What is added to twice a sum, and the shift after it.
+#[derive(Clone, Copy)]
+struct Rounding {
+    twice: i32,
+    shift: u32,
+    ghost fits: { Within (2 ^ 28) twice × (shift ≤ 31) },
+}
+
+impl Rounding {
+    #[inline(always)]
+    fn of(self, x: i32) -> i32
+        requires { Within (2 ^ 28) x }
+        ensures { result ≡ shift_right (x +ℤ self.twice) self.shift }
+    {
+        (x + self.twice) >> self.shift
+    }
 }
 
 // What rounding adds before a shift by s.
@@ -101,31 +123,24 @@ fn put_part<const V: usize, const N: usize>(
     at: usize,
     z: &[i32; N],
     from: usize,
-    twice: i32,
-    s: u32,
+    r: Rounding,
 )
-    requires { (at + 8 ≤ V) × (length v.old ≡ V) × Small (32 * value_most) z.now × (from + 8 ≤ N) × Within (2 ^ 28) twice × (s ≤ 31) }
-    ensures { Placed at 8 (λ m. shift_right (get_or z.now (from + m) (pos 0) +ℤ twice) s) v.old v.new }
+    requires { (at + 8 ≤ V) × (length v.old ≡ V) × Small (32 * value_most) z.now × (from + 8 ≤ N) }
+    ensures { Placed at 8 (λ m. shift_right (get_or z.now (from + m) (pos 0) +ℤ r.twice) r.shift) v.old v.new }
 {
     for m in 0..8 {
-        v[at + m] = rounded(z[from + m], twice, s);
+        v[at + m] = r.of(z[from + m]);
     }
 }
 
 // A line's outputs, rounded, as line j of the tile.
 #[inline(always)]
-fn put_line<const V: usize, const N: usize>(
-    v: &mut [i32; V],
-    j: usize,
-    z: &[i32; N],
-    twice: i32,
-    s: u32,
-)
-    requires { (j < 4) × TileSize N V × (length v.old ≡ V) × Small (32 * value_most) z.now × Within (2 ^ 28) twice × (s ≤ 31) }
-    ensures { LinePut j (N / 8) (λ m. shift_right (get_or z.now m (pos 0) +ℤ twice) s) v.old v.new }
+fn put_line<const V: usize, const N: usize>(v: &mut [i32; V], j: usize, z: &[i32; N], r: Rounding)
+    requires { (j < 4) × TileSize N V × (length v.old ≡ V) × Small (32 * value_most) z.now }
+    ensures { LinePut j (N / 8) (λ m. shift_right (get_or z.now m (pos 0) +ℤ r.twice) r.shift) v.old v.new }
 {
     for t in 0..N / 8 {
-        put_part(v, 32 * t + 8 * j, z, 8 * t, twice, s);
+        put_part(v, 32 * t + 8 * j, z, 8 * t, r);
     }
 }
 
@@ -176,11 +191,15 @@ fn lines_as_rows<
     ensures { StageGives N a.now count half s T.made (map T.value out.old) (map T.value out.new) }
 {
     let mut v = [0i32; V];
+    let r = Rounding {
+        twice: 2 * half,
+        shift: s + 1,
+    };
     for b in (0..count).step_by(4) {
         for j in 0..4 {
             let x = column::<A, Q, N>(a, b + j);
             let z = K::line(&x);
-            put_line(&mut v, j, &z, 2 * half, s + 1);
+            put_line(&mut v, j, &z, r);
         }
         rows::<V, N, T>(&v, b, min(4, count - b), out);
     }
@@ -219,6 +238,7 @@ pub trait Stage {
     ghost size: { StageSize ROWS POINTS };
 }
 
+// Kept: an impl for each size. A and V of `stage_of` are products of Q and N, which Rust takes for no const argument.
 pub struct Whole8;
 
 impl Line<8, 8> for Whole8 {

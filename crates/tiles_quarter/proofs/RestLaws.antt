@@ -1,26 +1,28 @@
--- Elements that are zero wherever nothing was gathered of them.
---   ZeroSoFar xs from i any   where any is zero, so are the elements of xs from place `from` on, up to place i
+-- Elements that are zero wherever none was seen that is not.
+--   ZeroSoFar xs from i zero   where zero is true, the elements of xs from place `from` on are zero, up to place i
 use mathlib.Core.Path.{◌≡◌}
+use mathlib.Core.Bool.{Bool, true, ◌&&◌}
 use mathlib.Core.List.{List}
 use Prim.Native.Nat.{ℕ, ◌+◌, ◌≤◌, ◌<◌}
 use native.Mathlib.Decide.{ℕ_discrete}
 use native.Mathlib.Omega.{arith}
-use lib.Bits.{bit_or, and_le_l, and_le_r, or_add_and}
 use lib.IntN.{ℤ, pos}
 use lib.ListN.{get_or}
+use Rattle.std.proofs.lemmas.Bool.{and_parts}
 
-pub record ZeroSoFar (xs : List ℤ) (from i any : ℕ) : Type 0 where
-  pub at : any ≡ 0 → (j : ℕ) → from ≤ j → j < i → get_or xs j (pos 0) ≡ pos 0
+pub record ZeroSoFar (xs : List ℤ) (from i : ℕ) (zero : Bool) : Type 0 where
+  pub at : zero ≡ true → (j : ℕ) → from ≤ j → j < i → get_or xs j (pos 0) ≡ pos 0
 
-pub zero_none : {xs : List ℤ} {from any : ℕ} → ZeroSoFar xs from from any
+pub zero_none : {xs : List ℤ} {from : ℕ} {zero : Bool} → ZeroSoFar xs from from zero
 zero_none = record { at = λ e j l h. absurd (let x : ⊥ = omega arith in x) }
 
-pub zero_more : {xs : List ℤ} {from i : ℕ} (any b : ℕ) → ZeroSoFar xs from i any → (b ≡ 0 → get_or xs i (pos 0) ≡ pos 0) → ZeroSoFar xs from (i + 1) (bit_or any b)
-zero_more {xs} {from} {i} any b p q =
+pub zero_more : {xs : List ℤ} {from i : ℕ} (a b : Bool) → ZeroSoFar xs from i a → (b ≡ true → get_or xs i (pos 0) ≡ pos 0) → ZeroSoFar xs from (i + 1) (a && b)
+zero_more {xs} {from} {i} a b p q =
     record {
       at = λ e j l h.
+          let both = and_parts a b e in
           elim (ℕ_discrete j i) [
-            | yes y ↦ rw y (q (omega (arith, or_add_and any b, and_le_l any b)))
-            | no d ↦ p.at (omega (arith, or_add_and any b, and_le_r any b)) j l (omega arith)
+            | yes y ↦ rw y (q both.1)
+            | no d ↦ p.at both.0 j l (omega arith)
           ];
     }

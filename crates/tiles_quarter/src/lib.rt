@@ -8,8 +8,9 @@ use tiles::{Line, Output, Stage, stage_of};
 
 mod rest; // whether a block ends after its first rows
 
-pub use rest::{rest_zero, rest_zero16};
+pub use rest::rest_zero;
 
+// Kept: an impl for each size, as in `tiles`.
 pub struct Quarter8;
 
 impl Line<4, 8> for Quarter8 {

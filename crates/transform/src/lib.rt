@@ -8,7 +8,9 @@ ghost use Rattle.transform_blocks.specs.Blocks.{bits16, bits32, plain_range, ext
 
 use refusal::Refusal;
 use transform_1d::Kind;
+use transform_blocks::precision;
 
+// Kept: six entry points, under the Rust's names, which C has.
 // The inverse DCT of a block, plain range.
 pub fn inv_transform_into_scalar(
     coeff: &[i32],
@@ -19,7 +21,7 @@ pub fn inv_transform_into_scalar(
 ) -> Result<(), Refusal>
     ensures { Writes result out.new (inverted bits32 Dct n bit_depth plain_range nx coeff.now out.old) }
 {
-    transform_blocks::invert_32(Kind::Dct, n, bit_depth, false, nx, coeff, out)
+    transform_blocks::invert_32(Kind::Dct, n, precision(bit_depth, false), nx, coeff, out)
 }
 
 // The inverse DCT of a block, extended precision.
@@ -32,7 +34,7 @@ pub fn inv_transform_into_scalar_extended(
 ) -> Result<(), Refusal>
     ensures { Writes result out.new (inverted bits32 Dct n bit_depth extended_range nx coeff.now out.old) }
 {
-    transform_blocks::invert_32(Kind::Dct, n, bit_depth, true, nx, coeff, out)
+    transform_blocks::invert_32(Kind::Dct, n, precision(bit_depth, true), nx, coeff, out)
 }
 
 // The inverse DCT of a block, 16 bits wide.
@@ -56,7 +58,7 @@ pub fn inv_transform_dst_into_scalar(
 ) -> Result<(), Refusal>
     ensures { Writes result out.new (inverted bits32 Dst 4 bit_depth plain_range 4 coeff.now out.old) }
 {
-    transform_blocks::invert_32(Kind::Dst, 4, bit_depth, false, 4, coeff, out)
+    transform_blocks::invert_32(Kind::Dst, 4, precision(bit_depth, false), 4, coeff, out)
 }
 
 // The inverse 4×4 DST, extended precision.
@@ -67,7 +69,7 @@ pub fn inv_transform_dst_into_scalar_extended(
 ) -> Result<(), Refusal>
     ensures { Writes result out.new (inverted bits32 Dst 4 bit_depth extended_range 4 coeff.now out.old) }
 {
-    transform_blocks::invert_32(Kind::Dst, 4, bit_depth, true, 4, coeff, out)
+    transform_blocks::invert_32(Kind::Dst, 4, precision(bit_depth, true), 4, coeff, out)
 }
 
 // The inverse 4×4 DST, 16 bits wide.

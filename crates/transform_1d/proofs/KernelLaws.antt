@@ -1,6 +1,6 @@
 -- Laws of the kernel's 32 sums.
 --   row_pair_even, -odd        what four rows add to a sum of even rows, and of odd rows
---   added_zero, -suc, -all    no lane; one lane more; all lanes
+--   added_suc                 one lane more
 --   room_mono                 a larger bound
 --   half_sums_zero, -suc, -all no group; one group more; all groups
 --   half_sums_output           the sum, or the difference, of both halves is the line
@@ -8,13 +8,13 @@ use mathlib.Core.Path.{◌≡◌, refl, sym, ap, ap₂, ◌∙◌, subst}
 use mathlib.Core.List.{List}
 use mathlib.Core.Bool.{cond}
 use Prim.Native.Nat.{ℕ, suc, ◌+◌, ◌*◌, ◌-◌, ◌/◌, ◌%◌, ◌≤◌, ◌<◌}
-use native.Mathlib.Nat.{not-suc-le-zero, add-mul}
+use native.Mathlib.Nat.{add-mul}
 use native.Mathlib.Decide.{ℕ_discrete, dec_lt}
 use native.Mathlib.Omega.{arith}
 use borrow.Author.Tests.{lt-ltb, le-ltb, eq-eqb, ne_eqb}
 use lib.Dec.{ltb}
 use lib.IntN.{ℤ, pos, neg_ℤ, nat_abs, ◌+ℤ◌, ◌-ℤ◌, ◌*ℤ◌}
-use lib.ListN.{length, get_or, set, length-set, replicate, get_or-replicate}
+use lib.ListN.{get_or, set, length-set, replicate, get_or-replicate}
 use lib.Seq.{get_or-set_same, get_or-set_other}
 use Rattle.integers.specs.Sum.{sum}
 use Rattle.integers.specs.Within.{Within}
@@ -38,12 +38,6 @@ module _ (t : List ℤ) (at : ℕ) (a b d f : ℤ) (j : ℕ) (l : j < 16) where
       let e : at + 2 * j + 33 ≡ at + 2 * (16 + j) + 1 = omega arith in
       let o : at + 2 * j + 32 ≡ at + 2 * (16 + j) = omega arith in
       rw (le-ltb (16 + j) 16 (omega arith), e, o)
-
-pub added_zero : {g : ℕ → ℤ} {z : List ℤ} → length z ≡ 32 → Added g z 0 z
-added_zero e = record { long = e; done = λ p l h. absurd (not-suc-le-zero h); kept = λ p l h. refl; grown = λ p l. omega arith }
-
-pub added-all : {g : ℕ → ℤ} {z₀ z : List ℤ} {i j : ℕ} → i ≡ j → Added g z₀ i z → Added g z₀ j z
-added-all {g} {z₀} {z} e s = subst (λ (k : ℕ). Added g z₀ k z) e s
 
 module _ {g : ℕ → ℤ} {z₀ z : List ℤ} {j : ℕ} (s : Added g z₀ j z) (lj : j < 16) {v u : ℤ}
     (ev : v ≡ get_or z j (pos 0) +ℤ g j) (eu : u ≡ get_or z (16 + j) (pos 0) +ℤ g (16 + j))

@@ -106,6 +106,7 @@ pub fn trans_matrix() -> [i16; 1024]
 }
 
 // The layout of the 4-point DCT.
+// Kept: a function for each layout. Their lengths differ, so that one over the size would copy each out of a slice that its `match` picks.
 pub fn lanes_4() -> [i16; 64]
     ensures { result ≡ lanes (trans_matrix 4) 4 }
 {
@@ -119,7 +120,7 @@ pub fn lanes_8() -> [i16; 128]
     LANES_8
 }
 
-// The layout of the 16-point DCT. Laid out anew it would cost more than a third of a block's time.
+// The layout of the 16-point DCT.
 pub fn lanes_16() -> [i16; 256]
     ensures { result ≡ lanes (trans_matrix 16) 16 }
 {
@@ -184,6 +185,7 @@ fn add_rows(z: &mut [i32; 32], t: &[i16], at: usize, a: i16, b: i16, d: i16, f: 
 }
 
 // One group of four rows more.
+// Kept: where a line stands in s, as numbers. Each call makes them anew, and what is asked of them is one record (`LineNeeds`).
 fn add_group(z: &mut [i32; 32], t: &[i16], s: &[i16], base: usize, stride: usize, q: usize)
     requires { GroupNeeds t.now s.now base stride q × HalfSums t.now s.now base stride q z.old }
     ensures { HalfSums t.now s.now base stride (q + 1) z.new }

@@ -6,8 +6,10 @@
 --   ladder_refused, ladder_passed   what an answer of the ladder says
 --   inverted_outside, inverted_done   what each step below it answers
 --   residual_least, first_outside_least          a count above n means n
-use Rattle.std.specs.Prelude.{Ok, Err}
-use mathlib.Core.Path.{◌≡◌, refl, sym, ap, ◌∙◌}
+--   plain_needs, plain_result   what the stages of the plain range ask and give, of lists of numbers as they are
+use Rattle.std.specs.Prelude.{Ok, Err, map}
+use Rattle.std.proofs.lemmas.List.{map-id}
+use mathlib.Core.Path.{◌≡◌, refl, sym, ap, ap₂, ◌∙◌, subst}
 use mathlib.Core.Bool.{Bool, false, ◌&&◌, cond}
 use mathlib.Core.List.{List, [], ◌∷◌}
 use Prim.Native.Nat.{ℕ, ◌*◌, ◌%◌, min, ◌≤◌, ◌<◌}
@@ -34,6 +36,7 @@ use Rattle.coefficients.specs.Outside.{outside_at, first_outside, refusal_at}
 use Rattle.transform_1d.specs.declared.Kind.{Kind}
 use Rattle.transform_1d.specs.declared.Kind.TheVariants.{Dct}
 use Rattle.transform_1d.specs.MatrixOf.{matrix_of}
+use Rattle.stages.specs.Plain.{PlainNeeds}
 use Rattle.transform_blocks.specs.Blocks.{block_ladder, inverted, OfKind}
 
 pub writes_refused : {w : Written} {out : List ℤ} (e : Refusal) → w ≡ left out e → Writes (Err e) out w
@@ -117,3 +120,12 @@ unfolding first_outside outside_at
 first_outside_least r n nx xs =
     first_where_cong (n * n) (outside_at r n (min nx n) xs) (outside_at r n nx xs)
     (λ i h. ap (λ (s : Bool). s && outside_range r (get_or xs i (pos 0))) (least_test n nx (i % n) (cell_column n i h)))
+
+pub plain_needs : (kind : Kind) (n b nx : ℕ) (xs : List ℤ) (room : ℕ) → PlainNeeds kind n b nx xs room → PlainNeeds kind n b nx (map (λ (x : ℤ). x) xs) room
+plain_needs kind n b nx xs room p = subst (λ (zs : List ℤ). PlainNeeds kind n b nx zs room) (sym (map-id xs)) p
+
+pub plain_result : (t : ℕ → ℕ → ℤ) (n b nx : ℕ) (xs ys zs : List ℤ)
+    → map (λ (x : ℤ). x) zs ≡ overwrite (n * n) (row_order n (residual t n b 15 nx (map (λ (x : ℤ). x) xs))) (map (λ (x : ℤ). x) ys)
+    → zs ≡ overwrite (n * n) (row_order n (residual t n b 15 nx xs)) ys
+plain_result t n b nx xs ys zs e =
+    sym (map-id zs) ∙ e ∙ ap₂ (λ (u v : List ℤ). overwrite (n * n) (row_order n (residual t n b 15 nx u)) v) (map-id xs) (map-id ys)

@@ -10,27 +10,37 @@ ghost use Rattle.refusal.specs.Written.{Writes};
 ghost use Rattle.transform_1d.specs.MatrixOf.{matrix_of};
 ghost use Rattle.transform_blocks.specs.Blocks.{block_ladder, inverted, OfKind, Fit16, InRange, bits16, bits32, plain_range};
 
-use refusal::Refusal;
+use refusal::{Precision, Refusal};
 use transform_1d::Kind;
 
+// Depth and flag as one value.
+pub fn precision(bit_depth: u8, extended: bool) -> Precision
+    ensures { (result.bit_depth ≡ bit_depth) × (result.extended ≡ extended) }
+{
+    Precision {
+        bit_depth,
+        extended,
+    }
+}
+
 // The refusals of both widths, lowest number first, by the lengths of the buffers. Row 3 is of 16-bit output alone.
+// Kept: a flag for row 3, which stands in the middle of the order: two functions would each repeat what is before it and after it.
 fn block_refusal(
     narrow: bool,
     n: usize,
-    bit_depth: u8,
-    extended_precision: bool,
+    precision: Precision,
     coeff: usize,
     out: usize,
 ) -> Result<(), Refusal>
-    ensures { answer result ≡ block_ladder (refused tt) (accepted tt) narrow n bit_depth extended_precision coeff out }
+    ensures { answer result ≡ block_ladder (refused tt) (accepted tt) narrow n precision.bit_depth precision.extended coeff out }
 {
     if refusal::size_refused(n) {
         return Err(Refusal::SizeInvalid);
     }
-    if refusal::depth_refused(bit_depth) {
+    if refusal::depth_refused(precision.bit_depth) {
         return Err(Refusal::DepthInvalid);
     }
-    if narrow && refusal::width_refused(bit_depth, extended_precision) {
+    if narrow && refusal::width_refused(precision) {
         return Err(Refusal::WidthTooNarrow);
     }
     if coeff < n * n {
@@ -52,6 +62,7 @@ fn elements_fit(xs: &[i16], len: usize)
     }
 }
 
+// Kept: a function for each width: they share the ladder alone, since a coefficient is looked at for row 9, and a range chosen, at 32 bits only.
 // A block at 16 bits, where no coefficient can be outside the range.
 pub fn invert_16(
     kind: Kind,
@@ -64,9 +75,9 @@ pub fn invert_16(
     requires { OfKind kind n }
     ensures { Writes result out.new (inverted bits16 kind n bit_depth plain_range nx coeff.now out.old) }
 {
-    block_refusal(true, n, bit_depth, false, coeff.len(), out.len())?;
+    block_refusal(true, n, precision(bit_depth, false), coeff.len(), out.len())?;
     elements_fit(coeff, n * n);
-    stages::residual_plain16(kind, n, bit_depth, nx.min(n), coeff, out);
+    stages::residual_plain(kind, n, bit_depth, nx.min(n), coeff, out);
     Ok(())
 }
 
@@ -94,29 +105,21 @@ fn invert_in(
 pub fn invert_32(
     kind: Kind,
     n: usize,
-    bit_depth: u8,
-    extended_precision: bool,
+    precision: Precision,
     nx: usize,
     coeff: &[i32],
     out: &mut [i32],
 ) -> Result<(), Refusal>
     requires { OfKind kind n }
-    ensures { Writes result out.new (inverted bits32 kind n bit_depth extended_precision nx coeff.now out.old) }
+    ensures { Writes result out.new (inverted bits32 kind n precision.bit_depth precision.extended nx coeff.now out.old) }
 {
-    block_refusal(
-        false,
-        n,
-        bit_depth,
-        extended_precision,
-        coeff.len(),
-        out.len(),
-    )?;
-    let range = coefficients::transform_range(bit_depth, extended_precision);
+    block_refusal(false, n, precision, coeff.len(), out.len())?;
+    let range = coefficients::transform_range(precision);
     let columns = nx.min(n);
     let first = coefficients::first_outside(coeff, n, columns, range);
     if first < n * n {
         return Err(coefficients::refusal_at(coeff, n, first, range));
     }
-    invert_in(kind, n, bit_depth, range, columns, coeff, out);
+    invert_in(kind, n, precision.bit_depth, range, columns, coeff, out);
     Ok(())
 }

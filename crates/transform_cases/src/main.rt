@@ -4,7 +4,9 @@
 // the output. tests/transform_cases.py writes cases and text.
 #![tactic(auto)]
 
+use cases::Number;
 use refusal::Refusal;
+use std::fmt::Display;
 use std::io::Read;
 
 // The function that a case is of, by its number.
@@ -55,56 +57,55 @@ struct Case {
     bit_depth: u8,
 }
 
-fn call_wide(what: Wide, case: Case, coeff: &[i32], out: &mut [i32]) -> Result<(), Refusal> {
-    let n = case.n;
-    let nx = case.nx;
-    let depth = case.bit_depth;
-    match what {
-        Wide::Dct => transform::inv_transform_into_scalar(coeff, n, depth, nx, out),
-        Wide::DctExtended => transform::inv_transform_into_scalar_extended(
-            coeff, n, depth, nx, out,
-        ),
-        Wide::Dst => transform::inv_transform_dst_into_scalar(coeff, depth, out),
-        Wide::DstExtended => transform::inv_transform_dst_into_scalar_extended(coeff, depth, out),
+// Functions over values of one width.
+trait Transform<V> {
+    fn call(self, case: Case, coeff: &[V], out: &mut [V]) -> Result<(), Refusal>;
+}
+
+impl Transform<i32> for Wide {
+    fn call(self, case: Case, coeff: &[i32], out: &mut [i32]) -> Result<(), Refusal> {
+        let n = case.n;
+        let nx = case.nx;
+        let depth = case.bit_depth;
+        match self {
+            Wide::Dct => transform::inv_transform_into_scalar(coeff, n, depth, nx, out),
+            Wide::DctExtended => transform::inv_transform_into_scalar_extended(
+                coeff, n, depth, nx, out,
+            ),
+            Wide::Dst => transform::inv_transform_dst_into_scalar(coeff, depth, out),
+            Wide::DstExtended => transform::inv_transform_dst_into_scalar_extended(
+                coeff, depth, out,
+            ),
+        }
     }
 }
 
-fn call_narrow(what: Narrow, case: Case, coeff: &[i16], out: &mut [i16]) -> Result<(), Refusal> {
-    let n = case.n;
-    let nx = case.nx;
-    let depth = case.bit_depth;
-    match what {
-        Narrow::Dct => transform::inv_transform_into_scalar16(coeff, n, depth, nx, out),
-        Narrow::Dst => transform::inv_transform_dst_into_scalar16(coeff, depth, out),
+impl Transform<i16> for Narrow {
+    fn call(self, case: Case, coeff: &[i16], out: &mut [i16]) -> Result<(), Refusal> {
+        let n = case.n;
+        let nx = case.nx;
+        let depth = case.bit_depth;
+        match self {
+            Narrow::Dct => transform::inv_transform_into_scalar16(coeff, n, depth, nx, out),
+            Narrow::Dst => transform::inv_transform_dst_into_scalar16(coeff, depth, out),
+        }
     }
 }
 
-fn show_wide(rt: &impl Print, what: Wide, case: Case, coeff: &[i32], out: &mut [i32]) {
-    cases::put_answer(rt, call_wide(what, case, coeff, out));
-    cases::put_all(rt, out);
-}
-
-fn show_narrow(rt: &impl Print, what: Narrow, case: Case, coeff: &[i16], out: &mut [i16]) {
-    cases::put_answer(rt, call_narrow(what, case, coeff, out));
-    cases::put_all(rt, out);
-}
-
-fn run_wide(rt: &impl Print, stdin: &mut impl Read, what: Wide, case: Case) {
-    let mut coeff = [0i32; 1024];
-    let mut out = [7i32; 1040];
-    let count = cases::next_length(stdin, 1024);
-    cases::read_first(stdin, count, &mut coeff);
-    let len = cases::next_length(stdin, 1040);
-    show_wide(rt, what, case, &coeff[0..count], &mut out[0..len]);
-}
-
-fn run_narrow(rt: &impl Print, stdin: &mut impl Read, what: Narrow, case: Case) {
-    let mut coeff = [0i16; 1024];
-    let mut out = [7i16; 1040];
-    let count = cases::next_length(stdin, 1024);
-    cases::read_first(stdin, count, &mut coeff);
-    let len = cases::next_length(stdin, 1040);
-    show_narrow(rt, what, case, &coeff[0..count], &mut out[0..len]);
+// Coefficients and output are the first places of the buffers.
+fn run<V: Number + Display, F: Transform<V>>(
+    rt: &impl Print,
+    stdin: &mut impl Read,
+    what: F,
+    case: Case,
+    coeff: &mut [V],
+    out: &mut [V],
+) {
+    let count = cases::next_length(stdin, coeff.len());
+    cases::read_all(stdin, &mut coeff[..count]);
+    let len = cases::next_length(stdin, out.len());
+    cases::put_answer(rt, what.call(case, &coeff[..count], &mut out[..len]));
+    cases::put_all(rt, &out[..len]);
 }
 
 // One case; answers whether there was one.
@@ -121,8 +122,16 @@ fn replay(rt: &impl Print, stdin: &mut impl Read) -> bool {
         bit_depth: cases::next(stdin),
     };
     match function {
-        Function::Wide(what) => run_wide(rt, stdin, what, case),
-        Function::Narrow(what) => run_narrow(rt, stdin, what, case),
+        Function::Wide(what) => {
+            let mut coeff = [0i32; 1024];
+            let mut out = [7i32; 1040];
+            run(rt, stdin, what, case, &mut coeff, &mut out);
+        }
+        Function::Narrow(what) => {
+            let mut coeff = [0i16; 1024];
+            let mut out = [7i16; 1040];
+            run(rt, stdin, what, case, &mut coeff, &mut out);
+        }
     }
     cases::put_end(rt);
     true
@@ -130,9 +139,5 @@ fn replay(rt: &impl Print, stdin: &mut impl Read) -> bool {
 
 fn main(rt: HostRuntime) {
     let mut stdin = rt.stdin();
-    for _ in 0..u64::MAX {
-        if !replay(&rt, &mut stdin) {
-            break;
-        }
-    }
+    cases::replay_all(|| replay(&rt, &mut stdin));
 }

@@ -13,6 +13,7 @@ ghost use Rattle.transform_1d.specs.Rows.{Placed};
 ghost use Rattle.wide_parts.specs.Split.{high_of, low_of, Narrow, JoinNeeds};
 
 // Whether x takes more than 16 bits.
+// Kept: std's `i16::try_from` goes by a flag and 64 bits for each value, where `narrow_run` tests several at a time.
 pub fn is_wide(x: i32) -> bool
     ensures { result ≡ false → SFits w16 x }
 {
@@ -20,6 +21,8 @@ pub fn is_wide(x: i32) -> bool
 }
 
 // Whether the first w values all fit 16 bits. No early end: so the compiler tests several at a time.
+// Kept: w beside the slices, here and below. What is lent is longer than what is read, and a part of a slice that is handed on costs the
+// compiler its vectors (crate `stages`).
 fn narrow_run(s: &[i32], w: usize) -> bool
     requires { w ≤ length s.now }
     ensures { result ≡ true → Narrow w s.now }
@@ -95,13 +98,7 @@ fn between(x: i16, most: i16) -> i16
     requires { pos 0 ≤ℤ most }
     ensures { result ≡ clip3 (pos 0) most x }
 {
-    if x < 0 {
-        return 0;
-    }
-    if x > most {
-        return most;
-    }
-    x
+    x.clamp(0, most)
 }
 
 // The first w values limited to 0 .. most, in a pass of its own: in one with what is before it the compiler leaves its 16-bit limits.

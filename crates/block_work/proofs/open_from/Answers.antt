@@ -16,7 +16,7 @@ use Rattle.block_work.proofs.open_from.Goals as goal
 use Rattle.block_work.proofs.open_from.Goals.{After-first_outside-first, After-refusal_at, In_ok-block_refusal, Start}
 
 abbrev opening : Start → Opening
-opening s = record { kind = s.args.kind; size = s.args.n; depth = s.args.bit_depth; extended = s.args.extended_precision; source = s.args.source }
+opening s = record { kind = s.args.kind; size = s.args.n; depth = s.args.precision.bit_depth; extended = s.args.precision.extended; source = s.args.source }
 
 abbrev lent : Start → Buffers
 lent s = buffers s.args.coeff.now s.args.inter.now s.args.residual.now
@@ -38,7 +38,7 @@ fits c =
     let s = c in
     ladder_passed (opening (goal.at.In_ok-block_refusal c).Start) (lent (goal.at.In_ok-block_refusal c).Start) (ap answer (sym c.in_ok-block_refusal.was) ∙ c.block_refusal.ensures)
 
-ask : (c : In_ok-block_refusal) → EditNeeds c.args.kind c.args.n c.args.bit_depth (range_of (opening (goal.at.In_ok-block_refusal c).Start)) (length c.args.coeff.now) (length c.args.inter.now) (length c.args.residual.now)
+ask : (c : In_ok-block_refusal) → EditNeeds c.args.kind c.args.n c.args.precision.bit_depth (range_of (opening (goal.at.In_ok-block_refusal c).Start)) (length c.args.coeff.now) (length c.args.inter.now) (length c.args.residual.now)
 ask c = fits_ask (opening (goal.at.In_ok-block_refusal c).Start) (lent (goal.at.In_ok-block_refusal c).Start) (fits c)
 
 pub transform_range-range-requires : goal.transform_range-range-requires
@@ -101,6 +101,6 @@ returns c =
     rw e
     (record {
       answered = ap (λ (k : ℕ). accepted (block_of (opening (goal.at.returns c).Start) k)) c.column_count.ensures;
-      inter = staged.inter ∙ ap (λ (k : ℕ). (opened_buffers s.args.kind s.args.n s.args.bit_depth k (lent (goal.at.returns c).Start)).inter) r.transform_range-range.ensures;
-      res = staged.res ∙ ap (λ (k : ℕ). (opened_buffers s.args.kind s.args.n s.args.bit_depth k (lent (goal.at.returns c).Start)).res) r.transform_range-range.ensures;
+      inter = staged.inter ∙ ap (λ (k : ℕ). (opened_buffers s.args.kind s.args.n s.args.precision.bit_depth k (lent (goal.at.returns c).Start)).inter) r.transform_range-range.ensures;
+      res = staged.res ∙ ap (λ (k : ℕ). (opened_buffers s.args.kind s.args.n s.args.precision.bit_depth k (lent (goal.at.returns c).Start)).res) r.transform_range-range.ensures;
     })

@@ -37,9 +37,6 @@ overflow_cast-sum c = omega (arith, c.run_total-run.ensures.1, c.min-count.ensur
 pub overflow_add-sum : goal.overflow_add-sum
 overflow_add-sum c = omega (arith, c.run_total-run.ensures.1, c.min-count.ensures)
 
-pub overflow_add-x : goal.overflow_add-x
-overflow_add-x c = omega arith
-
 pub loop-x-smaller : goal.loop-x-smaller
 loop-x-smaller c = omega arith
 
@@ -63,7 +60,8 @@ next_is c =
     ∙ ap (λ (k : ℕ). total k f) next
 
 pub loop-x-preserved : goal.loop-x-preserved
-loop-x-preserved c = (next_is c, omega (arith, c.run_total-run.ensures.1, c.min-count.ensures), omega arith, omega arith)
+loop-x-preserved c =
+    (next_is (goal.at.loop-x-preserved c).After-run_total-run, omega (arith, c.run_total-run.ensures.1, c.min-count.ensures), omega arith, omega arith)
 
 pub returns : goal.returns
 unfolding row_total
@@ -71,3 +69,9 @@ returns c =
     let l = c in
     let a = l.args in
     l.loop-x.invariant.0 ∙ ap (λ (k : ℕ). total k (column_term a.bit_depth a.first a.y a.plane.now)) (omega arith)
+
+pub returns-2 : goal.returns-2
+unfolding row_total
+returns-2 c =
+    let a = c.args in
+    next_is (goal.at.returns-2 c).After-run_total-run ∙ ap (λ (k : ℕ). total k (column_term a.bit_depth a.first a.y a.plane.now)) (omega arith)

@@ -1,5 +1,5 @@
 -- `checksum::run_total` meets its contract. The loop's invariant: the sum is what the first k samples add, at most 510 for each.
-use Rattle.std.proofs.Common.{◌≡◌, ◌-◌, ◌*◌, ◌≤◌}
+use Rattle.std.proofs.Common.{◌≡◌, ◌*◌, ◌≤◌}
 use Rattle.checksum.specs.Checksum.{total, run_term}
 use Rattle.checksum.proofs.run_total.Given as goal
 

@@ -14,26 +14,26 @@ use Rattle.edit_blocks.proofs.find.Goals.{After-all_indices-arg-2-1, After-d-1, 
 
 module _ (c : After-transform_range-range) where
   abbrev r : ℕ
-  r = let a = c.args in transform_range a.bit_depth a.extended_precision
+  r = let a = c.args in transform_range a.precision.bit_depth a.precision.extended
 
-  range_is : (15 ≤ c.transform_range-range.result) × (c.transform_range-range.result ≤ 22) × (c.transform_range-range.result ≤ c.args.bit_depth + 7)
+  range_is : (15 ≤ c.transform_range-range.result) × (c.transform_range-range.result ≤ 22) × (c.transform_range-range.result ≤ c.args.precision.bit_depth + 7)
   range_is =
       let a = c.args in
       let d = c.requires.depth in
-      rw c.transform_range-range.ensures (transform_range_least a.bit_depth a.extended_precision, transform_range_most a.bit_depth a.extended_precision d.1, transform_range_depth a.bit_depth a.extended_precision d.0)
+      rw c.transform_range-range.ensures (transform_range_least a.precision.bit_depth a.precision.extended, transform_range_most a.precision.bit_depth a.precision.extended d.1, transform_range_depth a.precision.bit_depth a.precision.extended d.0)
 
 -- a coefficient of the block
 coeff_within : (c : Start) (k j : ℕ) → k < c.args.n → j < c.args.n → Within 4194304 (block_at c.args.n c.args.coeff.now k j)
 unfolding block_at
 coeff_within c k j hk hj =
     let a = c.args in
-    range_within (transform_range a.bit_depth a.extended_precision) _ (transform_range_most a.bit_depth a.extended_precision c.requires.depth.1) (c.requires.range (k * a.n + j) (digits_lt hk hj))
+    range_within (transform_range a.precision.bit_depth a.precision.extended) _ (transform_range_most a.precision.bit_depth a.precision.extended c.requires.depth.1) (c.requires.range (k * a.n + j) (digits_lt hk hj))
 
 pub overflow_add-shift : goal.overflow_add-shift
 overflow_add-shift c = record { fits = omega (arith, range_is c) }
 
 pub overflow_sub-shift : goal.overflow_sub-shift
-overflow_sub-shift c = omega (arith, range_is c, c.requires.depth)
+overflow_sub-shift c = omega (arith, range_is (goal.at.overflow_sub-shift c).After-transform_range-range, c.requires.depth)
 
 one_ask : (c : After-d-1) → StageNeeds c.args.n c.matrix-t.result c.widened-d.result
 one_ask c =
@@ -105,6 +105,6 @@ returns c =
     let t = range_at (goal.at.returns c).After-all_indices-arg-2-1 in
     let s = t in
     let a = s.args in (
-      d.all_indices.ensures.0 ∙ written_least a.bit_depth a.extended_precision t.transform_range-range.ensures (prepared (goal.at.returns c).After-all_indices-arg-2-1) a.target.now a.wanted.now s.requires.coeff a.least.now,
-      d.all_indices.ensures.1 ∙ written_most a.bit_depth a.extended_precision t.transform_range-range.ensures (prepared (goal.at.returns c).After-all_indices-arg-2-1) a.target.now a.wanted.now s.requires.coeff a.most.now,
+      d.all_indices.ensures.0 ∙ written_least a.precision.bit_depth a.precision.extended t.transform_range-range.ensures (prepared (goal.at.returns c).After-all_indices-arg-2-1) a.target.now a.wanted.now s.requires.coeff a.least.now,
+      d.all_indices.ensures.1 ∙ written_most a.precision.bit_depth a.precision.extended t.transform_range-range.ensures (prepared (goal.at.returns c).After-all_indices-arg-2-1) a.target.now a.wanted.now s.requires.coeff a.most.now,
     )

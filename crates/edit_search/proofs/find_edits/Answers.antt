@@ -17,19 +17,19 @@ use Rattle.edit_search.proofs.find_edits.Goals.{After-first_outside-first, After
 -- no condition of the ladder holds
 passed : (c : In_ok-edit_refusal)
     → let a = c.args in
-    Passed (rungs a.kind a.n a.bit_depth (length a.coeff.now) (length a.target.now) (length a.wanted.now) (length a.least.now) (length a.most.now))
+    Passed (rungs a.kind a.n a.precision.bit_depth (length a.coeff.now) (length a.target.now) (length a.wanted.now) (length a.least.now) (length a.most.now))
 passed c =
     let a = c.args in
-    edits_passed a.kind a.n a.bit_depth a.extended_precision a.coeff.now a.target.now a.wanted.now a.least.now a.most.now
+    edits_passed a.kind a.n a.precision.bit_depth a.precision.extended a.coeff.now a.target.now a.wanted.now a.least.now a.most.now
     (ap answer (sym c.in_ok-edit_refusal.was) ∙ c.edit_refusal.ensures)
 
 pub transform_range-range-requires : goal.transform_range-range-requires
-transform_range-range-requires c = (depth_accepted c.args.bit_depth (passed c).1.0).1
+transform_range-range-requires c = (depth_accepted c.args.precision.bit_depth (passed c).1.0).1
 
 range_most : (c : After-transform_range-range) → c.transform_range-range.result ≤ 22
 range_most c =
     let a = c.args in
-    rw c.transform_range-range.ensures (transform_range_most a.bit_depth a.extended_precision (depth_accepted a.bit_depth (passed (goal.at.first_outside-first-requires c).In_ok-edit_refusal).1.0).1)
+    rw c.transform_range-range.ensures (transform_range_most a.precision.bit_depth a.precision.extended (depth_accepted a.precision.bit_depth (passed (goal.at.first_outside-first-requires c).In_ok-edit_refusal).1.0).1)
 
 pub first_outside-first-requires : goal.first_outside-first-requires
 first_outside-first-requires c =
@@ -45,7 +45,7 @@ overflow_mul-n c =
 -- what the search found, for the range as defined
 first_is : (c : After-first_outside-first)
     → let a = c.args in
-    c.first_outside-first.result ≡ first_outside (transform_range a.bit_depth a.extended_precision) a.n a.n a.coeff.now
+    c.first_outside-first.result ≡ first_outside (transform_range a.precision.bit_depth a.precision.extended) a.n a.n a.coeff.now
 first_is c = c.first_outside-first.ensures ∙ rw c.transform_range-range.ensures
 
 pub refusal_at-requires : goal.refusal_at-requires
@@ -61,7 +61,7 @@ returns-then-first-n c =
     let s = f in
     let r = f.transform_range-range.ensures in
     let a = s.args in
-    edits_outside a.kind a.n a.bit_depth a.extended_precision a.coeff.now a.target.now a.wanted.now a.least.now a.most.now (passed (goal.at.returns-then-first-n c).In_ok-edit_refusal)
+    edits_outside a.kind a.n a.precision.bit_depth a.precision.extended a.coeff.now a.target.now a.wanted.now a.least.now a.most.now (passed (goal.at.returns-then-first-n c).In_ok-edit_refusal)
     (rw (first_is (goal.at.returns-then-first-n c).After-first_outside-first) at c.if-first-n.true) (c.refusal_at.ensures ∙ rw (r, first_is (goal.at.returns-then-first-n c).After-first_outside-first))
 
 pub find-requires : goal.find-requires
@@ -70,7 +70,7 @@ find-requires c =
     let f = l in
     let s = f in
     let a = s.args in
-    edits_ask a.kind a.n a.bit_depth a.extended_precision a.coeff.now a.target.now a.wanted.now a.least.now a.most.now (passed (goal.at.find-requires c).In_ok-edit_refusal) (rw (first_is (goal.at.find-requires c).After-first_outside-first) at l.if-first-n.false)
+    edits_ask a.kind a.n a.precision.bit_depth a.precision.extended a.coeff.now a.target.now a.wanted.now a.least.now a.most.now (passed (goal.at.find-requires c).In_ok-edit_refusal) (rw (first_is (goal.at.find-requires c).After-first_outside-first) at l.if-first-n.false)
 
 pub returns : goal.returns
 returns c =
@@ -79,7 +79,7 @@ returns c =
     let f = l in
     let s = f in
     let a = s.args in
-    edits_done a.kind a.n a.bit_depth a.extended_precision a.coeff.now a.target.now a.wanted.now a.least.now a.most.now (passed (goal.at.returns c).In_ok-edit_refusal)
+    edits_done a.kind a.n a.precision.bit_depth a.precision.extended a.coeff.now a.target.now a.wanted.now a.least.now a.most.now (passed (goal.at.returns c).In_ok-edit_refusal)
     (rw (first_is (goal.at.returns c).After-first_outside-first) at l.if-first-n.false) e.find.ensures.0 e.find.ensures.1
 
 pub returns-in_err-edit_refusal : goal.returns-in_err-edit_refusal
@@ -89,4 +89,4 @@ returns-in_err-edit_refusal c =
     let a = s.args in
     let told : c.from_residual.result ≡ Err c.in_err-edit_refusal.field-0.0 = search rules in
     rw told
-    (edits_refused a.kind a.n a.bit_depth a.extended_precision a.coeff.now a.target.now a.wanted.now a.least.now a.most.now c.in_err-edit_refusal.field-0.0 (ap answer (sym c.in_err-edit_refusal.was) ∙ r))
+    (edits_refused a.kind a.n a.precision.bit_depth a.precision.extended a.coeff.now a.target.now a.wanted.now a.least.now a.most.now c.in_err-edit_refusal.field-0.0 (ap answer (sym c.in_err-edit_refusal.was) ∙ r))

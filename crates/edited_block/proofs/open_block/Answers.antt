@@ -11,5 +11,5 @@ returns c =
     let f = c in
     let z = f in
     let s = z in
-    subst (λ (from : Source). Opens (opened s.args.kind s.args.n s.args.bit_depth s.args.extended_precision from (buffers s.args.coeff.now s.args.inter.now s.args.residual.now))
+    subst (λ (from : Source). Opens (opened s.args.kind s.args.n s.args.precision.bit_depth s.args.precision.extended from (buffers s.args.coeff.now s.args.inter.now s.args.residual.now))
     f.open_from.result f.open_from.new.inter f.open_from.new.residual) z.zero_source.ensures f.open_from.ensures

@@ -16,7 +16,7 @@ use Rattle.edited_block.proofs.refresh_residual.Goals as goal
 use Rattle.edited_block.proofs.refresh_residual.Goals.{In_ok-block_refusal, Start}
 
 abbrev opening : Start → Opening
-opening s = record { kind = s.args.kind; size = s.args.n; depth = s.args.bit_depth; extended = s.args.extended_precision; source = zero_source }
+opening s = record { kind = s.args.kind; size = s.args.n; depth = s.args.precision.bit_depth; extended = s.args.precision.extended; source = zero_source }
 
 pub returns-in_err-block_refusal : goal.returns-in_err-block_refusal
 returns-in_err-block_refusal c =
@@ -32,7 +32,7 @@ fits c =
     let s = c in
     ladder_passed (opening (goal.at.In_ok-block_refusal c).Start) (staged s.args.inter.now s.args.residual.now) (ap answer (sym c.in_ok-block_refusal.was) ∙ c.block_refusal.ensures)
 
-ask : (c : In_ok-block_refusal) → EditNeeds c.args.kind c.args.n c.args.bit_depth (range_of (opening (goal.at.In_ok-block_refusal c).Start)) 1024 (length c.args.inter.now) (length c.args.residual.now)
+ask : (c : In_ok-block_refusal) → EditNeeds c.args.kind c.args.n c.args.precision.bit_depth (range_of (opening (goal.at.In_ok-block_refusal c).Start)) 1024 (length c.args.inter.now) (length c.args.residual.now)
 ask c =
     let s = c in
     fits_ask (opening (goal.at.In_ok-block_refusal c).Start) (staged s.args.inter.now s.args.residual.now) (fits c)
@@ -57,5 +57,5 @@ returns c =
     (record {
       answered = refl;
       out = c.residual_of.ensures
-          ∙ ap (λ (k : ℕ). overwrite (s.args.n * s.args.n) (row_order s.args.n (residual_of s.args.kind s.args.n s.args.bit_depth k s.args.inter.now)) s.args.residual.now) r.transform_range-range.ensures;
+          ∙ ap (λ (k : ℕ). overwrite (s.args.n * s.args.n) (row_order s.args.n (residual_of s.args.kind s.args.n s.args.precision.bit_depth k s.args.inter.now)) s.args.residual.now) r.transform_range-range.ensures;
     })

@@ -14,7 +14,7 @@ use Rattle.edited_list.proofs.open_and_edit.Goals as goal
 use Rattle.edited_list.proofs.open_and_edit.Goals.{Start}
 
 abbrev opening : Start → Opening
-opening s = on_coefficients s.args.kind s.args.n s.args.bit_depth s.args.extended_precision
+opening s = on_coefficients s.args.kind s.args.n s.args.precision.bit_depth s.args.precision.extended
 
 abbrev lent : Start → Buffers
 lent s = buffers s.args.coeff.now s.args.inter.now s.args.residual.now

@@ -1,5 +1,5 @@
 -- `level_block::edit_level` meets its contract: the refusals are the ladder's, then the way and the place; what passes them meets what the stages ask.
-use mathlib.Core.Path.{◌≡◌, refl, sym, ap, ap₂, ◌∙◌}
+use mathlib.Core.Path.{◌≡◌, sym, ap, ap₂, ◌∙◌}
 use mathlib.Core.Bool.{true}
 use Prim.Native.Nat.{ℕ, ◌+◌, ◌*◌, ◌≤◌, ◌<◌}
 use native.Mathlib.Omega.{arith}
@@ -145,13 +145,12 @@ returns c =
     let staged = c.edit_stages.ensures.1 in
     let after : ℕ → ℤ → Buffers = λ k v. edited_buffers b.kind b.size b.depth k (lent (goal.at.returns c).Start) s.args.row s.args.column v in
     let coeff = c.edit_stages.ensures.0 ∙ ap (set s.args.coeff.now (s.args.row * b.size + s.args.column)) z in
-    rw (to_z-of_z s.ranges.level)
-    (rw (level-edit_done b s.args.levels.now (lent (goal.at.returns c).Start) s.args.row s.args.column s.args.level (fits (goal.at.returns c).In_ok-level_refusal) (way (goal.at.returns c).Else-not-source) c.if-n-row.false c.if-n-column.false)
+    rw (level-edit_done b s.args.levels.now (lent (goal.at.returns c).Start) s.args.row s.args.column s.args.level (fits (goal.at.returns c).In_ok-level_refusal) (way (goal.at.returns c).Else-not-source) c.if-n-row.false c.if-n-column.false)
     (record {
       answered = ap accepted (limits_are (goal.at.returns c).After-coefficient_of-scaled);
       block = ap (with_columns b) (c.column_count-block.ensures ∙ ap (column_count b.size) coeff);
-      levels = refl;
+      levels = ap (set s.args.levels.now (s.args.row * b.size + s.args.column)) (to_z-of_z s.ranges.level);
       coeff = coeff;
       inter = staged.inter ∙ ap₂ (λ (k : ℕ) (v : ℤ). (after k v).inter) c.transform_range-range.ensures z;
       res = staged.res ∙ ap₂ (λ (k : ℕ) (v : ℤ). (after k v).res) c.transform_range-range.ensures z;
-    }))
+    })

@@ -1,20 +1,7 @@
 -- `lines_wide::dct_4` meets its contract: the butterfly is the matrix, and sums of two pairs of products fit 32 bits by their sizes.
-use native.Mathlib.Omega.{arith}
 use Rattle.h265.specs.Matrix.{folding_values, folding, folded_entry, folded_angle, trans_matrix32, trans_matrix}
-use Rattle.lines_wide.proofs.ValuesLaws.{term, sum_fits, less_fits, outputs_4, sum_output, less_output}
+use Rattle.lines_wide.proofs.ValuesLaws.{sum_fits, less_fits, outputs_4, sum_output, less_output}
 use Rattle.lines_wide.proofs.dct_4.Goals as goal
-
-pub pair-p-requires : goal.pair-p-requires
-pair-p-requires c = (term tt (c.requires.at 0 (omega arith)), term tt (c.requires.at 2 (omega arith)))
-
-pub pair-q-requires : goal.pair-q-requires
-pair-q-requires c = (term tt (c.requires.at 0 (omega arith)), term tt (c.requires.at 2 (omega arith)))
-
-pub pair-r-requires : goal.pair-r-requires
-pair-r-requires c = (term tt (c.requires.at 1 (omega arith)), term tt (c.requires.at 3 (omega arith)))
-
-pub pair-s-requires : goal.pair-s-requires
-pair-s-requires c = (term tt (c.requires.at 1 (omega arith)), term tt (c.requires.at 3 (omega arith)))
 
 pub overflow_add-result : goal.overflow_add-result
 overflow_add-result c = sum_fits c.pair-p.ensures.1 c.pair-r.ensures.1 tt

@@ -1,20 +1,8 @@
 -- `lines_wide::dst_4` meets its contract: each output is four products, of a column of the matrix.
 use Prim.Native.Nat.{◌*◌, ◌^◌}
 use Rattle.h265.specs.Matrix.{dst_entries, dst_matrix}
-use Rattle.lines_wide.proofs.ValuesLaws.{terms_4, outputs_4, quad_output}
+use Rattle.lines_wide.proofs.ValuesLaws.{outputs_4, quad_output}
 use Rattle.lines_wide.proofs.dst_4.Goals as goal
-
-pub quad-requires : goal.quad-requires
-quad-requires c = terms_4 c.requires tt tt tt tt
-
-pub quad-requires-2 : goal.quad-requires-2
-quad-requires-2 c = terms_4 c.requires tt tt tt tt
-
-pub quad-requires-3 : goal.quad-requires-3
-quad-requires-3 c = terms_4 c.requires tt tt tt tt
-
-pub quad-requires-4 : goal.quad-requires-4
-quad-requires-4 c = terms_4 c.requires tt tt tt tt
 
 pub returns : goal.returns
 unfolding dst_matrix dst_entries

@@ -1,17 +1,9 @@
 -- `lines_wide::line_8` meets its contract: even rows are the 4-point DCT's, and the right half of the matrix mirrors the left, odd rows
 -- with their sign changed.
-use Prim.Native.Nat.{◌+◌, ◌*◌}
 use native.Mathlib.Omega.{arith}
-use Rattle.lines_wide.proofs.ValuesLaws.{picked_values}
 use Rattle.lines_wide.proofs.HalvesLaws.{Halves, low_fits, high_fits, outputs_8}
 use Rattle.lines_wide.proofs.line_8.Goals as goal
 use Rattle.lines_wide.proofs.line_8.Goals.{After-odd_8-o}
-
-pub dct_4-e-requires : goal.dct_4-e-requires
-dct_4-e-requires c = picked_values (λ k. 2 * k) c.requires (λ k l. omega arith)
-
-pub odd_8-o-requires : goal.odd_8-o-requires
-odd_8-o-requires c = picked_values (λ k. 2 * k + 1) c.requires (λ k l. omega arith)
 
 halves : (c : After-odd_8-o) → Halves c.args.x c.dct_4-e.result c.odd_8-o.result
 halves c = record { all = c.requires; even = c.dct_4-e.ensures; odd = c.odd_8-o.ensures }

@@ -2,20 +2,8 @@
 use Prim.Native.Nat.{◌*◌, ◌^◌}
 use Rattle.h265.specs.Matrix.{folding_values, folding, folded_entry, folded_angle, trans_matrix32, trans_matrix}
 use Rattle.lines_wide.specs.Values.{odd_rows}
-use Rattle.lines_wide.proofs.ValuesLaws.{terms_4, outputs_4, quad_output}
+use Rattle.lines_wide.proofs.ValuesLaws.{outputs_4, quad_output}
 use Rattle.lines_wide.proofs.odd_8.Goals as goal
-
-pub quad-requires : goal.quad-requires
-quad-requires c = terms_4 c.requires tt tt tt tt
-
-pub quad-requires-2 : goal.quad-requires-2
-quad-requires-2 c = terms_4 c.requires tt tt tt tt
-
-pub quad-requires-3 : goal.quad-requires-3
-quad-requires-3 c = terms_4 c.requires tt tt tt tt
-
-pub quad-requires-4 : goal.quad-requires-4
-quad-requires-4 c = terms_4 c.requires tt tt tt tt
 
 pub returns : goal.returns
 unfolding trans_matrix trans_matrix32 folded_entry folded_angle folding folding_values

@@ -29,12 +29,6 @@ module _ (c : Start) where
   sum_within : Within ((nat_abs c.args.u + nat_abs c.args.v) * 2 ^ 22) (c.args.u *ℤ c.args.x +ℤ c.args.v *ℤ c.args.y)
   sum_within = within_le (omega arith) (within_add (product_within c.requires.0) (product_within c.requires.1))
 
-pub overflow_mul-result : goal.overflow_mul-result
-overflow_mul-result c = simp (to_z-of_z, c.ranges.u, c.ranges.x) (product_fits c.requires.0)
-
-pub overflow_mul-result-2 : goal.overflow_mul-result-2
-overflow_mul-result-2 c = simp (to_z-of_z, c.ranges.v, c.ranges.y) (product_fits c.requires.1)
-
 pub overflow_add-result : goal.overflow_add-result
 overflow_add-result c =
     simp (to_z-of_z, c.ranges.u, c.ranges.x, c.ranges.v, c.ranges.y, product_fits c.requires.0, product_fits c.requires.1) (sum_fits c)

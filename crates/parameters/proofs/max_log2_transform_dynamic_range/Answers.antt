@@ -7,7 +7,7 @@ use Rattle.parameters.specs.Parameters.{max_log2_transform_dynamic_range}
 use Rattle.parameters.proofs.max_log2_transform_dynamic_range.Goals as goal
 use Rattle.parameters.proofs.max_log2_transform_dynamic_range.Goals.{Else-depth_refused}
 
-depth_ok : (c : Else-depth_refused) → depth_refused c.args.bit_depth ≡ false
+depth_ok : (c : Else-depth_refused) → depth_refused c.args.precision.bit_depth ≡ false
 depth_ok c = sym c.depth_refused.ensures ∙ c.if-depth_refused.false
 
 pub returns-then-depth_refused : goal.returns-then-depth_refused
@@ -15,7 +15,7 @@ unfolding max_log2_transform_dynamic_range
 returns-then-depth_refused c = rw (sym c.depth_refused.ensures ∙ c.if-depth_refused.true)
 
 pub transform_range-requires : goal.transform_range-requires
-transform_range-requires c = (depth_accepted c.args.bit_depth (depth_ok c)).1
+transform_range-requires c = (depth_accepted c.args.precision.bit_depth (depth_ok c)).1
 
 pub returns : goal.returns
 unfolding max_log2_transform_dynamic_range

@@ -17,18 +17,18 @@ use Rattle.parameters.proofs.params_of.Goals as goal
 use Rattle.parameters.proofs.params_of.Goals.{After-limited_qp, After-pow2-end, After-scale_of_qp, After-transform_range-range}
 
 -- the range is below what it is taken from, and below 23
-range_fits : (c : After-transform_range-range) → (c.transform_range-range.result + 3 ≤ c.args.bit_depth + 10) × (c.transform_range-range.result ≤ 22)
+range_fits : (c : After-transform_range-range) → (c.transform_range-range.result + 3 ≤ c.args.precision.bit_depth + 10) × (c.transform_range-range.result ≤ 22)
 range_fits c =
     rw c.transform_range-range.ensures (
-      omega (arith, transform_range_depth c.args.bit_depth c.args.extended_precision c.requires.deep),
-      transform_range_most c.args.bit_depth c.args.extended_precision c.requires.shallow,
+      omega (arith, transform_range_depth c.args.precision.bit_depth c.args.precision.extended c.requires.deep),
+      transform_range_most c.args.precision.bit_depth c.args.precision.extended c.requires.shallow,
     )
 
 pub overflow_sub-shift : goal.overflow_sub-shift
-overflow_sub-shift c = omega (arith, range_fits c)
+overflow_sub-shift c = omega (arith, range_fits (goal.at.overflow_sub-shift c).After-transform_range-range)
 
 pub overflow_sub-shift-2 : goal.overflow_sub-shift-2
-overflow_sub-shift-2 c = omega (arith, range_fits c)
+overflow_sub-shift-2 c = omega (arith, range_fits (goal.at.overflow_sub-shift-2 c).After-transform_range-range)
 
 pub pow2-end-requires : goal.pow2-end-requires
 pow2-end-requires c = omega (arith, range_fits (goal.at.pow2-end-requires c).After-transform_range-range)
@@ -36,13 +36,13 @@ pow2-end-requires c = omega (arith, range_fits (goal.at.pow2-end-requires c).Aft
 pub limited_qp-requires : goal.limited_qp-requires
 limited_qp-requires c = search rules
 
-limited_is : (c : After-limited_qp) → c.limited_qp.result ≡ nat_abs (clip_qp_prime c.args.bit_depth c.args.qp_prime)
+limited_is : (c : After-limited_qp) → c.limited_qp.result ≡ nat_abs (clip_qp_prime c.args.precision.bit_depth c.args.qp_prime)
 limited_is c = rw (round_trip c.ranges.qp_prime) at c.limited_qp.ensures
 
 pub scale_of_qp-requires : goal.scale_of_qp-requires
 scale_of_qp-requires c =
     let a = c in
-    rw (limited_is c) (clip_qp_prime_bound a.args.bit_depth a.args.qp_prime a.requires.shallow)
+    rw (limited_is c) (clip_qp_prime_bound a.args.precision.bit_depth a.args.qp_prime a.requires.shallow)
 
 factor_is : (c : After-scale_of_qp) → pos 16 *ℤ c.scale_of_qp.result ≡ pos (16 * scale_of_qp c.limited_qp.result)
 factor_is c = ap (λ (z : ℤ). pos 16 *ℤ z) c.scale_of_qp.ensures ∙ pos-*ℤ-pos 16 (scale_of_qp c.limited_qp.result)

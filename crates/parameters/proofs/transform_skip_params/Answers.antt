@@ -19,7 +19,7 @@ pub returns-then-size_refused : goal.returns-then-size_refused
 unfolding transform_skip_params
 returns-then-size_refused c = rw (sym c.size_refused.ensures ∙ c.if-size_refused.true)
 
-depth_ok : (c : Else-depth_refused) → depth_refused c.args.bit_depth ≡ false
+depth_ok : (c : Else-depth_refused) → depth_refused c.args.precision.bit_depth ≡ false
 depth_ok c = sym c.depth_refused.ensures ∙ c.if-depth_refused.false
 
 pub returns-then-depth_refused : goal.returns-then-depth_refused
@@ -33,7 +33,7 @@ pub skip_params_of-requires : goal.skip_params_of-requires
 skip_params_of-requires c =
     let d = c in
     let a = d in
-    rw c.log2_of_size-log2n.ensures (known_accepted a.args.n a.args.bit_depth (size_ok (goal.at.skip_params_of-requires c).Else-size_refused) (depth_ok (goal.at.skip_params_of-requires c).Else-depth_refused))
+    rw c.log2_of_size-log2n.ensures (known_accepted a.args.n a.args.precision.bit_depth (size_ok (goal.at.skip_params_of-requires c).Else-size_refused) (depth_ok (goal.at.skip_params_of-requires c).Else-depth_refused))
 
 pub returns : goal.returns
 unfolding transform_skip_params

@@ -7,6 +7,6 @@ pub returns-then-bit_depth-lt8 : goal.returns-then-bit_depth-lt8
 unfolding depth_refused
 returns-then-bit_depth-lt8 c = rw (lt-ltb _ _ c.if-bit_depth-lt8.true)
 
-pub returns : goal.returns
+pub returns-else-bit_depth-lt8 : goal.returns-else-bit_depth-lt8
 unfolding depth_refused
-returns c = rw (le-ltb _ _ c.if-bit_depth-lt8.false)
+returns-else-bit_depth-lt8 c = rw (le-ltb _ _ c.if-bit_depth-lt8.false)

@@ -6,6 +6,6 @@ pub returns-then-rotate : goal.returns-then-rotate
 unfolding rotation_refused
 returns-then-rotate c = rw c.if-rotate.true
 
-pub returns : goal.returns
+pub returns-else-rotate : goal.returns-else-rotate
 unfolding rotation_refused
-returns c = rw c.if-rotate.false
+returns-else-rotate c = rw c.if-rotate.false

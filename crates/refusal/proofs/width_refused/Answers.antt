@@ -3,10 +3,10 @@ use borrow.Author.Tests.{lt-ltb, le-ltb}
 use Rattle.refusal.specs.Condition.{width_refused}
 use Rattle.refusal.proofs.width_refused.Goals as goal
 
-pub returns-then-bit_depth-gt9 : goal.returns-then-bit_depth-gt9
+pub returns-then-precision-gt9 : goal.returns-then-precision-gt9
 unfolding width_refused
-returns-then-bit_depth-gt9 c = rw (lt-ltb _ _ c.if-bit_depth-gt9.true)
+returns-then-precision-gt9 c = rw (lt-ltb _ _ c.if-precision-gt9.true)
 
-pub returns : goal.returns
+pub returns-else-precision-gt9 : goal.returns-else-precision-gt9
 unfolding width_refused
-returns c = rw (le-ltb _ _ c.if-bit_depth-gt9.false)
+returns-else-precision-gt9 c = rw (le-ltb _ _ c.if-precision-gt9.false)

@@ -14,7 +14,7 @@ sum_fits c = rw c.entry_sum-sum.ensures (entry_sum_bound c.args.kind c.args.n c.
 
 shift_fits : (c : After-stage_two_shift-shift) → c.stage_two_shift-shift.result ≤ 12
 shift_fits c =
-    rw c.stage_two_shift-shift.ensures (shift_of_bound c.args.bit_depth c.args.extended_precision c.requires.1 c.requires.2).1
+    rw c.stage_two_shift-shift.ensures (shift_of_bound c.args.precision.bit_depth c.args.precision.extended c.requires.1 c.requires.2).1
 
 power_is : (s : ℕ) → s ≤ 12 → ((1 * 2 ^ (6 + s)) % 4294967296 ≡ 2 ^ (6 + s)) × (2 ^ (6 + s) ≤ 2 ^ 18)
 power_is s h =

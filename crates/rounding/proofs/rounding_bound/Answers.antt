@@ -15,7 +15,7 @@ pub returns-then-size_refused : goal.returns-then-size_refused
 unfolding rounding_bound_of
 returns-then-size_refused c = rw (sym c.size_refused.ensures ∙ c.if-size_refused.true)
 
-depth_ok : (c : Else-depth_refused) → depth_refused c.args.bit_depth ≡ false
+depth_ok : (c : Else-depth_refused) → depth_refused c.args.precision.bit_depth ≡ false
 depth_ok c = sym c.depth_refused.ensures ∙ c.if-depth_refused.false
 
 pub returns-then-depth_refused : goal.returns-then-depth_refused
@@ -32,7 +32,7 @@ returns-then-dst_refused c = rw (size_ok (goal.at.returns-then-dst_refused c).El
 pub bound_of-requires : goal.bound_of-requires
 bound_of-requires c =
     let a = c.args in
-    let h = depth_accepted a.bit_depth (depth_ok (goal.at.bound_of-requires c).Else-depth_refused) in
+    let h = depth_accepted a.precision.bit_depth (depth_ok (goal.at.bound_of-requires c).Else-depth_refused) in
     (size_accepted a.n (size_ok (goal.at.bound_of-requires c).Else-size_refused), h.0, h.1)
 
 pub returns : goal.returns

@@ -10,13 +10,13 @@ use Rattle.rounding.proofs.stage_two_shift.Goals.{After-transform_range}
 range_fits : (c : After-transform_range) → (15 ≤ c.transform_range.result) × (c.transform_range.result ≤ 22)
 range_fits c =
     let a = c.args in
-    rw c.transform_range.ensures (transform_range_least a.bit_depth a.extended_precision, transform_range_most a.bit_depth a.extended_precision c.requires.1)
+    rw c.transform_range.ensures (transform_range_least a.precision.bit_depth a.precision.extended, transform_range_most a.precision.bit_depth a.precision.extended c.requires.1)
 
 pub overflow_add-result : goal.overflow_add-result
 overflow_add-result c = record { fits = omega (arith, range_fits c) }
 
 pub overflow_sub-result : goal.overflow_sub-result
-overflow_sub-result c = omega (arith, range_fits c, c.requires)
+overflow_sub-result c = omega (arith, range_fits (goal.at.overflow_sub-result c).After-transform_range, c.requires)
 
 pub returns : goal.returns
 unfolding shift_of stage_two_shift

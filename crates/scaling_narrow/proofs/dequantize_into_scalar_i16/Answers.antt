@@ -1,6 +1,11 @@
--- `scaling_narrow::dequantize_into_scalar_i16` meets its contract: what is read of a i16 is the i16 itself.
-use Rattle.std.proofs.lemmas.List.{map-id}
+-- `scaling_narrow::dequantize_into_scalar_i16` meets its contract: what is read of an i16 is the i16 itself.
+use Rattle.std.proofs.Common.{rules}
+use Rattle.h265.specs.ScalingFactor.ScalingList.{flat}
+use Rattle.scaling_blocks.specs.Blocks.{bits16}
+use Rattle.scaling_blocks.proofs.ReadLaws.{dequantized_read}
 use Rattle.scaling_narrow.proofs.dequantize_into_scalar_i16.Goals as goal
 
 pub returns : goal.returns
-returns c = rw (map-id c.args.out.now, map-id c.dequantize.new.out) at c.dequantize.ensures
+returns c =
+    let a = c.args in
+    dequantized_read bits16 (flat) a.n a.qp_prime.0 a.precision.bit_depth a.precision.extended a.levels.now a.out.now (search rules)

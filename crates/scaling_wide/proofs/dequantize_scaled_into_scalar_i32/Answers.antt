@@ -1,6 +1,11 @@
--- `scaling_wide::dequantize_scaled_into_scalar_i32` meets its contract: what is read of a i32 is the i32 itself.
-use Rattle.std.proofs.lemmas.List.{map-id}
+-- `scaling_wide::dequantize_scaled_into_scalar_i32` meets its contract: what is read of an i32 is the i32 itself.
+use Rattle.std.proofs.Common.{rules}
+use Rattle.h265.specs.ScalingFactor.ScalingList.{listed}
+use Rattle.scaling_blocks.specs.Blocks.{bits32}
+use Rattle.scaling_blocks.proofs.ReadLaws.{dequantized_read}
 use Rattle.scaling_wide.proofs.dequantize_scaled_into_scalar_i32.Goals as goal
 
 pub returns : goal.returns
-returns c = rw (map-id c.args.out.now, map-id c.dequantize_scaled.new.out) at c.dequantize_scaled.ensures
+returns c =
+    let a = c.args in
+    dequantized_read bits32 (listed a.list.now a.dc) a.n a.qp_prime.0 a.precision.bit_depth a.precision.extended a.levels.now a.out.now (search rules)

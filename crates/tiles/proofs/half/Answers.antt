@@ -23,8 +23,5 @@ module _ (c : Start) where
   half_reads : to_z w32 (1 * 2 ^ (c.args.s - 1) % 2 ^ 32) ≡ pos (2 ^ (c.args.s - 1))
   half_reads = ap (to_z w32) half_is ∙ to_z-of_z {w = w32} {z = pos (2 ^ (c.args.s - 1))} (record { sfits = omega (arith, half_small) })
 
-pub overflow_cast-result : goal.overflow_cast-result
-overflow_cast-result c = rw (half_is c) (record { sfits = omega (arith, half_small c) })
-
 pub returns : goal.returns
 returns c = rw (half_reads c) (refl, within_pos (pow_mono {j = 11} (omega arith)))

@@ -7,4 +7,4 @@ use Rattle.tiles.specs.Tile.{LinePut}
 use Rattle.tiles.proofs.put_line.Given as goal
 
 abbrev pub invariant-loop-t : goal.invariant-loop-t
-invariant-loop-t g l = (l.t ≤ g.row.N / 8) × LinePut l.j l.t (λ m. shift_right (get_or l.z m (pos 0) +ℤ l.twice) l.s) l.initial.v l.v
+invariant-loop-t g l = (l.t ≤ g.row.N / 8) × LinePut l.j l.t (λ m. shift_right (get_or l.z m (pos 0) +ℤ l.r.twice) l.r.shift) l.initial.v l.v

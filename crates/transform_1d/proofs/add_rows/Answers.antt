@@ -12,12 +12,9 @@ use Rattle.integers.specs.Within.{Within}
 use Rattle.integers.proofs.MachineLaws.{abs_add}
 use Rattle.integers.proofs.BoundLaws.{within_fits}
 use Rattle.transform_1d.specs.Kernel.{pair_most, row_pair}
-use Rattle.transform_1d.proofs.KernelLaws.{row_pair_even, row_pair_odd, added_zero, added_suc, added-all}
+use Rattle.transform_1d.proofs.KernelLaws.{row_pair_even, row_pair_odd, added_suc}
 use Rattle.transform_1d.proofs.add_rows.Goals as goal
 use Rattle.transform_1d.proofs.add_rows.Goals.{After-e-1, After-o-1, After-pair-arg-in-loop-j-1, After-pair-arg-in-loop-j-3-1}
-
-pub loop-j-init : goal.loop-j-init
-loop-j-init c = added_zero c.requires.2.long
 
 module _ (c : After-pair-arg-in-loop-j-1) where
   odd_fits : SFits w16 (get_or c.args.t.now (c.args.at + 2 * c.loop-j.j + 1) (pos 0))
@@ -26,18 +23,12 @@ module _ (c : After-pair-arg-in-loop-j-1) where
   even_fits : SFits w16 (get_or c.args.t.now (c.args.at + 2 * c.loop-j.j) (pos 0))
   even_fits = record { sfits = c.pair-arg-in-loop-j-1.given }
 
-pub pair-p-requires : goal.pair-p-requires
-pair-p-requires c = simp (to_z-of_z, odd_fits c, even_fits c) (c.requires.1.at _, c.requires.1.at _)
-
 module _ (c : After-pair-arg-in-loop-j-3-1) where
   high_odd_fits : SFits w16 (get_or c.args.t.now (c.args.at + 2 * c.loop-j.j + 33) (pos 0))
   high_odd_fits = record { sfits = c.pair-arg-in-loop-j-2-1.given }
 
   high_even_fits : SFits w16 (get_or c.args.t.now (c.args.at + 2 * c.loop-j.j + 32) (pos 0))
   high_even_fits = record { sfits = c.pair-arg-in-loop-j-3-1.given }
-
-pub pair-r-requires : goal.pair-r-requires
-pair-r-requires c = simp (to_z-of_z, high_odd_fits c, high_even_fits c) (c.requires.1.at _, c.requires.1.at _)
 
 module _ (c : After-e-1) where
   z_fits : SFits w32 (get_or c.loop-j.z c.loop-j.j (pos 0))
@@ -86,6 +77,3 @@ loop-j-preserved c =
     (simp (to_z-of_z, z16_fits c, r_fits c, o_fits c) (ap (λ (x : ℤ). get_or l.z (16 + l.j) (pos 0) +ℤ x) (r_is c)))
     (subst (λ (x : ℤ). Within pair_most x) (p_is c) c.pair-p.ensures.1)
     (subst (λ (x : ℤ). Within pair_most x) (r_is c) c.pair-r.ensures.1)
-
-pub returns : goal.returns
-returns c = added-all (omega arith) (simp (to_z-of_z, c.ranges.a, c.ranges.b, c.ranges.d, c.ranges.f) at c.loop-j.invariant)

@@ -12,10 +12,10 @@ use Rattle.transform_blocks.proofs.block_refusal.Goals.{Else-depth_refused, Else
 size_ok : (c : Else-size_refused) → size_refused c.args.n ≡ false
 size_ok c = sym c.size_refused.ensures ∙ c.if-size_refused.false
 
-depth_ok : (c : Else-depth_refused) → depth_refused c.args.bit_depth ≡ false
+depth_ok : (c : Else-depth_refused) → depth_refused c.args.precision.bit_depth ≡ false
 depth_ok c = sym c.depth_refused.ensures ∙ c.if-depth_refused.false
 
-width_ok : (c : Joined-else-narrow) → c.args.narrow && width_refused c.args.bit_depth c.args.extended_precision ≡ false
+width_ok : (c : Joined-else-narrow) → c.args.narrow && width_refused c.args.precision.bit_depth c.args.precision.extended ≡ false
 width_ok c =
     elim c.else-narrow.branch [
       | else-narrow-via-then-narrow+else-width_refused w ↦ rw w.if-narrow.true (sym w.width_refused.ensures ∙ w.if-width_refused.false)

@@ -24,21 +24,21 @@ returns-in_err-block_refusal c =
     let a = c.args in
     let told : c.from_residual.result ≡ Err c.in_err-block_refusal.field-0.0 = search rules in
     rw told
-    (ladder_refused false a.kind a.n a.bit_depth a.extended_precision a.nx a.coeff.now a.out.now c.in_err-block_refusal.field-0.0 (ap answer (sym c.in_err-block_refusal.was) ∙ c.block_refusal.ensures))
+    (ladder_refused false a.kind a.n a.precision.bit_depth a.precision.extended a.nx a.coeff.now a.out.now c.in_err-block_refusal.field-0.0 (ap answer (sym c.in_err-block_refusal.was) ∙ c.block_refusal.ensures))
 
 -- nothing before row 9 holds
-checked : (c : In_ok-block_refusal) → Checked false c.args.n c.args.bit_depth c.args.extended_precision (length c.args.coeff.now) (length c.args.out.now)
+checked : (c : In_ok-block_refusal) → Checked false c.args.n c.args.precision.bit_depth c.args.precision.extended (length c.args.coeff.now) (length c.args.out.now)
 checked c =
     let a = c.args in
-    ladder_passed false a.kind a.n a.bit_depth a.extended_precision a.nx a.coeff.now a.out.now (ap answer (sym c.in_ok-block_refusal.was) ∙ c.block_refusal.ensures)
+    ladder_passed false a.kind a.n a.precision.bit_depth a.precision.extended a.nx a.coeff.now a.out.now (ap answer (sym c.in_ok-block_refusal.was) ∙ c.block_refusal.ensures)
 
 pub transform_range-range-requires : goal.transform_range-range-requires
-transform_range-range-requires c = (depth_accepted c.args.bit_depth (checked c).depth).1
+transform_range-range-requires c = (depth_accepted c.args.precision.bit_depth (checked c).depth).1
 
 range_most : (c : After-transform_range-range) → c.transform_range-range.result ≤ 22
 range_most c =
     let s = c in
-    rw c.transform_range-range.ensures (transform_range_most s.args.bit_depth s.args.extended_precision (depth_accepted s.args.bit_depth (checked (goal.at.After-transform_range-range c).In_ok-block_refusal).depth).1)
+    rw c.transform_range-range.ensures (transform_range_most s.args.precision.bit_depth s.args.precision.extended (depth_accepted s.args.precision.bit_depth (checked (goal.at.After-transform_range-range c).In_ok-block_refusal).depth).1)
 
 pub first_outside-first-requires : goal.first_outside-first-requires
 first_outside-first-requires c =
@@ -52,7 +52,7 @@ overflow_mul-n c =
     record { fits = omega (arith, size_square n (size_accepted n (checked (goal.at.overflow_mul-n c).In_ok-block_refusal).size)) }
 
 -- what the search found, for the count as given
-first_is : (c : After-first_outside-first) → first_outside (transform_range c.args.bit_depth c.args.extended_precision) c.args.n c.args.nx c.args.coeff.now ≡ c.first_outside-first.result
+first_is : (c : After-first_outside-first) → first_outside (transform_range c.args.precision.bit_depth c.args.precision.extended) c.args.n c.args.nx c.args.coeff.now ≡ c.first_outside-first.result
 first_is c =
     let s = c in
     sym (c.first_outside-first.ensures
@@ -81,16 +81,16 @@ invert_in-requires c =
     let r = l in
     let e = r in
     let s = e in
-    let d = depth_accepted s.args.bit_depth (checked (goal.at.invert_in-requires c).In_ok-block_refusal).depth in
+    let d = depth_accepted s.args.precision.bit_depth (checked (goal.at.invert_in-requires c).In_ok-block_refusal).depth in
     record {
       size = size_accepted s.args.n (checked (goal.at.invert_in-requires c).In_ok-block_refusal).size;
       dst = s.requires.dst;
       depth = d;
       range = (
-        rw r.transform_range-range.ensures (transform_range_least s.args.bit_depth s.args.extended_precision),
+        rw r.transform_range-range.ensures (transform_range_least s.args.precision.bit_depth s.args.precision.extended),
         range_most (goal.at.invert_in-requires c).After-transform_range-range,
-        rw r.transform_range-range.ensures (transform_range_depth s.args.bit_depth s.args.extended_precision d.0),
-        rw r.transform_range-range.ensures (omega (arith, transform_range_least s.args.bit_depth s.args.extended_precision, d.1)),
+        rw r.transform_range-range.ensures (transform_range_depth s.args.precision.bit_depth s.args.precision.extended d.0),
+        rw r.transform_range-range.ensures (omega (arith, transform_range_least s.args.precision.bit_depth s.args.precision.extended, d.1)),
       );
       columns = rw l.min-columns.ensures (omega arith);
       long = block_room s.args.n _ (checked (goal.at.invert_in-requires c).In_ok-block_refusal).input;
@@ -106,8 +106,8 @@ returns c =
     let r = l in
     let e = r in
     let s = e in
-    writes_done (inverted_done false s.args.kind s.args.n s.args.bit_depth s.args.extended_precision s.args.nx s.args.coeff.now s.args.out.now (checked (goal.at.returns c).In_ok-block_refusal)
+    writes_done (inverted_done false s.args.kind s.args.n s.args.precision.bit_depth s.args.precision.extended s.args.nx s.args.coeff.now s.args.out.now (checked (goal.at.returns c).In_ok-block_refusal)
     (rw (first_is (goal.at.returns c).After-first_outside-first) g.if-first-n.false)
     ∙ ap wrote (sym (g.invert_in.ensures
-    ∙ ap₂ (λ (q k : ℕ). overwrite (s.args.n * s.args.n) (row_order s.args.n (residual (matrix_of s.args.kind s.args.n) s.args.n s.args.bit_depth q k s.args.coeff.now)) s.args.out.now) r.transform_range-range.ensures l.min-columns.ensures
-    ∙ block_least (matrix_of s.args.kind s.args.n) s.args.n s.args.bit_depth _ s.args.nx s.args.coeff.now s.args.out.now)))
+    ∙ ap₂ (λ (q k : ℕ). overwrite (s.args.n * s.args.n) (row_order s.args.n (residual (matrix_of s.args.kind s.args.n) s.args.n s.args.precision.bit_depth q k s.args.coeff.now)) s.args.out.now) r.transform_range-range.ensures l.min-columns.ensures
+    ∙ block_least (matrix_of s.args.kind s.args.n) s.args.n s.args.precision.bit_depth _ s.args.nx s.args.coeff.now s.args.out.now)))

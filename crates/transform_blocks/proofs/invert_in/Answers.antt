@@ -1,15 +1,16 @@
 -- `transform_blocks::invert_in` meets its contract: the stages of the range meet it, and the plain range is that of 16 bits.
 use mathlib.Core.Path.{◌≡◌, sym, ap, ◌∙◌, subst}
 use mathlib.Core.Bool.{false}
-use Prim.Native.Nat.{ℕ, ◌+◌, ◌*◌}
+use Prim.Native.Nat.{ℕ, ◌+◌, ◌-◌, ◌*◌, ◌≤◌}
 use native.Mathlib.Omega.{arith}
 use lib.IntN.{pos}
-use lib.ListN.{get_or}
+use lib.ListN.{get_or, length}
 use Rattle.integers.specs.Lists.{overwrite}
 use Rattle.h265.specs.Range.{outside_range}
 use Rattle.h265.specs.Transform.{row_order, residual}
 use Rattle.h265.proofs.RangeLaws.{outside_range_false}
 use Rattle.transform_1d.specs.MatrixOf.{matrix_of}
+use Rattle.transform_blocks.proofs.BlocksLaws.{plain_needs, plain_result}
 use Rattle.transform_blocks.proofs.NarrowLaws.{inside_fits}
 use Rattle.transform_blocks.proofs.invert_in.Goals as goal
 
@@ -17,21 +18,24 @@ pub residual_plain-requires : goal.residual_plain-requires
 residual_plain-requires c =
     let s = c in
     let p = s.requires in
-    record {
-      size = p.size;
-      dst = p.dst;
-      least = p.depth.0;
-      most = p.depth.1;
-      columns = p.columns;
-      long = p.long;
-      room = p.room;
-      fits = λ k j hk hj. inside_fits (get_or s.args.coeff.now (k * s.args.n + j) (pos 0)) (subst (λ (r : ℕ). outside_range r (get_or s.args.coeff.now (k * s.args.n + j) (pos 0)) ≡ false) c.if-range-eq15.true (p.inside k j hk hj));
-    }
+    let shift : 0 ≤ 20 - s.args.bit_depth = omega arith in (
+      plain_needs s.args.kind s.args.n s.args.bit_depth s.args.nx s.args.coeff.now (length s.args.out.now) record {
+        size = p.size;
+        dst = p.dst;
+        least = p.depth.0;
+        most = p.depth.1;
+        columns = p.columns;
+        long = p.long;
+        room = p.room;
+        fits = λ k j hk hj. inside_fits (get_or s.args.coeff.now (k * s.args.n + j) (pos 0)) (subst (λ (r : ℕ). outside_range r (get_or s.args.coeff.now (k * s.args.n + j) (pos 0)) ≡ false) c.if-range-eq15.true (p.inside k j hk hj));
+      },
+      shift,
+    )
 
 pub returns-then-range-eq15 : goal.returns-then-range-eq15
 returns-then-range-eq15 c =
     let s = c in
-    c.residual_plain.ensures
+    plain_result (matrix_of s.args.kind s.args.n) s.args.n s.args.bit_depth s.args.nx s.args.coeff.now s.args.out.now c.residual_plain.new.out c.residual_plain.ensures
     ∙ ap (λ (r : ℕ). overwrite (s.args.n * s.args.n) (row_order s.args.n (residual (matrix_of s.args.kind s.args.n) s.args.n s.args.bit_depth r s.args.nx s.args.coeff.now)) s.args.out.now) (sym c.if-range-eq15.true)
 
 pub residual_wide-requires : goal.residual_wide-requires

@@ -13,9 +13,6 @@ use Rattle.wide_parts.proofs.joined.Goals.{Start}
 sum_fits : (c : Start) → SFits w32 (c.args.l +ℤ c.args.h)
 sum_fits c = within_fits {b = 2 ^ 28 + 2 ^ 28} tt (within_add c.requires.0 c.requires.1)
 
-pub overflow_add-result : goal.overflow_add-result
-overflow_add-result c = simp (to_z-of_z, c.ranges.l, c.ranges.h) (sum_fits c)
-
 pub returns : goal.returns
 unfolding shift_right
 returns c = simp (to_z-of_z, c.ranges.l, c.ranges.h, sum_fits c, sfits_shr {z = c.args.l +ℤ c.args.h} (2 ^ c.args.by) (sum_fits c))

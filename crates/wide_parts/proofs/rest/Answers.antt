@@ -10,7 +10,7 @@ use mir.Syntax.{w32}
 use mir.Val.{SFits, to_z}
 use mir.Facts.{to_z-of_z}
 use Rattle.integers.specs.Shift.{pow2}
-use Rattle.integers.proofs.MachineLaws.{shl_one, sfits_widen_trip}
+use Rattle.integers.proofs.MachineLaws.{shl_one}
 use Rattle.integers.proofs.BoundLaws.{within_mul, within_pos, within_fits, within_sfits}
 use Rattle.h265.specs.Range.{clip_coeff}
 use Rattle.wide_parts.proofs.SplitLaws.{rest_fits}
@@ -29,9 +29,6 @@ module _ (c : Start) where
 
   left_fits : SFits w32 (c.args.x -ℤ pos (2 ^ c.args.k) *ℤ c.args.h)
   left_fits = subst (λ (z : ℤ). SFits w32 (c.args.x -ℤ pow2 c.args.k *ℤ z)) (sym c.requires.1) (rest_fits c.args.k c.args.x c.requires.0 c.ranges.x)
-
-pub overflow_cast-h : goal.overflow_cast-h
-overflow_cast-h c = sfits_widen_trip c.ranges.h tt
 
 pub overflow_mul-k : goal.overflow_mul-k
 overflow_mul-k c = rw (scale_is c) (simp (to_z-of_z, c.ranges.h, part_fits c) (product_fits c))

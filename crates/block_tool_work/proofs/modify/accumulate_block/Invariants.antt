@@ -1,5 +1,5 @@
 -- `block_tool_work::modify::accumulate_block` meets its contract. The loop's invariant: the first i places hold their sums, and the others still their samples.
-use Prim.Native.Nat.{◌-◌, ◌*◌, ◌≤◌}
+use Prim.Native.Nat.{◌*◌, ◌≤◌}
 use Rattle.integers.proofs.ListsLaws.{Stored}
 use Rattle.block_tool_rules.specs.Modification.{accumulated}
 use Rattle.block_tool_work.specs.Work.{at}

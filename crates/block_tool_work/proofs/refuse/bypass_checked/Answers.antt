@@ -19,7 +19,7 @@ use Rattle.block_tool_work.proofs.refuse.bypass_checked.Goals.{After-first_outsi
 size_ok : (c : Else-size_refused) → size_refused c.args.n ≡ false
 size_ok c = sym c.size_refused.ensures ∙ c.if-size_refused.false
 
-depth_ok : (c : Else-depth_refused) → depth_refused c.args.bit_depth ≡ false
+depth_ok : (c : Else-depth_refused) → depth_refused c.args.precision.bit_depth ≡ false
 depth_ok c = sym c.depth_refused.ensures ∙ c.if-depth_refused.false
 
 rotation_ok : (c : Else-rotation_refused) → let a = c.args in rotation_refused a.rotate a.n ≡ false
@@ -69,12 +69,12 @@ returns-then-places-n c =
 pub transform_range-range-requires : goal.transform_range-range-requires
 transform_range-range-requires c =
     let d = c in
-    (depth_accepted d.args.bit_depth (depth_ok (goal.at.transform_range-range-requires c).Else-depth_refused)).1
+    (depth_accepted d.args.precision.bit_depth (depth_ok (goal.at.transform_range-range-requires c).Else-depth_refused)).1
 
 range_most : (c : After-transform_range-range) → c.transform_range-range.result ≤ 22
 range_most c =
     let a = c.args in
-    rw c.transform_range-range.ensures (transform_range_most a.bit_depth a.extended_precision (transform_range-range-requires (goal.at.After-transform_range-range c).Else-places-n))
+    rw c.transform_range-range.ensures (transform_range_most a.precision.bit_depth a.precision.extended (transform_range-range-requires (goal.at.After-transform_range-range c).Else-places-n))
 
 pub first_outside-first-requires : goal.first_outside-first-requires
 first_outside-first-requires c =
@@ -84,7 +84,7 @@ first_outside-first-requires c =
 
 -- what the search found
 first_is : (c : After-first_outside-first)
-    → let a = c.args in first_outside (transform_range a.bit_depth a.extended_precision) a.n a.n a.levels.now ≡ c.first_outside-first.result
+    → let a = c.args in first_outside (transform_range a.precision.bit_depth a.precision.extended) a.n a.n a.levels.now ≡ c.first_outside-first.result
 first_is c =
     let a = c.args in
     sym (c.first_outside-first.ensures ∙ ap (λ (r : ℕ). first_outside r a.n a.n a.levels.now) c.transform_range-range.ensures)

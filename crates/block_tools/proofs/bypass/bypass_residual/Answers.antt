@@ -9,11 +9,11 @@ use Rattle.block_tools.proofs.bypass.bypass_residual.Goals as goal
 use Rattle.block_tools.proofs.bypass.bypass_residual.Goals.{In_ok-bypass_checked}
 
 -- no row of the ladder holds
-passes : (c : In_ok-bypass_checked) → let a = c.args in Passes a.accumulate a.rotate a.n a.bit_depth a.extended_precision a.levels.now a.out.now
+passes : (c : In_ok-bypass_checked) → let a = c.args in Passes a.accumulate a.rotate a.n a.precision.bit_depth a.precision.extended a.levels.now a.out.now
 passes c =
     let k = c in
     let a = k.args in
-    bypass_passed a.accumulate a.rotate a.n a.bit_depth a.extended_precision a.levels.now a.out.now (sym (ap answer c.in_ok-bypass_checked.was) ∙ k.bypass_checked.ensures)
+    bypass_passed a.accumulate a.rotate a.n a.precision.bit_depth a.precision.extended a.levels.now a.out.now (sym (ap answer c.in_ok-bypass_checked.was) ∙ k.bypass_checked.ensures)
 
 pub overflow_mul-n : goal.overflow_mul-n
 overflow_mul-n c = omega (arith, size_square c.args.n (passes c).size)
@@ -26,7 +26,7 @@ modify_block-requires c =
     let l = c in
     let e = l in
     let a = e.args in
-    bypass_block a.accumulate a.rotate a.n a.bit_depth a.extended_precision a.levels.now a.out.now (passes (goal.at.modify_block-requires c).In_ok-bypass_checked) l.copy_levels.ensures
+    bypass_block a.accumulate a.rotate a.n a.precision.bit_depth a.precision.extended a.levels.now a.out.now (passes (goal.at.modify_block-requires c).In_ok-bypass_checked) l.copy_levels.ensures
 
 pub returns : goal.returns
 returns c =
@@ -34,7 +34,7 @@ returns c =
     let l = m in
     let e = l in
     let a = e.args in
-    bypass_modified a.accumulate a.rotate a.n a.bit_depth a.extended_precision a.levels.now a.out.now (passes (goal.at.returns c).In_ok-bypass_checked) l.copy_levels.ensures m.modify_block.ensures
+    bypass_modified a.accumulate a.rotate a.n a.precision.bit_depth a.precision.extended a.levels.now a.out.now (passes (goal.at.returns c).In_ok-bypass_checked) l.copy_levels.ensures m.modify_block.ensures
 
 pub returns-in_err-bypass_checked : goal.returns-in_err-bypass_checked
 returns-in_err-bypass_checked c =
@@ -42,5 +42,5 @@ returns-in_err-bypass_checked c =
     let a = k.args in
     let told : c.from_residual.result ≡ Err c.in_err-bypass_checked.field-0.0 = search rules in
     rw told
-    (bypass_refused a.accumulate a.rotate a.n a.bit_depth a.extended_precision a.levels.now a.out.now c.in_err-bypass_checked.field-0.0
+    (bypass_refused a.accumulate a.rotate a.n a.precision.bit_depth a.precision.extended a.levels.now a.out.now c.in_err-bypass_checked.field-0.0
     (sym (ap answer c.in_err-bypass_checked.was) ∙ k.bypass_checked.ensures))

@@ -1,9 +1,6 @@
--- `coefficients::rows::rows_used` meets its contract: the rows passed, from the last one up, are zero. The measure is the rows left.
+-- `coefficients::rows::rows_used` meets its contract: the rows passed, from the last one up, are zero.
 use Rattle.coefficients.specs.Rows.{RowsUsed}
 use Rattle.coefficients.proofs.rows.rows_used.Given as goal
 
 abbrev pub invariant-loop-k : goal.invariant-loop-k
 invariant-loop-k l = RowsUsed l.coeff l.n l.nx l.k
-
-abbrev pub decreases-loop-k : goal.decreases-loop-k
-decreases-loop-k l = l.k

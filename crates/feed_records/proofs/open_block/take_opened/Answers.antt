@@ -28,6 +28,6 @@ overflow_mul-n-2 c = omega (arith, size_square c.args.n c.requires.accepted.0.si
 pub returns : goal.returns
 returns c =
     let a = c.args in
-    rw (c.moved.ensures, c.with_open.ensures)
+    rw c.with_open.ensures
     (opened_takes a.s a.p a.kind a.n a.body.now (lent a.levels.now a.coeff.now a.inter.now a.residual.now) c.open_body-opened.result _ _ _ _ c.saturating_add.result
     c.requires.accepted.0 c.requires.accepted.1 c.open_body-opened.ensures c.saturating_add.ensures c.put_rows-end.ensures)

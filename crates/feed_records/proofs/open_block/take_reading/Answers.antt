@@ -6,26 +6,35 @@ use native.Mathlib.Omega.{arith}
 use lib.Dec.{T}
 use Rattle.h265.specs.Range.{is_size}
 use Rattle.h265.proofs.RangeLaws.{size_square}
+use Rattle.refusal.specs.declared.Refusal.TheVariants.{SizeInvalid, BlockMissing}
 use Rattle.refusal.specs.Condition.{size_refused}
 use Rattle.refusal.proofs.ConditionLaws.{size_accepted}
 use Rattle.feed_state.specs.Buffers.{lent}
-use Rattle.feed_state.proofs.StateLaws.{quiet_takes}
+use Rattle.feed_state.proofs.StateLaws.{refused_takes}
 use Rattle.feed_records.proofs.HeldLaws.{reading-closed, reading_sized, reading_takes}
 use Rattle.feed_records.proofs.open_block.take_reading.Goals as goal
 use Rattle.feed_records.proofs.open_block.take_reading.Goals.{Else-size_refused, Start}
 
+fits : (c : Start) → c.args.s.blocks ≤ 18446744073709551615
+fits c = omega arith
+
+fits_offset : (c : Start) → c.args.s.offset ≤ 18446744073709551615
+fits_offset c = omega arith
+
 pub returns-in_default : goal.returns-in_default
 returns-in_default c =
     let e = c.args.residual.now in
-    record { leaves = λ ls d g. rw (reading-closed c.args.s (lent ls d g e) c.in_default.is) (quiet_takes _ _ (c.kept.ensures.leaves (lent ls d g e))) }
+    let k = (goal.at.returns-in_default c).Start in
+    record { leaves = λ ls d g. rw (reading-closed c.args.s (lent ls d g e) c.in_default.is) (refused_takes c.args.s BlockMissing _ _ (lent ls d g e) _ (fits k) (fits_offset k)) }
 
 pub returns-then-size_refused : goal.returns-then-size_refused
 returns-then-size_refused c =
     let e = c.args.residual.now in
+    let k = (goal.at.returns-then-size_refused c).Start in
     record {
       leaves = λ ls d g.
           rw (reading_sized c.args.s (lent ls d g e) c.in-Some.held c.in-Some.is (sym c.size_refused.ensures ∙ c.if-size_refused.true))
-          (quiet_takes _ _ (c.kept-then-size_refused.ensures.leaves (lent ls d g e)));
+          (refused_takes c.args.s SizeInvalid _ _ (lent ls d g e) _ (fits k) (fits_offset k));
     }
 
 sized : (c : Else-size_refused) → size_refused c.in-Some.held.size ≡ false
@@ -41,13 +50,10 @@ pub put_reading-end-requires : goal.put_reading-end-requires
 put_reading-end-requires c =
     (known (goal.at.put_reading-end-requires c).Else-size_refused, omega (arith, few (goal.at.put_reading-end-requires c).Else-size_refused, c.requires.in_bounds), omega (arith, few (goal.at.put_reading-end-requires c).Else-size_refused, c.requires.text_room_in_bounds))
 
-fits : (c : Start) → c.args.s.blocks ≤ 18446744073709551615
-fits c = omega arith
-
 pub returns : goal.returns
 returns c =
     let e = c.args.residual.now in
-    rw (c.moved.ensures, c.with_open.ensures)
+    rw c.with_open.ensures
     (record {
       leaves = λ ls d g.
           reading_takes c.args.s (lent ls d g e) c.in-Some.held c.in-Some.is (sized (goal.at.returns c).Else-size_refused) (fits (goal.at.returns c).Start)

@@ -1,14 +1,23 @@
 -- `feed_records::records::take_block` meets its contract: depth, then the DST's size are refused; else an arm for each mode.
 use mathlib.Core.Path.{◌≡◌, sym, ◌∙◌}
 use mathlib.Core.Bool.{false}
+use Prim.Native.Nat.{◌≤◌}
+use native.Mathlib.Omega.{arith}
 use Rattle.refusal.specs.Condition.{depth_refused}
+use Rattle.refusal.specs.declared.Refusal.TheVariants.{DepthInvalid, DstSizeInvalid}
 use Rattle.feed_format.specs.Format.{dst_refused}
 use Rattle.feed_rules.specs.Record.{levels_by}
-use Rattle.feed_state.proofs.StateLaws.{quiet_takes}
+use Rattle.feed_state.proofs.StateLaws.{refused_takes}
 use Rattle.feed_records.proofs.records.take_block.Goals as goal
-use Rattle.feed_records.proofs.records.take_block.Goals.{Else-depth_refused, Else-dst_refused}
+use Rattle.feed_records.proofs.records.take_block.Goals.{Start, Else-depth_refused, Else-dst_refused}
 
-depth_ok : (c : Else-depth_refused) → depth_refused c.args.p.bit_depth ≡ false
+fits : (c : Start) → c.args.s.blocks ≤ 18446744073709551615
+fits c = omega arith
+
+fits_offset : (c : Start) → c.args.s.offset ≤ 18446744073709551615
+fits_offset c = omega arith
+
+depth_ok : (c : Else-depth_refused) → depth_refused c.args.p.precision.bit_depth ≡ false
 depth_ok c = sym c.depth_refused.ensures ∙ c.if-depth_refused.false
 
 dst_ok : (c : Else-dst_refused) → let a = c.args in dst_refused a.p.mode a.n ≡ false
@@ -16,12 +25,15 @@ dst_ok c = sym c.dst_refused.ensures ∙ c.if-dst_refused.false
 
 pub returns-then-depth_refused : goal.returns-then-depth_refused
 unfolding levels_by
-returns-then-depth_refused c = rw (sym c.depth_refused.ensures ∙ c.if-depth_refused.true) (quiet_takes _ _ (c.kept.ensures.leaves _))
+returns-then-depth_refused c =
+    let k = (goal.at.returns-then-depth_refused c).Start in
+    rw (sym c.depth_refused.ensures ∙ c.if-depth_refused.true) (refused_takes c.args.s DepthInvalid _ _ _ _ (fits k) (fits_offset k))
 
 pub returns-then-dst_refused : goal.returns-then-dst_refused
 unfolding levels_by
 returns-then-dst_refused c =
-    rw (depth_ok (goal.at.returns-then-dst_refused c).Else-depth_refused, sym c.dst_refused.ensures ∙ c.if-dst_refused.true) (quiet_takes _ _ (c.kept-then-dst_refused.ensures.leaves _))
+    let k = goal.at.returns-then-dst_refused c in
+    rw (depth_ok k.Else-depth_refused, sym c.dst_refused.ensures ∙ c.if-dst_refused.true) (refused_takes c.args.s DstSizeInvalid _ _ _ _ (fits k.Start) (fits_offset k.Start))
 
 pub take_opened-requires : goal.take_opened-requires
 take_opened-requires c =

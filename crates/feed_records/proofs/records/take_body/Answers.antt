@@ -51,7 +51,3 @@ returns-in-Edit c = rw c.in-Edit.is (quiet_takes _ _ c.take_edit.ensures)
 pub returns-in-Reading : goal.returns-in-Reading
 unfolding body_effect
 returns-in-Reading c = rw c.in-Reading.is (c.take_reading.ensures.leaves _ _ _)
-
-pub returns-in-Unknown : goal.returns-in-Unknown
-unfolding body_effect
-returns-in-Unknown c = rw c.in-Unknown.is (quiet_takes _ _ (c.kept.ensures.leaves _))

@@ -16,5 +16,4 @@ put_rows-end-requires c = (c.requires.accepted.0.size, omega (arith, size_square
 
 pub returns : goal.returns
 returns c =
-    rw c.moved.ensures
-    (skipped_takes c.args.s _ c.args.p c.args.n c.args.body.now _ _ _ c.requires.accepted.0 c.requires.accepted.1 c.skip_body-limited.ensures c.with_closed.ensures c.put_rows-end.ensures)
+    skipped_takes c.args.s _ c.args.p c.args.n c.args.body.now _ _ _ c.requires.accepted.0 c.requires.accepted.1 c.skip_body-limited.ensures c.with_closed.ensures c.put_rows-end.ensures

@@ -13,4 +13,4 @@ fits c = omega arith
 pub returns : goal.returns
 unfolding no_list_effect
 returns c =
-    record { leaves = λ w. rw c.moved.ensures (quiet_moved c.args.s _ w _ c.args.at (fits (goal.at.returns c).Start) c.behind.ensures refl) }
+    record { leaves = λ w. quiet_moved c.args.s _ w _ c.args.at (fits (goal.at.returns c).Start) c.behind.ensures refl }

@@ -8,9 +8,9 @@ use mir.Syntax.{w32}
 use mir.Val.{SFits, to_z, of_z}
 use Rattle.integers.proofs.MachineLaws.{round_trip}
 use Rattle.integers.proofs.ListsLaws.{stored_none, stored_more, stored_all}
-use Rattle.h265.specs.ScalingFactor.ScalingList.{listed}
 use Rattle.h265.proofs.RangeLaws.{size_square}
 use Rattle.level_search.specs.Work.{scaling_by}
+use Rattle.scaling_values.specs.Given.{list_of}
 use Rattle.level_edits.proofs.block.scale.Goals as goal
 use Rattle.level_edits.proofs.block.scale.Goals.{After-scaled_value-x}
 
@@ -27,7 +27,7 @@ pub bounds-levels-i : goal.bounds-levels-i
 bounds-levels-i c = omega (arith, c.requires.2)
 
 pub factor_at-requires : goal.factor_at-requires
-factor_at-requires c = (c.requires.1, omega arith)
+factor_at-requires c = record { whole_list = c.requires.1; index_bound = omega arith }
 
 pub scaled_value-x-requires : goal.scaled_value-x-requires
 scaled_value-x-requires c = c.requires.0.manageable
@@ -41,7 +41,7 @@ bounds-out-i c = omega (arith, size_square c.args.n c.requires.1.size)
 value_is : (c : After-scaled_value-x)
     → let l = c in
     let a = l.args in
-    to_z w32 (of_z w32 c.scaled_value-x.result) ≡ scaling_by a.by (listed a.list.now a.dc) a.n l.loop-i.i (get_or a.levels.now l.loop-i.i (pos 0))
+    to_z w32 (of_z w32 c.scaled_value-x.result) ≡ scaling_by a.by (list_of a.list) a.n l.loop-i.i (get_or a.levels.now l.loop-i.i (pos 0))
 unfolding scaling_by
 value_is c =
     let m = c in

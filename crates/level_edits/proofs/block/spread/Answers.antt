@@ -9,10 +9,10 @@ use mir.Syntax.{w32}
 use mir.Val.{SFits}
 use Rattle.integers.proofs.MachineLaws.{round_trip}
 use Rattle.integers.proofs.ListsLaws.{stored_none, stored_more, stored_length, stored_all}
-use Rattle.h265.specs.ScalingFactor.ScalingList.{listed}
 use Rattle.h265.proofs.RangeLaws.{size_square}
 use Rattle.level_search.specs.Work.{scaling_by}
 use Rattle.level_edits.specs.Work.{LevelSpan}
+use Rattle.scaling_values.specs.Given.{list_of}
 use Rattle.level_edits.proofs.PlaceLaws.{span_least_is, span_most_is}
 use Rattle.level_edits.proofs.block.spread.Goals as goal
 use Rattle.level_edits.proofs.block.spread.Goals.{After-level_span-span, In-loop-i}
@@ -27,7 +27,7 @@ at_most : (c : In-loop-i) → c.loop-i.i < 1024
 at_most c = omega (arith, size_square c.args.n c.requires.1.size)
 
 pub factor_at-m-requires : goal.factor_at-m-requires
-factor_at-m-requires c = (c.requires.1, omega arith)
+factor_at-m-requires c = record { whole_list = c.requires.1; index_bound = omega arith }
 
 pub offset_bounds-low-i : goal.offset_bounds-low-i
 offset_bounds-low-i c = omega (arith, at_most (goal.at.offset_bounds-low-i c).In-loop-i)
@@ -66,7 +66,7 @@ bounds-most-i c = omega (arith, stored_length c.loop-i.invariant.3, c.requires.4
 found : (c : After-level_span-span)
     → let l = c in
     let a = l.args in
-    LevelSpan (scaling_by a.by (listed a.list.now a.dc) a.n l.loop-i.i) a.range (get_or a.low.now l.loop-i.i (pos 0)) (get_or a.high.now l.loop-i.i (pos 0)) c.level_span-span.result
+    LevelSpan (scaling_by a.by (list_of a.list) a.n l.loop-i.i) a.range (get_or a.low.now l.loop-i.i (pos 0)) (get_or a.high.now l.loop-i.i (pos 0)) c.level_span-span.result
 unfolding scaling_by
 found c =
     let h = c in

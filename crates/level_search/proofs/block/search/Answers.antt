@@ -11,7 +11,7 @@ use mir.Val.{SFits}
 use Rattle.integers.proofs.MachineLaws.{round_trip}
 use Rattle.integers.proofs.ListsLaws.{stored_none, stored_more, stored_length, stored_all}
 use Rattle.integers.proofs.SearchLaws.{none_zero, none_suc, first_where-none, first_where_found}
-use Rattle.h265.specs.ScalingFactor.ScalingList.{listed}
+use Rattle.scaling_values.specs.Given.{list_of}
 use Rattle.h265.proofs.RangeLaws.{size_square}
 use Rattle.level_search.specs.Work.{scaling_by, nearest_at, misses_at, first_miss}
 use Rattle.level_search.proofs.block.search.Goals as goal
@@ -47,13 +47,13 @@ read_fits c = record { sfits = c.nearest-arg-1.given }
 
 level_is : (c : After-nearest-level)
     → let l = c in let a = l.args in
-    c.nearest-level.result ≡ nearest_at a.by (listed a.list.now a.dc) a.n a.coeff.now l.loop-i.i
+    c.nearest-level.result ≡ nearest_at a.by (list_of a.list) a.n a.coeff.now l.loop-i.i
 unfolding nearest_at scaling_by
 level_is c = rw (round_trip (read_fits (goal.at.After-nearest-level c).After-nearest-arg-1), c.factor_at-m.ensures) at c.nearest-level.ensures
 
 miss_is : (c : After-scales_to)
     → let l = c in let a = l.args in
-    not c.scales_to.result ≡ misses_at a.by (listed a.list.now a.dc) a.n a.coeff.now l.loop-i.i
+    not c.scales_to.result ≡ misses_at a.by (list_of a.list) a.n a.coeff.now l.loop-i.i
 unfolding misses_at scaling_by
 miss_is c =
     let d = c in

@@ -14,7 +14,7 @@ use Rattle.picture.specs.Samples.{sample_max, first_above}
 use Rattle.picture.specs.Rebuild.{put}
 use Rattle.picture.proofs.RebuildLaws.{rebuilds_left, rebuilds_put, Checked, rebuilt_size, rebuilt_depth, rebuilt-residual, rebuilt_prediction, rebuilt_picture, rebuilt-block, rebuilt_sample_lem, rebuilt_done, checked-inside, above_none}
 use Rattle.picture.proofs.rebuild.rebuild_block.Goals as goal
-use Rattle.picture.proofs.rebuild.rebuild_block.Goals.{After-first_above-first, After-sample_max, Else-block_outside, Else-depth_refused, Else-picture_refused, Else-prediction-n, Else-residual-n, Else-size_refused}
+use Rattle.picture.proofs.rebuild.rebuild_block.Goals.{After-first_above-first, After-sample_max, Else-block_outside, Else-depth_refused, Else-refused, Else-prediction-n, Else-residual-n, Else-size_refused}
 
 -- ---- what has been passed at each place
 size_ok : (c : Else-size_refused) → size_refused c.args.n ≡ false
@@ -31,12 +31,12 @@ prediction_ok : (c : Else-prediction-n) → let a = c.args in block_refused a.n 
 unfolding block_refused
 prediction_ok c = le-ltb _ _ c.if-prediction-n.false
 
-picture_ok : (c : Else-picture_refused)
-    → let a = c.args in picture_refused a.width a.height a.stride (length a.plane.now) ≡ false
-picture_ok c = sym c.picture_refused.ensures ∙ c.if-picture_refused.false
+picture_ok : (c : Else-refused)
+    → let a = c.args in picture_refused a.extent.width a.extent.height a.extent.stride (length a.plane.now) ≡ false
+picture_ok c = sym c.refused.ensures ∙ c.if-refused.false
 
 checked : (c : Else-block_outside)
-    → let a = c.args in Checked a.n a.bit_depth (length a.residual.now) (length a.prediction.now) a.width a.height a.stride a.x a.y (length a.plane.now)
+    → let a = c.args in Checked a.n a.bit_depth (length a.residual.now) (length a.prediction.now) a.extent.width a.extent.height a.extent.stride a.x a.y (length a.plane.now)
 checked c =
     let p = c in
     let i = p in
@@ -46,7 +46,7 @@ checked c =
       depth = depth_ok (goal.at.sample_max-requires c).Else-depth_refused;
       residual = residual_ok (goal.at.sample_max-requires c).Else-residual-n;
       prediction = prediction_ok (goal.at.sample_max-requires c).Else-prediction-n;
-      picture = picture_ok (goal.at.sample_max-requires c).Else-picture_refused;
+      picture = picture_ok (goal.at.sample_max-requires c).Else-refused;
       block = sym c.block_outside.ensures ∙ c.if-block_outside.false;
     }
 
@@ -77,18 +77,18 @@ returns-then-prediction-n c =
     let d = c in
     rebuilds_left InputTooShort (rebuilt_prediction _ _ _ _ _ _ _ _ _ _ (size_ok (goal.at.returns-then-prediction-n c).Else-size_refused) (depth_ok (goal.at.returns-then-prediction-n c).Else-depth_refused) (le-ltb _ _ c.if-residual-n.false) (lt-ltb _ _ c.if-prediction-n.true))
 
-pub returns-then-picture_refused : goal.returns-then-picture_refused
-returns-then-picture_refused c =
+pub returns-then-refused : goal.returns-then-refused
+returns-then-refused c =
     let i = c in
     let d = i in
-    rebuilds_left PictureInvalid (rebuilt_picture _ _ _ _ _ _ _ _ _ _ (size_ok (goal.at.returns-then-picture_refused c).Else-size_refused) (depth_ok (goal.at.returns-then-picture_refused c).Else-depth_refused) (residual_ok (goal.at.returns-then-picture_refused c).Else-residual-n) (prediction_ok (goal.at.returns-then-picture_refused c).Else-prediction-n) (sym c.picture_refused.ensures ∙ c.if-picture_refused.true))
+    rebuilds_left PictureInvalid (rebuilt_picture _ _ _ _ _ _ _ _ _ _ (size_ok (goal.at.returns-then-refused c).Else-size_refused) (depth_ok (goal.at.returns-then-refused c).Else-depth_refused) (residual_ok (goal.at.returns-then-refused c).Else-residual-n) (prediction_ok (goal.at.returns-then-refused c).Else-prediction-n) (sym c.refused.ensures ∙ c.if-refused.true))
 
 pub returns-then-block_outside : goal.returns-then-block_outside
 returns-then-block_outside c =
     let p = c in
     let i = p in
     let d = i in
-    rebuilds_left PictureInvalid (rebuilt-block _ _ _ _ _ _ _ _ _ _ (size_ok (goal.at.returns-then-block_outside c).Else-size_refused) (depth_ok (goal.at.returns-then-block_outside c).Else-depth_refused) (residual_ok (goal.at.returns-then-block_outside c).Else-residual-n) (prediction_ok (goal.at.returns-then-block_outside c).Else-prediction-n) (picture_ok (goal.at.returns-then-block_outside c).Else-picture_refused) (sym c.block_outside.ensures ∙ c.if-block_outside.true))
+    rebuilds_left PictureInvalid (rebuilt-block _ _ _ _ _ _ _ _ _ _ (size_ok (goal.at.returns-then-block_outside c).Else-size_refused) (depth_ok (goal.at.returns-then-block_outside c).Else-depth_refused) (residual_ok (goal.at.returns-then-block_outside c).Else-residual-n) (prediction_ok (goal.at.returns-then-block_outside c).Else-prediction-n) (picture_ok (goal.at.returns-then-block_outside c).Else-refused) (sym c.block_outside.ensures ∙ c.if-block_outside.true))
 
 pub sample_max-requires : goal.sample_max-requires
 sample_max-requires c = (checked-inside (checked c)).depth

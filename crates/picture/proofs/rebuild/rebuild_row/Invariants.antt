@@ -1,5 +1,5 @@
 -- `picture::rebuild::rebuild_row` meets its contract. The loop's invariant: c samples of the row are put, and the others are as lent.
-use Prim.Native.Nat.{◌+◌, ◌-◌, ◌≤◌}
+use Prim.Native.Nat.{◌+◌, ◌≤◌}
 use Rattle.picture.specs.Samples.{rebuilt_at}
 use Rattle.picture.specs.Rebuild.{Placed}
 use Rattle.picture.proofs.rebuild.rebuild_row.Given as goal

@@ -21,7 +21,7 @@ row_below first k n m h =
 block_row : (k n : ℕ) → k < n → k * n + n ≤ n * n
 block_row k n h = omega (arith, mul-le-mul_right n h, suc-mul k n)
 
-small : (s : Start) → (s.args.y + s.args.n) * s.args.stride ≤ 16384 * 65536
+small : (s : Start) → (s.args.y + s.args.n) * s.args.extent.stride ≤ 16384 * 65536
 small s = mul-le-mul s.requires.inside.low s.requires.inside.narrow
 
 pub sample_max-top-requires : goal.sample_max-top-requires
@@ -43,12 +43,12 @@ overflow_add-y c = let s = c in omega (arith, s.requires.inside.low)
 pub overflow_mul-y : goal.overflow_mul-y
 overflow_mul-y c =
     let s = c in
-    omega (arith, small (goal.at.overflow_mul-y c).Start, row_below s.args.y c.loop-k.k s.args.n s.args.stride c.loop-k-test.true)
+    omega (arith, small (goal.at.overflow_mul-y c).Start, row_below s.args.y c.loop-k.k s.args.n s.args.extent.stride c.loop-k-test.true)
 
 pub overflow_add-y-in-loop-k : goal.overflow_add-y-in-loop-k
 overflow_add-y-in-loop-k c =
     let s = c in
-    omega (arith, small (goal.at.overflow_add-y-in-loop-k c).Start, s.requires.inside.columns, row_below s.args.y c.loop-k.k s.args.n s.args.stride c.loop-k-test.true)
+    omega (arith, small (goal.at.overflow_add-y-in-loop-k c).Start, s.requires.inside.columns, row_below s.args.y c.loop-k.k s.args.n s.args.extent.stride c.loop-k-test.true)
 
 -- the largest sample, in the code's variable
 top_is : (c : At-loop-k) → c.sample_max-top.result ≡ sample_max c.args.bit_depth
@@ -64,7 +64,7 @@ rebuild_row-requires c =
       n_in_bounds = (
         omega (arith, row, s.requires.inside.residual),
         omega (arith, row, s.requires.inside.prediction),
-        omega (arith, l.loop-k.invariant.0.same, s.requires.inside.rows, s.requires.inside.columns, row_below s.args.y l.loop-k.k s.args.n s.args.stride i.loop-k-test.true),
+        omega (arith, l.loop-k.invariant.0.same, s.requires.inside.rows, s.requires.inside.columns, row_below s.args.y l.loop-k.k s.args.n s.args.extent.stride i.loop-k-test.true),
       );
       below = subst (λ (t : ℕ). Below t (l.loop-k.k * s.args.n + s.args.n) s.args.prediction.now) (sym (top_is (goal.at.rebuild_row-requires c).At-loop-k)) (below_some _ row s.requires.below);
     }
@@ -85,5 +85,5 @@ returns c =
     let a = l.args in
     let f = rebuilt_at l.sample_max-top.result a.residual.now a.prediction.now in
     let whole : l.loop-k.k ≡ a.n = omega arith in
-    rows_all (subst (λ (k : ℕ). Rows k a.n a.stride a.x a.y f a.plane.now l.loop-k.plane) whole l.loop-k.invariant.0)
-    ∙ ap (λ (t : ℕ). tabulate (length a.plane.now) (placed_at a.n a.n a.stride a.x a.y (rebuilt_at t a.residual.now a.prediction.now) a.plane.now)) (top_is (goal.at.returns c).At-loop-k)
+    rows_all (subst (λ (k : ℕ). Rows k a.n a.extent.stride a.x a.y f a.plane.now l.loop-k.plane) whole l.loop-k.invariant.0)
+    ∙ ap (λ (t : ℕ). tabulate (length a.plane.now) (placed_at a.n a.n a.extent.stride a.x a.y (rebuilt_at t a.residual.now a.prediction.now) a.plane.now)) (top_is (goal.at.returns c).At-loop-k)

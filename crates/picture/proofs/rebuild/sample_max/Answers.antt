@@ -3,18 +3,12 @@ use mathlib.Core.Path.{◌≡◌, ap}
 use Prim.Native.Nat.{ℕ, ◌-◌, ◌*◌, ◌%◌, ◌^◌, ◌≤◌}
 use native.Mathlib.Nat.{one-mul, mod-eq_of_lt}
 use native.Mathlib.Omega.{arith}
-use lib.Pow.{pow_pos, pow_mono}
+use lib.Pow.{pow_mono}
 use Rattle.picture.specs.Samples.{sample_max}
 use Rattle.picture.proofs.rebuild.sample_max.Goals as goal
 
 power_is : (b : ℕ) → b ≤ 16 → (1 * 2 ^ b) % 4294967296 ≡ 2 ^ b
 power_is b h = rw (one-mul (2 ^ b)) (mod-eq_of_lt (omega (arith, pow_mono h)))
-
-pub overflow_sub-result : goal.overflow_sub-result
-overflow_sub-result c = omega (arith, power_is c.args.bit_depth c.requires, pow_pos c.args.bit_depth)
-
-pub overflow_cast-result-2 : goal.overflow_cast-result-2
-overflow_cast-result-2 c = record { fits = omega (arith, power_is c.args.bit_depth c.requires, pow_mono c.requires) }
 
 pub returns : goal.returns
 unfolding sample_max

@@ -1,5 +1,5 @@
 -- `picture::refuse::all_below` meets its contract. The loop's invariant: the bits gathered reach every sample passed.
-use Prim.Native.Nat.{◌-◌, ◌≤◌}
+use Prim.Native.Nat.{◌≤◌}
 use Rattle.picture.specs.Rebuild.{Below}
 use Rattle.picture.proofs.refuse.all_below.Given as goal
 

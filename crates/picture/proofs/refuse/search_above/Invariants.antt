@@ -1,5 +1,5 @@
 -- `picture::refuse::search_above` meets its contract. The loop's invariant: no sample before i is above the largest.
-use Prim.Native.Nat.{◌-◌, ◌≤◌}
+use Prim.Native.Nat.{◌≤◌}
 use lib.Dec.{ltb}
 use lib.ListN.{get_or}
 use Rattle.integers.proofs.SearchLaws.{None}

@@ -8,16 +8,17 @@ use lib.ListN.{length}
 use Rattle.text.specs.Text.{Wrote}
 use Rattle.text.proofs.WroteLaws.{left_last, left_done, counts}
 use Rattle.feed_state.specs.Buffers.{Lent, lent}
+use Rattle.feed.specs.Answers.{state_after, end_after}
 use Rattle.feed_history.proofs.WalkLaws.{walk_text, going_start, going_room, Turn, turn, going_more, going_done}
 use Rattle.scale_trace_rules.specs.Trace.{trace_text, listing_room}
 use Rattle.scale_trace.proofs.RunLaws.{listing_walk, Answered, traces_full, listing_refused, listing_passed, listing_follows}
 use Rattle.feed.proofs.LocalLaws.{Full, full, full_ample}
 use Rattle.scale_trace.proofs.stream.run_within.Goals as goal
-use Rattle.scale_trace.proofs.stream.run_within.Goals.{After-take_record-taken, Start}
+use Rattle.scale_trace.proofs.stream.run_within.Goals.{After-take_record, Start}
 
 -- the listing in buffers is the history's
-told : (v : Lent) (input l m : List ℕ) (end : ℕ) → Full v → Wrote l 0 (walk_text listing_walk v input) m end → Wrote l 0 (trace_text input) m end
-told v input l m end f w = subst (λ (t : List ℕ). Wrote l 0 t m end) (listing_follows v input (full_ample v f)) w
+text_told : (v : Lent) (input l m : List ℕ) (end : ℕ) → Full v → Wrote l 0 (walk_text listing_walk v input) m end → Wrote l 0 (trace_text input) m end
+text_told v input l m end f w = subst (λ (t : List ℕ). Wrote l 0 t m end) (listing_follows v input (full_ample v f)) w
 
 pub loop-state-init : goal.loop-state-init
 unfolding listing_room
@@ -54,61 +55,67 @@ slice_bounds-take_record-end-in-loop-state-3 c = sym c.loop-state.invariant.1.in
 pub slice_bounds-take_record-end-in-loop-state-4 : goal.slice_bounds-take_record-end-in-loop-state-4
 slice_bounds-take_record-end-in-loop-state-4 c = sym c.loop-state.invariant.1.res
 
-pub take_record-taken-requires : goal.take_record-taken-requires
-take_record-taken-requires c =
+pub take_record-requires : goal.take_record-requires
+take_record-requires c =
     let l = c.loop-state in
     let g = l.invariant.0 in
     omega (arith, going_room g c.loop-state-test.true, g.left.long)
 
-abbrev lent-after : After-take_record-taken → Lent
-lent-after c = lent c.take_record-taken.new.levels c.take_record-taken.new.coeff c.take_record-taken.new.inter c.take_record-taken.new.residual
+abbrev lent-after : After-take_record → Lent
+lent-after c = lent c.take_record.new.levels c.take_record.new.coeff c.take_record.new.inter c.take_record.new.residual
 
-full_after : (c : After-take_record-taken) → Full (lent-after c)
+full_after : (c : After-take_record) → Full (lent-after c)
 full_after c =
     let f = c.loop-state.invariant.1 in
-    let k = c.take_record-taken.auto in
+    let k = c.take_record.auto in
     record { levels = k.levels ∙ f.levels; coeff = k.coeff ∙ f.coeff; inter = k.inter ∙ f.inter; res = k.residual ∙ f.res }
 
-input_fits : (c : After-take_record-taken) → length c.args.input.now ≤ 18446744073709551615
+input_fits : (c : After-take_record) → length c.args.input.now ≤ 18446744073709551615
 input_fits c = omega arith
 
 -- what the record at the loop's offset did
-turned : (c : After-take_record-taken)
-    → let l = c.loop-state in let r = c.take_record-taken.result in
-    Turn listing_walk (Answered r.answer) c.args.input.now l.state (lent l.levels l.coeff l.inter l.residual) r.state (lent-after c) l.out l.end c.take_record-taken.new.out r.end
+turned : (c : After-take_record)
+    → let l = c.loop-state in let r = c.take_record.result in
+    Turn listing_walk (Answered r) c.args.input.now l.state (lent l.levels l.coeff l.inter l.residual) (state_after l.state r) (lent-after c) l.out l.end c.take_record.new.out (end_after l.end r)
 turned c =
     let l = c.loop-state in
-    let k = traces_full _ _ _ (full_ample _ l.invariant.1) c.take_record-taken.ensures in
+    let k = traces_full _ _ _ (full_ample _ l.invariant.1) c.take_record.ensures in
     turn listing_walk _ _ l.state _ c.record_length.result c.min-stop.result (input_fits c) c.loop-state-test.true c.record_length.ensures.value c.min-stop.ensures (record { is = k.answered }) k.state k.text (full_ample _ (full_after c))
 
 -- the buffer behind a record has room for a line
-room_behind : (c : After-take_record-taken) → c.take_record-taken.result.end + 40 ≤ length c.take_record-taken.new.out
+room_behind : (c : After-take_record) → end_after c.loop-state.end c.take_record.result + 40 ≤ length c.take_record.new.out
 room_behind c =
     let g = c.loop-state.invariant.0 in
-    omega (arith, (turned c).text.bound, going_room g c.loop-state-test.true, g.left.long, c.take_record-taken.auto.out)
+    omega (arith, (turned c).text.bound, going_room g c.loop-state-test.true, g.left.long, c.take_record.auto.out)
 
 pub put_refusal-requires : goal.put_refusal-requires
-put_refusal-requires c = room_behind (goal.at.put_refusal-requires c).After-take_record-taken
+put_refusal-requires c = rw c.in-Err.is at (room_behind (goal.at.put_refusal-requires c).After-take_record)
 
 pub shape_of-out-in-Err : goal.shape_of-out-in-Err
-shape_of-out-in-Err c = c.put_refusal.auto.out ∙ c.take_record-taken.auto.out ∙ c.loop-state.invariant.0.left.long
+shape_of-out-in-Err c = c.put_refusal.auto.out ∙ c.take_record.auto.out ∙ c.loop-state.invariant.0.left.long
 
 pub returns-in-Err : goal.returns-in-Err
 returns-in-Err c =
     let l = c.loop-state in
-    let f = c.put_refusal in (
-      told _ _ _ _ _ l.invariant.2 (left_last (listing_refused l.invariant.0 (turned (goal.at.returns-in-Err c).After-take_record-taken) _ c.in-Err.is) f.ensures.wrote),
-      counts _ _ (omega (arith, f.ensures.bound, f.auto.out, room_behind (goal.at.returns-in-Err c).After-take_record-taken)),
+    let f = c.put_refusal in
+    let k = (goal.at.returns-in-Err c).After-take_record in
+    let turn = rw c.in-Err.is at (turned k) in
+    let room = rw c.in-Err.is at (room_behind k) in (
+      text_told _ _ _ _ _ l.invariant.2 (left_last (listing_refused l.invariant.0 turn _ refl) f.ensures.wrote),
+      counts _ _ (omega (arith, f.ensures.bound, f.auto.out, room)),
     )
 
 pub loop-state-smaller : goal.loop-state-smaller
 loop-state-smaller c =
-    omega (arith, (turned (goal.at.loop-state-smaller c).After-take_record-taken).inside, (listing_passed c.loop-state.invariant.0 (turned (goal.at.loop-state-smaller c).After-take_record-taken) c.in_default.is).next)
+    let turn = rw c.in-Ok.is at (turned (goal.at.loop-state-smaller c).After-take_record) in
+    omega (arith, turn.inside, (listing_passed c.loop-state.invariant.0 turn _ refl).next)
 
 pub loop-state-preserved : goal.loop-state-preserved
 loop-state-preserved c =
     let l = c.loop-state in
-    (going_more l.invariant.0 (turned (goal.at.loop-state-preserved c).After-take_record-taken) (listing_passed l.invariant.0 (turned (goal.at.loop-state-preserved c).After-take_record-taken) c.in_default.is), full_after (goal.at.loop-state-preserved c).After-take_record-taken, l.invariant.2)
+    let k = (goal.at.loop-state-preserved c).After-take_record in
+    let turn = rw c.in-Ok.is at (turned k) in
+    (going_more l.invariant.0 turn (listing_passed l.invariant.0 turn _ refl), full_after k, l.invariant.2)
 
 pub shape_of-out : goal.shape_of-out
 shape_of-out c = c.loop-state.invariant.0.left.long
@@ -117,4 +124,4 @@ pub returns : goal.returns
 returns c =
     let l = c.loop-state in
     let g = l.invariant.0 in
-    (told _ _ _ _ _ l.invariant.2 (left_done (going_done g c.loop-state-test.false)), counts _ _ (omega (arith, g.left.long, g.room)))
+    (text_told _ _ _ _ _ l.invariant.2 (left_done (going_done g c.loop-state-test.false)), counts _ _ (omega (arith, g.left.long, g.room)))

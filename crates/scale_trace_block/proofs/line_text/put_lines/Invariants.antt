@@ -6,8 +6,5 @@ use Rattle.scale_trace_rules.specs.Block.{lines_from, block_lines}
 use Rattle.scale_trace_block.proofs.line_text.put_lines.Given as goal
 
 abbrev pub invariant-loop-i : goal.invariant-loop-i
-invariant-loop-i l = (l.i ≤ l.n * l.n) × (l.end ≤ l.at + 20 * l.i)
+invariant-loop-i l = (l.end ≤ l.at + 20 * l.i)
     × Left l.initial.out l.at (block_lines (list_in l.list) l.mode l.n) l.out l.end (lines_from (list_in l.list) l.mode l.n l.i (l.n * l.n - l.i))
-
-abbrev pub decreases-loop-i : goal.decreases-loop-i
-decreases-loop-i l = l.n * l.n - l.i

@@ -1,25 +1,14 @@
--- `scale_trace_block::room::list_room` meets its contract: an arm for each kind with levels.
-use mathlib.Core.Path.{refl}
-use Rattle.feed_format.specs.Format.{kind_of}
-use Rattle.scale_trace_rules.specs.Trace.{list_room}
-use Rattle.scale_trace_block.proofs.RoomLaws.{size_none, kind_room}
+-- `scale_trace_block::room::list_room` meets its contract: a size is at most 32.
+use mathlib.Core.Path.{sym}
+use native.Mathlib.Omega.{arith}
+use Rattle.scale_trace_block.proofs.RoomLaws.{room_is, size_most}
 use Rattle.scale_trace_block.proofs.room.list_room.Goals as goal
 
-pub returns-in-4 : goal.returns-in-4
-unfolding list_room kind_of
-returns-in-4 c = rw c.in-4.is refl
+pub overflow_mul-result : goal.overflow_mul-result
+overflow_mul-result c = omega (arith, size_most c.args.kind c.size_of-n.ensures)
 
-pub returns-in-5 : goal.returns-in-5
-unfolding list_room kind_of
-returns-in-5 c = rw c.in-5.is refl
+pub overflow_mul-result-2 : goal.overflow_mul-result-2
+overflow_mul-result-2 c = omega (arith, size_most c.args.kind c.size_of-n.ensures)
 
-pub returns-in-6 : goal.returns-in-6
-unfolding list_room kind_of
-returns-in-6 c = rw c.in-6.is refl
-
-pub returns-in-7 : goal.returns-in-7
-unfolding list_room kind_of
-returns-in-7 c = rw c.in-7.is refl
-
-pub returns-in_default : goal.returns-in_default
-returns-in_default c = let r = c.in_default.in_default-own.rest in kind_room _ (size_none _ r.0.0.0.1 r.0.0.1 r.0.1 r.1)
+pub returns : goal.returns
+returns c = rw c.size_of-n.ensures (sym (room_is c.args.kind))

@@ -4,10 +4,12 @@ use mathlib.Core.Bool.{Bool}
 use native.Mathlib.Omega.{arith}
 use lib.ListN.{get_or}
 use Rattle.feed_format.specs.Format.{kind_of, is_unknown}
+use Rattle.std.specs.Option.{is_some}
+use Rattle.feed_format.proofs.FormatLaws.{unknown_is}
 use Rattle.feed_format.proofs.RoomLaws.{room_start, room_more, room_unknown, room_end}
 use Rattle.scale_trace_rules.specs.Trace.{list_room, listing_room}
 use Rattle.scale_trace_block.proofs.room.listing_room.Goals as goal
-use Rattle.scale_trace_block.proofs.room.listing_room.Goals.{After-is_unknown}
+use Rattle.scale_trace_block.proofs.room.listing_room.Goals.{After-is_none}
 
 pub loop-at-init : goal.loop-at-init
 loop-at-init c = room_start list_room _
@@ -15,12 +17,12 @@ loop-at-init c = room_start list_room _
 pub bounds-input-at : goal.bounds-input-at
 bounds-input-at c = omega arith
 
-known : {b : Bool} (c : After-is_unknown) → c.is_unknown.result ≡ b → is_unknown (kind_of (get_or c.args.input.now c.loop-at.at 0)) ≡ b
-known c e = sym (c.is_unknown.ensures ∙ ap is_unknown c.kind_of.ensures) ∙ e
+known : {b : Bool} (c : After-is_none) → c.is_none.result ≡ b → is_unknown (kind_of (get_or c.args.input.now c.loop-at.at 0)) ≡ b
+known c e = unknown_is _ (ap is_some (sym c.kind_of.ensures) ∙ c.is_none.ensures) ∙ e
 
-pub returns-then-is_unknown : goal.returns-then-is_unknown
+pub returns-then-is_none : goal.returns-then-is_none
 unfolding listing_room
-returns-then-is_unknown c = c.saturating_add.ensures ∙ sym (room_unknown c.loop-at.invariant c.loop-at-test.true (known (goal.at.returns-then-is_unknown c).After-is_unknown c.if-is_unknown.true))
+returns-then-is_none c = c.saturating_add.ensures ∙ sym (room_unknown c.loop-at.invariant c.loop-at-test.true (known (goal.at.returns-then-is_none c).After-is_none c.if-is_none.true))
 
 pub overflow_add-at : goal.overflow_add-at
 overflow_add-at c = omega arith
@@ -33,7 +35,7 @@ loop-at-smaller c = omega (arith, c.min-at.ensures, c.loop-at-test.true)
 
 pub loop-at-preserved : goal.loop-at-preserved
 loop-at-preserved c =
-    room_more c.loop-at.invariant _ c.loop-at-test.true (known (goal.at.loop-at-preserved c).After-is_unknown c.if-is_unknown.false) (rw c.record_length.ensures.value at c.min-at.ensures) _ (rw c.list_room.ensures at c.saturating_add-room.ensures)
+    room_more c.loop-at.invariant _ c.loop-at-test.true (known (goal.at.loop-at-preserved c).After-is_none c.if-is_none.false) (rw c.record_length.ensures.value at c.min-at.ensures) _ (rw c.list_room.ensures at c.saturating_add-room.ensures)
 
 pub returns : goal.returns
 unfolding listing_room

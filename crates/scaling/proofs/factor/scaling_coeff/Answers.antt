@@ -33,11 +33,11 @@ pub returns-then-n-index : goal.returns-then-n-index
 unfolding scaling_coeff list_refused
 returns-then-n-index c = simp (size_kept (goal.at.returns-then-n-index c).Else-size_refused, eq-eqb _ _ c.if-list-ne64.false, le-leb _ _ c.if-n-index.true)
 
-pub factor_at-requires : goal.factor_at-requires
-factor_at-requires c = record { whole_list = record { size = size_is (goal.at.factor_at-requires c).Else-size_refused; whole = c.if-list-ne64.false }; index_bound = c.if-n-index.false }
+pub listed_at-requires : goal.listed_at-requires
+listed_at-requires c = record { whole_list = record { size = size_is (goal.at.listed_at-requires c).Else-size_refused; whole = c.if-list-ne64.false }; index_bound = c.if-n-index.false }
 
 pub returns : goal.returns
 unfolding scaling_coeff list_refused
 returns c =
     let e = c in
-    simp (size_kept (goal.at.returns c).Else-size_refused, eq-eqb _ _ e.if-list-ne64.false, lt-leb _ _ e.if-n-index.false, c.factor_at.ensures)
+    simp (size_kept (goal.at.returns c).Else-size_refused, eq-eqb _ _ e.if-list-ne64.false, lt-leb _ _ e.if-n-index.false, c.listed_at.ensures)

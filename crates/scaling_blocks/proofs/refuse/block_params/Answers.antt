@@ -11,12 +11,12 @@ returns-in_err-block_refused c =
     let a = c.args in
     let told : c.from_residual.result ≡ Err c.in_err-block_refused.field-0.0 = search rules in
     ap (outcome no_transform_skip) told
-    ∙ refused_params a.narrow a.n a.qp_prime.0 a.bit_depth a.extended_precision a.entries a.levels a.places c.in_err-block_refused.field-0.0
+    ∙ refused_params a.narrow a.n a.qp_prime.0 a.precision.bit_depth a.precision.extended a.entries a.levels a.places c.in_err-block_refused.field-0.0
     (sym (ap answer c.in_err-block_refused.was) ∙ c.block_refused.ensures)
 
 pub returns : goal.returns
 returns c =
     let a = c.args in
     c.transform_skip_params.ensures
-    ∙ passed_params a.narrow a.n a.qp_prime.0 a.bit_depth a.extended_precision a.entries a.levels a.places
+    ∙ passed_params a.narrow a.n a.qp_prime.0 a.precision.bit_depth a.precision.extended a.entries a.levels a.places
     (sym (ap answer c.in_ok-block_refused.was) ∙ c.block_refused.ensures)

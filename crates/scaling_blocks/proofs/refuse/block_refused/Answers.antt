@@ -14,10 +14,10 @@ use Rattle.scaling_blocks.proofs.refuse.block_refused.Goals.{Else-depth_refused,
 size_ok : (c : Else-size_refused) → size_refused c.args.n ≡ false
 size_ok c = sym c.size_refused.ensures ∙ c.if-size_refused.false
 
-depth_ok : (c : Else-depth_refused) → depth_refused c.args.bit_depth ≡ false
+depth_ok : (c : Else-depth_refused) → depth_refused c.args.precision.bit_depth ≡ false
 depth_ok c = sym c.depth_refused.ensures ∙ c.if-depth_refused.false
 
-width_ok : (c : Else-too_narrow) → let a = c.args in a.narrow && width_refused a.bit_depth a.extended_precision ≡ false
+width_ok : (c : Else-too_narrow) → let a = c.args in a.narrow && width_refused a.precision.bit_depth a.precision.extended ≡ false
 width_ok c = sym c.too_narrow.ensures ∙ c.if-too_narrow.false
 
 list_ok : (c : Else-entries-ne64) → list_refused c.args.entries ≡ false

@@ -1,10 +1,6 @@
--- `stages_wide::blocks::fill` meets its contract: the loop has filled the places passed. The measure is what is left.
-use Prim.Native.Nat.{◌≤◌, ◌-◌}
+-- `stages_wide::blocks::fill` meets its contract: the places passed hold v.
 use Rattle.transform_1d.specs.Rows.{Placed}
 use Rattle.stages_wide.proofs.blocks.fill.Given as goal
 
 abbrev pub invariant-loop-i : goal.invariant-loop-i
-invariant-loop-i l = (l.i ≤ l.w) × Placed 0 l.i (λ j. l.v) l.initial.out l.out
-
-abbrev pub decreases-loop-i : goal.decreases-loop-i
-decreases-loop-i l = l.w - l.i
+invariant-loop-i l = Placed 0 l.i (λ k. l.v) l.initial.out l.out

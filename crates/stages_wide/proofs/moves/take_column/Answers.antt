@@ -1,51 +1,26 @@
--- `stages_wide::moves::take_column` meets its contract: the loop has copied the values passed. The measure is the values left.
-use mir.Syntax.{w32}
-use Prim.Native.Nat.{◌+◌, ◌*◌, ◌≤◌}
-use native.Mathlib.Nat.{mul-le-mul}
+-- `stages_wide::moves::take_column` meets its contract: the values passed are copied.
+use Prim.Native.Nat.{◌*◌, ◌<◌}
 use native.Mathlib.Omega.{arith}
-use mir.Facts.{to_z-of_z}
+use lib.ListN.{length}
+use Rattle.std.proofs.Common.{rules}
+use Rattle.std.proofs.lemmas.List.{length-map, map-set}
 use Rattle.coefficients.proofs.RowsLaws.{row_inside}
-use Rattle.stages_wide.proofs.ColumnLaws.{column_placed_zero, column_placed_put, column_placed_all}
+use Rattle.stages_wide.proofs.ColumnLaws.{column_placed_put, column_placed_all}
+use Rattle.stages_wide.proofs.moves.take_column.Given.{Over}
 use Rattle.stages_wide.proofs.moves.take_column.Goals as goal
 use Rattle.stages_wide.proofs.moves.take_column.Goals.{In-loop-k}
 
-module _ (c : In-loop-k) where
-  read_at : c.loop-k.k * c.args.n + (c.args.column + 1) ≤ c.args.n * c.args.n
-  read_at = row_inside c.args.n c.loop-k.k (c.args.column + 1) (omega arith) (omega arith)
-
-  small : c.args.n * c.args.n ≤ 1024
-  small = mul-le-mul c.requires.0 c.requires.0
-
-pub loop-k-preserved : goal.loop-k-preserved
-loop-k-preserved c =
-    (omega arith, column_placed_put (omega arith) c.loop-k.invariant.1 (omega arith) (omega (arith, read_at (goal.at.loop-k-preserved c).In-loop-k, c.requires.3)) (to_z-of_z {w = w32} (record { sfits = c.g-1.given })))
-
-pub loop-k-init : goal.loop-k-init
-loop-k-init c = (omega arith, column_placed_zero)
-
-pub overflow_mul-g : goal.overflow_mul-g
-overflow_mul-g c = omega (arith, read_at c, small c)
-
-pub overflow_add-g : goal.overflow_add-g
-overflow_add-g c = omega (arith, read_at c, small c)
-
-pub offset_bounds-s-k : goal.offset_bounds-s-k
-offset_bounds-s-k c = omega (arith, read_at c, small c)
-
-pub bounds-s-k : goal.bounds-s-k
-bounds-s-k c = omega (arith, read_at c, c.requires.2)
-
-pub overflow_mul-k : goal.overflow_mul-k
-overflow_mul-k c = omega (arith, read_at (goal.at.overflow_mul-k c).In-loop-k, small (goal.at.overflow_mul-k c).In-loop-k)
+put_at : (g : Over) (c : In-loop-k g) → c.loop-k.k * c.args.n < length c.args.g.now
+put_at g c = omega (arith, row_inside c.args.n c.loop-k.k 1 (omega arith) (omega arith), c.requires.3)
 
 pub offset_bounds-g-k : goal.offset_bounds-g-k
-offset_bounds-g-k c = omega (arith, read_at (goal.at.offset_bounds-g-k c).In-loop-k, small (goal.at.offset_bounds-g-k c).In-loop-k)
+offset_bounds-g-k g c = let b = put_at g (goal.at.offset_bounds-g-k g c).In-loop-k in search (rules, b)
 
-pub bounds-g-k : goal.bounds-g-k
-bounds-g-k c = omega (arith, read_at (goal.at.bounds-g-k c).In-loop-k, c.requires.3, c.loop-k.invariant.1.long)
-
-pub shape_of-g : goal.shape_of-g
-shape_of-g c = c.loop-k.invariant.1.long
+pub loop-k-preserved : goal.loop-k-preserved
+loop-k-preserved g c =
+    rw (map-set g.V.Output.value c.loop-k.g (c.loop-k.k * c.args.n) c.moved.result)
+    (column_placed_put (omega arith) c.loop-k.invariant (omega arith) (omega (arith, length-map c.args.g.now g.V.Output.value, row_inside c.args.n c.loop-k.k 1 (omega arith) (omega arith), c.requires.3))
+    (search rules))
 
 pub returns : goal.returns
-returns c = column_placed_all _ (omega arith) c.loop-k.invariant.1
+returns g c = column_placed_all _ (omega arith) c.loop-k.invariant

@@ -1,5 +1,4 @@
--- `stages_wide::products::columns_4` meets its contract: the loop has stored the columns passed. The measure is the columns left.
-use Prim.Native.Nat.{◌≤◌, ◌-◌}
+-- `stages_wide::products::columns_4` meets its contract: the columns passed are stored as rows.
 use lib.IntN.{pos}
 use lib.ListN.{get_or}
 use Rattle.transform_1d.specs.MatrixOf.{matrix_of}
@@ -8,7 +7,4 @@ use Rattle.stages_wide.specs.Products.{matrix_value}
 use Rattle.stages_wide.proofs.products.columns_4.Given as goal
 
 abbrev pub invariant-loop-c : goal.invariant-loop-c
-invariant-loop-c l = (l.c ≤ l.nx) × Filled 4 4 (matrix_value (matrix_of l.kind 4) 4 (λ i. get_or l.x i (pos 0)) 1 4 l.shift) l.c l.initial.out l.out
-
-abbrev pub decreases-loop-c : goal.decreases-loop-c
-decreases-loop-c l = l.nx - l.c
+invariant-loop-c l = Filled 4 4 (matrix_value (matrix_of l.kind 4) 4 (λ i. get_or l.x i (pos 0)) 1 4 l.shift) l.c l.initial.out l.out

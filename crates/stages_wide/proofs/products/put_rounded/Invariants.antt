@@ -1,5 +1,4 @@
--- `stages_wide::products::put_rounded` meets its contract: the loop has placed the sums passed. The measure is what is left of them.
-use Prim.Native.Nat.{◌≤◌, ◌-◌}
+-- `stages_wide::products::put_rounded` meets its contract: the sums passed are stored.
 use lib.IntN.{pos}
 use lib.ListN.{get_or}
 use Rattle.integers.specs.Shift.{round_shift}
@@ -7,7 +6,4 @@ use Rattle.transform_1d.specs.Rows.{Placed}
 use Rattle.stages_wide.proofs.products.put_rounded.Given as goal
 
 abbrev pub invariant-loop-j : goal.invariant-loop-j
-invariant-loop-j l = (l.j ≤ l.w) × Placed l.at l.j (λ i. round_shift (get_or l.z i (pos 0)) l.shift) l.initial.out l.out
-
-abbrev pub decreases-loop-j : goal.decreases-loop-j
-decreases-loop-j l = l.w - l.j
+invariant-loop-j l = Placed l.at l.j (λ i. round_shift (get_or l.z i (pos 0)) l.shift) l.initial.out l.out

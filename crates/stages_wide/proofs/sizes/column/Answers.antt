@@ -5,23 +5,23 @@ use lib.IntN.{pos}
 use lib.ListN.{length-replicate}
 use Rattle.h265.specs.Matrix.{trans_matrix}
 use Rattle.stages_wide.proofs.NarrowLaws.{narrow_stage, taken_narrow}
-use Rattle.stages_wide.proofs.MovesLaws.{put_one_lem}
+use Rattle.stages_wide.proofs.MovesLaws.{put_one_lem, moved_32}
 use Rattle.stages_wide.proofs.PassSizeLaws.{stage_needs_named, stage_named, points_most}
 use Rattle.stages_wide.proofs.sizes.column.Goals as goal
 
 pub column_narrow-requires : goal.column_narrow-requires
 column_narrow-requires g c = (points_most g.met.S.Stage.size c.requires.2, c.requires.4, c.requires.0.source)
 
-pub take_narrow-requires : goal.take_narrow-requires
-take_narrow-requires g c =
+pub take_column-requires : goal.take_column-requires
+take_column-requires g c =
     let p = c.requires in
-    (points_most g.met.S.Stage.size p.2, p.4, p.0.source, omega (arith, length-replicate g.row.A (pos 0), p.3), c.column_narrow.ensures c.if-column_narrow.true)
+    (points_most g.met.S.Stage.size p.2, p.4, p.0.source, omega (arith, length-replicate g.row.A (pos 0), p.3), λ e. c.column_narrow.ensures c.if-column_narrow.true)
 
 pub stage-requires : goal.stage-requires
 stage-requires g c =
     stage_needs_named c.requires.1 c.requires.2
     (record {
-      long = c.take_narrow.ensures.long ∙ length-replicate g.row.A (pos 0) ∙ c.requires.3;
+      long = (moved_32 c.take_column.ensures).long ∙ length-replicate g.row.A (pos 0) ∙ c.requires.3;
       half = record { within = omega arith };
       shift = omega arith;
       few = omega (arith, c.requires.4);
@@ -36,7 +36,7 @@ put_column-requires g c =
 pub returns-then-column_narrow : goal.returns-then-column_narrow
 returns-then-column_narrow g c =
     let a = c.args in
-    let t = c.take_narrow.ensures in
+    let t = moved_32 c.take_column.ensures in
     let n = c.column_narrow.ensures c.if-column_narrow.true in
     put_one_lem (trans_matrix g.row.N) g.row.N a.range a.coeff.now t
     (narrow_stage g.row.N a.range 7 _ c.requires.0.range_least refl (taken_narrow g.row.N a.coeff.now n t) (stage_named _ _ _ c.requires.2 c.stage.ensures)) c.put_column.ensures

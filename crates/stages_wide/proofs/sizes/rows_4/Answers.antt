@@ -1,16 +1,19 @@
 -- `stages_wide::sizes::rows_4` meets its contract: a stage over the block turned over is stage two.
 use native.Mathlib.Omega.{arith}
 use Rattle.transform_1d.specs.MatrixOf.{matrix_of}
+use lib.IntN.{pos}
+use lib.ListN.{replicate}
+use Rattle.stages.proofs.SizesLaws.{stored_16}
 use Rattle.stages_wide.proofs.MovesLaws.{turned_rows}
 use Rattle.stages_wide.proofs.ProductsLaws.{limited_needs_four, four_rows}
 use Rattle.stages_wide.proofs.sizes.rows_4.Goals as goal
 
 pub stage_4-requires : goal.stage_4-requires
 stage_4-requires c =
-    let p = c.requires in limited_needs_four (omega arith) p.least p.most p.range_most (omega (arith, c.turn.ensures.long)) p.room
+    let p = c.requires in limited_needs_four (omega arith) p.least p.most p.range_most (omega (arith, (stored_16 {xs = replicate 16 (pos 0)} c.turn.ensures).long)) p.room
 
 pub returns : goal.returns
 returns c =
     let a = c.args in
-    turned_rows (matrix_of a.kind 4) 4 a.range a.shift a.inter.now c.turn.ensures
+    turned_rows (matrix_of a.kind 4) 4 a.range a.shift a.inter.now (stored_16 {xs = replicate 16 (pos 0)} c.turn.ensures)
     (four_rows (matrix_of a.kind 4) a.range a.shift _ (omega arith) c.stage_4.ensures)

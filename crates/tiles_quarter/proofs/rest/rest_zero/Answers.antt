@@ -1,23 +1,20 @@
--- `tiles_quarter::rest::rest_zero` meets its contract: nothing was gathered only where all elements passed are zero. The measure is what is left.
+-- `tiles_quarter::rest::rest_zero` meets its contract: `zero` is true only where all elements passed are zero.
+use mathlib.Core.Path.{ap, sym, ◌∙◌}
 use native.Mathlib.Omega.{arith}
-use lib.Dec.{T, eqb→eq}
 use lib.IntN.{pos}
-use lib.ListN.{get_or}
-use mathlib.Core.Path.{subst, sym}
-use mir.Syntax.{w32}
-use mir.Val.{SFits}
-use Rattle.integers.proofs.MachineLaws.{round_trip}
+use Rattle.std.proofs.lemmas.List.{get_or-map}
 use Rattle.tiles_quarter.proofs.RestLaws.{zero_none, zero_more}
 use Rattle.tiles_quarter.proofs.rest.rest_zero.Goals as goal
 
+pub loop-i-init : goal.loop-i-init
+loop-i-init g c = zero_none
+
 pub loop-i-preserved : goal.loop-i-preserved
-loop-i-preserved c =
-    let l = c in
-    let f : SFits w32 (get_or l.args.x.now l.loop-i.i (pos 0)) = record { sfits = c.used-arg-1.given } in
-    (omega arith, zero_more l.loop-i.any c.used-any.result l.loop-i.invariant.1 (rw (round_trip f) at c.used-any.ensures))
+loop-i-preserved g c =
+    let f = g.T.Output.value in
+    let i = c.loop-i.i in
+    zero_more c.loop-i.zero c.is_zero-zero.result c.loop-i.invariant
+    (λ e. get_or-map f c.args.x.now i c.index-x-i.result (pos 0) (omega arith) ∙ ap f (sym c.index-x-i.is) ∙ c.is_zero-zero.ensures e)
 
 pub returns : goal.returns
-returns c e i l h = c.loop-i.invariant.1.at (eqb→eq _ _ (subst T (sym e) tt)) i l (omega arith)
-
-pub loop-i-init : goal.loop-i-init
-loop-i-init c = (omega arith, zero_none)
+returns g c e i l h = c.loop-i.invariant.at e i l (omega arith)

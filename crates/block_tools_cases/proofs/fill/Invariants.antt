@@ -1,9 +1,0 @@
--- `block_tools_cases::fill` meets its contract, which says nothing: every place that the loop writes lies in the slice.
-use Rattle.std.proofs.Common.{◌≡◌, ◌-◌, ◌≤◌, length}
-use Rattle.block_tools_cases.proofs.fill.Given as goal
-
-abbrev pub invariant-loop-i : goal.invariant-loop-i
-invariant-loop-i l = (length l.levels ≡ length l.initial.levels) × (l.i ≤ length l.initial.levels)
-
-abbrev pub decreases-loop-i : goal.decreases-loop-i
-decreases-loop-i l = length l.initial.levels - l.i

@@ -1,8 +1,0 @@
--- `contributions_cases::main` meets its contract, which says nothing: the measure is the number of turns that are left.
-use Rattle.contributions_cases.proofs.main.Given as goal
-
-abbrev pub invariant-loop-turns : goal.invariant-loop-turns
-invariant-loop-turns l = Unit {0}
-
-abbrev pub decreases-loop-turns : goal.decreases-loop-turns
-decreases-loop-turns l = l.turns

@@ -1,0 +1,93 @@
+// What the two programs that read a feed from standard input do around a record: `feed_main` and `scale_trace_main`. Internal.
+#![tactic(auto)]
+
+ghost use Rattle.std.specs.Prelude.{◌≤◌, length, IfOk};
+ghost use Rattle.text.specs.Text.{Counts};
+
+use feed::{Line, State, StepError, Taken};
+use std::io::Read;
+
+// Says that a read failed; nothing more is read.
+pub fn read_failed(rt: &impl Eprint, program: &str) -> Option<State> {
+    let _ = eprintln!(rt; "{program}: a read of standard input failed, so this text is not whole");
+    None
+}
+
+// What follows a write: nothing more where it failed.
+pub fn after_write(
+    rt: &impl Eprint,
+    program: &str,
+    done: bool,
+    next: Option<State>,
+) -> Option<State> {
+    if !done {
+        let _ = eprintln!(rt;
+            "{program}: a write to standard output failed, so this text is not whole"
+        );
+        return None;
+    }
+    next
+}
+
+pub fn write_line(rt: &impl Print, line: Line) -> bool
+    requires { Counts line.end line.bytes }
+{
+    streams::write_all(rt, &line.bytes[..line.end])
+}
+
+// Whether one more read says that the input has ended.
+fn has_ended(stdin: &mut impl Read) -> bool {
+    let mut byte = [0u8; 1];
+    match stdin.read(&mut byte) {
+        Ok(got) => got == 0,
+        Err(_) => false,
+    }
+}
+
+// A read of the input failed.
+#[derive(Clone, Copy)]
+pub struct ReadFailed;
+
+// The next record, its kind and its body, where the input has one. A body is cut short where the input has ended; where one more read does not say so, a read failed.
+pub fn next_record<'a>(
+    stdin: &mut impl Read,
+    room: &'a mut [u8; 4096],
+) -> Result<Option<(u8, &'a [u8])>, ReadFailed> {
+    let mut byte = [0u8; 1];
+    let Ok(got) = stdin.read(&mut byte) else {
+        return Err(ReadFailed);
+    };
+    if got == 0 {
+        return Ok(None);
+    }
+    let kind = byte[0];
+    let n = feed::record_length(kind);
+    let there = streams::read_full(stdin, &mut room[..n]);
+    if there < n && !has_ended(stdin) {
+        return Err(ReadFailed);
+    }
+    Ok(Some((kind, &room[..there])))
+}
+
+// What follows a step from a state at an offset: its text or its refusal is written, and more may come after a record that was taken.
+pub fn after_step<R: Print + Eprint>(
+    rt: &R,
+    program: &str,
+    offset: u64,
+    answer: Result<Taken, StepError>,
+    out: &[u8],
+) -> Option<State>
+    requires { IfOk answer (λ taken. taken.end ≤ length out.now) }
+{
+    match answer {
+        Ok(taken) => {
+            let done = streams::write_all(rt, &out[..taken.end]);
+            after_write(rt, program, done, Some(taken.state))
+        }
+        Err(StepError::Refused(why)) => {
+            let done = write_line(rt, feed::refusal_line(why, offset));
+            after_write(rt, program, done, None)
+        }
+        Err(StepError::NoRoom) => None,
+    }
+}
