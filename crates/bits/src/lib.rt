@@ -12,6 +12,8 @@ pub enum CodeError {
     Ended,
 }
 
+// Kept: bytes and an offset stand apart, here and in the crates above: each code hands on the offset behind it, so that a struct of both would be made anew for every code.
+
 // Whether the bytes reach to the bit at an offset.
 pub fn is_there(bytes: &[u8], at: usize) -> bool
     ensures { result ≡ is_there bytes.now at }
@@ -41,6 +43,7 @@ fn bits_number(bytes: &[u8], at: usize, n: usize) -> u64
     number
 }
 
+// Kept: 33 stands for too many zeros, as in the definition of a code, and the one caller compares it at once.
 // How many zeros stand before the first one, and 33 where there are more than 32.
 fn leading_zeros(bytes: &[u8], at: usize) -> usize
     requires { at ≤ 9223372036854775808 }

@@ -16,7 +16,8 @@ fn zeros_of(v: u64) -> usize
     (v + 1).ilog2() as usize
 }
 
-// n bits of v, the highest first. A buffer and the place in it stay two parameters: `Wrote`, as all that writes text has it, speaks of both.
+// Kept: a buffer and the place in it stand apart, here and below: a struct of both would have to promise for the buffer that it stays the same one (its ghost_name).
+// n bits of v, the highest first.
 fn put_bits(v: u64, n: usize, bits: &mut [u8], at: usize) -> usize
     requires { (n ≤ 9) × (at + n ≤ length bits.old) }
     ensures { Wrote bits.old at (bits_of n v) bits.new result }
@@ -37,6 +38,7 @@ pub fn put_code(v: u64, bits: &mut [u8], at: usize) -> usize
     put_bits(v + 1, zeros + 1, bits, one)
 }
 
+// Kept: a byte by its number: tried over `chunks_exact(8)`, zipped with `out.iter_mut()` or counted, the proof that byte k is stored did not close.
 // Byte k of bits.
 fn byte_of(bits: &[u8], k: usize) -> u8
     requires { Binary bits.now × (8 * k + 8 ≤ length bits.now) }

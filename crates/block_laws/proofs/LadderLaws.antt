@@ -4,17 +4,15 @@
 --   ladder_refused       where it is refused, the same refusal stops an opening and an edit
 --   fits_ask             what the functions below the refusals rely on
 --   open_refused, open_outside, open_done   what an opening hands back, case by case
---   place_outside        a place outside the block, by row or by column
 --   edit-refused, edit_way, edit-place, edit_outside, edit_done   what an edit hands back, case by case
---   refresh_refused, refresh_done   the same of stage two alone
+--   refresh_refused, refresh_done   what stage two alone hands back
 use Rattle.std.specs.Prelude.{Ok, Err}
 use mathlib.Core.Path.{◌≡◌, refl, sym, ap, ◌∙◌}
 use mathlib.Core.Bool.{Bool, true, false, ◌||◌, cond}
 use mathlib.Core.List.{List}
-use mathlib.Core.Logic.{◌⊎◌, inl, inr}
-use Prim.Native.Nat.{ℕ, ◌*◌, ◌≤◌, ◌<◌}
+use Prim.Native.Nat.{ℕ, ◌*◌, ◌<◌}
 use native.Mathlib.Omega.{arith}
-use borrow.Author.Tests.{lt-ltb, le-ltb, lt-leb, le-leb, eqb-true, not-false}
+use borrow.Author.Tests.{lt-leb, eqb-true, not-false}
 use lib.Dec.{eqb, leb}
 use lib.IntN.{ℤ, pos}
 use lib.ListN.{length, replicate}
@@ -30,7 +28,7 @@ use Rattle.refusal.specs.Outcome.{Outcome, accepted, refused, answer}
 use Rattle.refusal.specs.Written.{left, wrote}
 use Rattle.refusal.proofs.RefusalLaws.{number_least}
 use Rattle.refusal.proofs.ConditionLaws.{size_accepted, depth_accepted}
-use Rattle.coefficients.specs.Outside.{first_outside, outside_refusal, refusal_at}
+use Rattle.coefficients.specs.Outside.{outside_refusal, InsideChecked}
 use Rattle.transform_1d.specs.declared.Kind.{Kind}
 use Rattle.transform_1d.specs.declared.Kind.TheVariants.{Dct, Dst}
 use Rattle.block_rules.specs.declared.EditedBlock.{EditedBlock}
@@ -112,26 +110,20 @@ module _ (o : Opening) (lent : Buffers) where
   unfolding opened_as opened
   open_refused r p = ladder_refused (λ a. record { answer = a; block = zero_block; buffers = lent }) r _ p
 
-  pub open_outside : Fits o lent → (first : ℕ) → first ≡ first_outside (range_of o) o.size o.size lent.coeff → first < o.size * o.size
-      → opened_as o lent ≡ stopped zero_block lent (refusal_at (range_of o) o.size lent.coeff first)
+  pub open_outside : Fits o lent → (e : Refusal) → InsideChecked (range_of o) o.size o.size lent.coeff (Err e) → opened_as o lent ≡ stopped zero_block lent e
   unfolding opened_as opened
-  open_outside f first e h = ladder_go _ _ f ∙ rw (sym e, lt-ltb first (o.size * o.size) h)
+  open_outside f e h = ladder_go _ _ f ∙ rw (h.0, h.1)
 
-  pub open_done : Fits o lent → (first : ℕ) → first ≡ first_outside (range_of o) o.size o.size lent.coeff → o.size * o.size ≤ first
+  pub open_done : Fits o lent → InsideChecked (range_of o) o.size o.size lent.coeff (Ok tt)
       → opened_as o lent ≡ record { answer = accepted tt; block = block_of o (column_count o.size lent.coeff); buffers = opened_buffers o.kind o.size o.depth (range_of o) lent }
-  open_done f first e h = opened_is o lent (record { fits = f; first = rw (sym e) (le-ltb first (o.size * o.size) h) })
+  open_done f h = opened_is o lent (record { fits = f; first = h })
 
   pub opens_stopped : (r : Refusal) → opened_as o lent ≡ stopped zero_block lent r → Opens (opened_as o lent) (Err r) lent.inter lent.res
   opens_stopped r p = rw p (record { answered = refl; inter = refl; res = refl })
 
 -- ---- an edit
--- the test of row 8, side by side
-pub place_outside : (n row column : ℕ) → (n ≤ row) ⊎ ((row < n) × (n ≤ column)) → leb n row || leb n column ≡ true
-place_outside n row column (inl h) = rw (le-leb n row h)
-place_outside n row column (inr h) = rw (lt-leb n row h.0, le-leb n column h.1)
-
 abbrev pub opening_of : EditedBlock → Opening
-opening_of block = record { kind = block.kind; size = block.size; depth = block.depth; extended = block.extended; source = block.source }
+opening_of block = record { kind = block.kind; size = block.size; depth = block.precision.bit_depth; extended = block.precision.extended; source = block.source }
 
 module _ (block : EditedBlock) (lent : Buffers) (row column : ℕ) (value : ℤ) where
   pub edit-refused : (r : Refusal) → answer (Err r) ≡ ladder (opening_of block) lent (refused tt) (accepted tt) → edited block lent row column value ≡ stopped block lent r
@@ -152,7 +144,7 @@ module _ (block : EditedBlock) (lent : Buffers) (row column : ℕ) (value : ℤ)
   edit_outside f w hr hc o = ladder_go (opening_of block) lent _ _ f ∙ rw (w, lt-leb block.size row hr, lt-leb block.size column hc, o)
 
   pub edit_done : Fits (opening_of block) lent → block.source.levels ≡ false → row < block.size → column < block.size → outside_range (range_of (opening_of block)) value ≡ false
-      → let after : Buffers = edited_buffers block.kind block.size block.depth (range_of (opening_of block)) lent row column value in
+      → let after : Buffers = edited_buffers block.kind block.size block.precision.bit_depth (range_of (opening_of block)) lent row column value in
       edited block lent row column value ≡ record { answer = accepted tt; block = with_columns block (column_count block.size after.coeff); buffers = after }
   unfolding edited
   edit_done f w hr hc o = ladder_go (opening_of block) lent _ _ f ∙ rw (w, lt-leb block.size row hr, lt-leb block.size column hc, o)

@@ -80,11 +80,11 @@ module _ (kind : Kind) (n b list levels coeff inter res : ℕ) where
 
 -- ---- a level edit
 abbrev pub EditFits : EditedBlock → List ℤ → Buffers → Type 0
-EditFits block levels lent = LevelFits block.kind block.size block.depth 64 (looked_at block.source.levels (length levels) (length lent.coeff)) (length lent.coeff) (length lent.inter) (length lent.res)
+EditFits block levels lent = LevelFits block.kind block.size block.precision.bit_depth 64 (looked_at block.source.levels (length levels) (length lent.coeff)) (length lent.coeff) (length lent.inter) (length lent.res)
 
 -- the record of the same block as if it had been opened on its coefficients
 abbrev pub plain : EditedBlock → EditedBlock
-plain block = record { kind = block.kind; size = block.size; depth = block.depth; extended = block.extended; columns = block.columns; source = zero_source }
+plain block = record { kind = block.kind; size = block.size; precision = block.precision; columns = block.columns; source = zero_source }
 
 pub plain_fits : (block : EditedBlock) (levels : List ℤ) (lent : Buffers) → EditFits block levels lent → Fits (opening_of (plain block)) lent
 plain_fits block levels lent f =
@@ -92,14 +92,14 @@ plain_fits block levels lent f =
 
 module _ (block : EditedBlock) (levels : List ℤ) (lent : Buffers) (row column : ℕ) (level : ℤ) where
   pub level-edit-refused : (r : Refusal)
-      → answer (Err r) ≡ level_ladder (refused tt) (accepted tt) block.kind block.size block.depth 64 (looked_at block.source.levels (length levels) (length lent.coeff)) (length lent.coeff) (length lent.inter) (length lent.res)
+      → answer (Err r) ≡ level_ladder (refused tt) (accepted tt) block.kind block.size block.precision.bit_depth 64 (looked_at block.source.levels (length levels) (length lent.coeff)) (length lent.coeff) (length lent.inter) (length lent.res)
       → level_edited block levels lent row column level ≡ level_stopped block levels lent r
   unfolding level_edited
-  level-edit-refused r p = levels-refused block.kind block.size block.depth 64 _ (length lent.coeff) (length lent.inter) (length lent.res) (λ a. record { answer = valued no_limits a; block = block; levels = levels; buffers = lent }) r _ p
+  level-edit-refused r p = levels-refused block.kind block.size block.precision.bit_depth 64 _ (length lent.coeff) (length lent.inter) (length lent.res) (λ a. record { answer = valued no_limits a; block = block; levels = levels; buffers = lent }) r _ p
 
   module _ (f : EditFits block levels lent) where
-    goes : {A : Type 0} (stop : Refusal → A) (go : A) → level_ladder stop go block.kind block.size block.depth 64 (looked_at block.source.levels (length levels) (length lent.coeff)) (length lent.coeff) (length lent.inter) (length lent.res) ≡ go
-    goes stop go = levels_go block.kind block.size block.depth 64 _ (length lent.coeff) (length lent.inter) (length lent.res) stop go f
+    goes : {A : Type 0} (stop : Refusal → A) (go : A) → level_ladder stop go block.kind block.size block.precision.bit_depth 64 (looked_at block.source.levels (length levels) (length lent.coeff)) (length lent.coeff) (length lent.inter) (length lent.res) ≡ go
+    goes stop go = levels_go block.kind block.size block.precision.bit_depth 64 _ (length lent.coeff) (length lent.inter) (length lent.res) stop go f
 
     pub level-edit_way : block.source.levels ≡ false → level_edited block levels lent row column level ≡ level_stopped block levels lent WayMismatched
     unfolding level_edited
@@ -111,8 +111,8 @@ module _ (block : EditedBlock) (levels : List ℤ) (lent : Buffers) (row column 
 
     pub level-edit_done : block.source.levels ≡ true → row < block.size → column < block.size
         → let at : ℕ = row * block.size + column in
-        let after : Buffers = edited_buffers block.kind block.size block.depth (transform_range block.depth block.extended) lent row column (scaled_by block.source block.size block.depth block.extended at level) in
-        level_edited block levels lent row column level ≡ record { answer = accepted (limits_by block.source block.size block.depth block.extended at level); block = with_columns block (column_count block.size after.coeff); levels = set levels at level; buffers = after }
+        let after : Buffers = edited_buffers block.kind block.size block.precision.bit_depth (transform_range block.precision.bit_depth block.precision.extended) lent row column (scaled_by block.source block.size block.precision.bit_depth block.precision.extended at level) in
+        level_edited block levels lent row column level ≡ record { answer = accepted (limits_by block.source block.size block.precision.bit_depth block.precision.extended at level); block = with_columns block (column_count block.size after.coeff); levels = set levels at level; buffers = after }
     unfolding level_edited
     level-edit_done w hr hc = goes _ _ ∙ rw (w, lt-leb block.size row hr, lt-leb block.size column hc)
 
@@ -130,7 +130,7 @@ module _ (block : EditedBlock) (levels : List ℤ) (lent : Buffers) (row column 
   unfolding level_edited level_ladder
   other_number k h not-ten =
       either (size_refused block.size) SizeInvalid _ (λ z. omega (arith, h))
-      (either (depth_refused block.depth) DepthInvalid _ (λ z. omega (arith, h))
+      (either (depth_refused block.precision.bit_depth) DepthInvalid _ (λ z. omega (arith, h))
       (either (dst_refused block.kind block.size) DstSizeInvalid _ (λ z. omega (arith, h))
       (either (list_refused 64) ListLengthInvalid _ (λ z. omega (arith, h))
       (either (block_refused block.size (looked_at block.source.levels (length levels) (length lent.coeff)) || block_refused block.size (length lent.coeff)) InputTooShort _ (λ z. omega (arith, h))
@@ -144,7 +144,7 @@ module _ (block : EditedBlock) (levels : List ℤ) (lent : Buffers) (row column 
   pub level_meets_no_range : LevelMeetsNoRange block levels lent row column level
   level_meets_no_range =
       record {
-        inside = scaled-inside block.source block.size block.depth block.extended (row * block.size + column) level;
+        inside = scaled-inside block.source block.size block.precision.bit_depth block.precision.extended (row * block.size + column) level;
         not_above = other_number 9 (omega arith) (λ z. omega arith);
         not_below = other_number 19 (omega arith) (λ z. omega arith);
       }

@@ -45,7 +45,7 @@ abbrev pub zero_source : Source
 zero_source = record { levels = Bool.false; qp_prime = record { 0 = pos 0 }; listed = Bool.false; dc = 0; entries = replicate 64 0 }
 
 abbrev pub zero_block : EditedBlock
-zero_block = record { kind = Dct; size = 0; depth = 0; extended = Bool.false; columns = 0; source = zero_source }
+zero_block = record { kind = Dct; size = 0; precision = record { bit_depth = 0; extended = Bool.false }; columns = 0; source = zero_source }
 
 unfoldable pub intermediate_of : Kind → ℕ → ℕ → List ℤ → ℕ → ℕ → ℤ
 intermediate_of kind n r d = intermediate (matrix_of kind n) n r (limited_block r n d)
@@ -79,7 +79,7 @@ opened kind n b x s lent =
     (cond (ltb first (n * n)) (stopped zero_block lent (refusal_at r n lent.coeff first))
     (record {
       answer = accepted tt;
-      block = record { kind = kind; size = n; depth = b; extended = x; columns = column_count n lent.coeff; source = s };
+      block = record { kind = kind; size = n; precision = record { bit_depth = b; extended = x }; columns = column_count n lent.coeff; source = s };
       buffers = opened_buffers kind n b r lent;
     }))
     kind n b (length lent.coeff) (length lent.inter) (length lent.res)
@@ -91,13 +91,13 @@ edited_buffers kind n b r lent row column value =
     record { coeff = d; inter = g; res = overwrite (n * n) (row_order n (residual_of kind n b r g)) lent.res }
 
 abbrev pub with_columns : EditedBlock → ℕ → EditedBlock
-with_columns block c = record { kind = block.kind; size = block.size; depth = block.depth; extended = block.extended; columns = c; source = block.source }
+with_columns block c = record { kind = block.kind; size = block.size; precision = block.precision; columns = c; source = block.source }
 
 unfoldable pub edited : EditedBlock → Buffers → ℕ → ℕ → ℤ → Left
 edited block lent row column value =
     let n : ℕ = block.size in
-    let b : ℕ = block.depth in
-    let r : ℕ = transform_range b block.extended in
+    let b : ℕ = block.precision.bit_depth in
+    let r : ℕ = transform_range b block.precision.extended in
     let after : Buffers = edited_buffers block.kind n b r lent row column value in
     block_ladder (stopped block lent)
     (cond block.source.levels (stopped block lent WayMismatched)

@@ -81,8 +81,8 @@ looked_at on levels coeff = cond on levels coeff
 unfoldable pub level_edited : EditedBlock → List ℤ → Buffers → ℕ → ℕ → ℤ → LevelLeft
 level_edited block levels lent row column level =
     let n : ℕ = block.size in
-    let b : ℕ = block.depth in
-    let x : Bool = block.extended in
+    let b : ℕ = block.precision.bit_depth in
+    let x : Bool = block.precision.extended in
     let at : ℕ = row * n + column in
     let after : Buffers = edited_buffers block.kind n b (transform_range b x) lent row column (scaled_by block.source n b x at level) in
     level_ladder (level_stopped block levels lent)
@@ -161,7 +161,7 @@ pub record LevelOpens (h : OpenLeft) (r : Result LevelsOpened Refusal) (d g e : 
 
 -- no level edit meets row 9 or 19: a scaled level lies in the range, and these rows speak of nothing else
 pub record LevelMeetsNoRange (block : EditedBlock) (levels : List ℤ) (lent : Buffers) (row column : ℕ) (level : ℤ) : Type 0 where
-  pub inside : outside_range (transform_range block.depth block.extended) (scaled_by block.source block.size block.depth block.extended (row * block.size + column) level) ≡ false
+  pub inside : outside_range (transform_range block.precision.bit_depth block.precision.extended) (scaled_by block.source block.size block.precision.bit_depth block.precision.extended (row * block.size + column) level) ≡ false
   pub not_above : (level_edited block levels lent row column level).answer.number ≡ 9 → ⊥
   pub not_below : (level_edited block levels lent row column level).answer.number ≡ 19 → ⊥
 

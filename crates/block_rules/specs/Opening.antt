@@ -28,4 +28,4 @@ unfoldable pub opened_as : Opening → Buffers → Left
 opened_as o lent = opened o.kind o.size o.depth o.extended o.source lent
 
 abbrev pub block_of : Opening → ℕ → EditedBlock
-block_of o c = record { kind = o.kind; size = o.size; depth = o.depth; extended = o.extended; columns = c; source = o.source }
+block_of o c = record { kind = o.kind; size = o.size; precision = record { bit_depth = o.depth; extended = o.extended }; columns = c; source = o.source }

@@ -6,11 +6,12 @@ ghost use Rattle.std.specs.Prelude.{◌≡◌};
 ghost use Rattle.block_rules.specs.Edit.{zero_source, zero_block};
 
 use parameters::QpPrime;
+use refusal::Precision;
 use transform_1d::Kind;
 
 // What the coefficients come from: levels, with what they are scaled by. What an opening is not given is 0.
-// Kept: the flags stay flags, and no Option: C gets the record field for field, what was not given too, and hands it back.
-#[derive(Clone, Copy)]
+// Kept: the flags stay flags, and no Option: C hands any record back, and every field of it stays as it was, what was not given too.
+#[derive(Clone, Copy, Debug, PartialEq, Eq)]
 pub struct Source {
     pub levels: bool,
     pub qp_prime: QpPrime,
@@ -20,13 +21,11 @@ pub struct Source {
 }
 
 // What an opening fixes, and how many columns are in use. The buffers stay with the caller.
-// Kept: depth and flag apart, and no `Precision`: C gets the record field for field.
-#[derive(Clone, Copy)]
+#[derive(Clone, Copy, Debug, PartialEq, Eq)]
 pub struct EditedBlock {
     pub kind: Kind,
     pub size: usize,
-    pub depth: u8,
-    pub extended: bool,
+    pub precision: Precision,
     pub columns: usize,
     pub source: Source,
 }
@@ -65,8 +64,7 @@ pub fn zero_block() -> EditedBlock
     EditedBlock {
         kind: Kind::Dct,
         size: 0,
-        depth: 0,
-        extended: false,
+        precision: Precision::new(0, false),
         columns: 0,
         source: zero_source(),
     }

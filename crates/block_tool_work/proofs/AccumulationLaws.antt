@@ -5,6 +5,7 @@
 --   accumulated_within         a sum of at most 32 samples of at most 2^22 is at most 2^27
 --   accumulated_cong           blocks that agree have the same sums
 --   stored_kept, -done, -rest  a loop that leaves an element that is right as it stands; an element that it stored, and one that it has not come to
+use Rattle.std.specs.Prelude.{Option, Some, None}
 use mathlib.Core.Path.{◌≡◌, refl, sym, ap, ap₂, subst, ◌∙◌}
 use mathlib.Core.Bool.{cond}
 use mathlib.Core.List.{List}
@@ -31,6 +32,19 @@ use Rattle.block_tool_rules.specs.declared.Accumulate.TheVariants.{Off, AlongRow
 use Rattle.block_tool_rules.specs.Modification.{accumulated_row, accumulated_column, accumulated}
 use Rattle.h265.proofs.TransformLaws.{cell_row}
 use Rattle.block_tool_work.specs.Work.{step_back, at}
+
+-- none is no distance, and a distance is by what stands in it
+Far : Option ℕ → Type 0
+Far None = ⊥
+Far (Some back) = Unit {0}
+
+clash : {back : ℕ} → None ≡ Some back → ⊥
+unfolding Far
+clash e = subst Far (sym e) tt
+
+distance : ℕ → Option ℕ → ℕ
+distance z None = z
+distance z (Some back) = back
 
 sum_one : (f : ℕ → ℤ) → sum 1 f ≡ f 0
 sum_one f = sum_suc 0 f ∙ ap (λ (z : ℤ). z +ℤ f 0) (sum_zero f) ∙ +ℤ_idl (f 0)
@@ -85,40 +99,42 @@ module _ (n : ℕ) (f : ℕ → ℤ) where
   row-past i h l zero e = absurd (let x : ⊥ = omega (arith, mod-lt i h, ap (λ (q : ℕ). q * n + i % n) (sym e) ∙ div-add-mod' i n) in x)
   row-past i h l (suc k) e = ap (λ (q : ℕ). q * n + i % n) (let s : suc (suc k - 1) ≡ i / n = omega (arith, e) in s) ∙ div-add-mod' i n
 
-  pub accumulated_first : (a : Accumulate) (i : ℕ) → 0 < n → step_back a n i ≡ 0 → accumulated a n f i ≡ f i
+  pub accumulated_first : (a : Accumulate) (i : ℕ) → 0 < n → None ≡ step_back a n i → accumulated a n f i ≡ f i
   accumulated_first Off i h e = refl
   accumulated_first AlongRows i h e =
       elim (ℕ_discrete (i % n) 0) [
         | yes q ↦ row_first i h q
-        | no q ↦ absurd (let x : ⊥ = omega (arith, sym (ap (λ b. cond b 0 1) (ne_eqb (i % n) 0 q)) ∙ e) in x)
+        | no q ↦ absurd (clash (e ∙ ap (λ b. cond b None (Some 1)) (ne_eqb (i % n) 0 q)))
       ]
   accumulated_first DownColumns i h e =
       elim (dec_lt i n) [
         | yes q ↦ column_first i q
-        | no q ↦ absurd (let x : ⊥ = omega (arith, sym (ap (λ b. cond b 0 n) (le-ltb i n (omega arith))) ∙ e) in x)
+        | no q ↦ absurd (clash (e ∙ ap (λ b. cond b None (Some n)) (le-ltb i n (omega arith))))
       ]
 
   -- how the sum at i follows from one before it
   pub record Follows (a : Accumulate) (i back : ℕ) : Type 0 where
     pub before : back ≤ i
+    pub away : 0 < back
     pub is : accumulated a n f i ≡ f i +ℤ accumulated a n f (i - back)
 
-  pub accumulated_later : (a : Accumulate) (i back : ℕ) → 0 < n → back ≡ step_back a n i → 0 < back → Follows a i back
-  accumulated_later Off i back h e l = absurd (let x : ⊥ = omega (arith, e) in x)
-  accumulated_later AlongRows i back h e l =
+  pub accumulated_later : (a : Accumulate) (i back : ℕ) → 0 < n → Some back ≡ step_back a n i → Follows a i back
+  unfolding distance
+  accumulated_later Off i back h e = absurd (clash (sym e))
+  accumulated_later AlongRows i back h e =
       elim (ℕ_discrete (i % n) 0) [
-        | yes q ↦ absurd (let x : ⊥ = omega (arith, e ∙ ap (λ (r : ℕ). cond (eqb r 0) 0 1) q) in x)
-        | no q ↦ let one : back ≡ 1 = e ∙ ap (λ b. cond b 0 1) (ne_eqb (i % n) 0 q) in
+        | yes q ↦ absurd (clash (sym (e ∙ ap (λ (r : ℕ). cond (eqb r 0) None (Some 1)) q)))
+        | no q ↦ let one : back ≡ 1 = ap (distance 0) (e ∙ ap (λ b. cond b None (Some 1)) (ne_eqb (i % n) 0 q)) in
             let place : i / n * n + suc (i % n - 1) ≡ i = ap (λ (r : ℕ). i / n * n + r) (omega arith) ∙ div-add-mod' i n in
             subst (λ (s : ℕ). Follows AlongRows i s) (sym one)
-            (record { before = omega (arith, place); is = along i (i / n) (i % n - 1) place (omega (arith, mod-lt i h)) ∙ +ℤ_comm (accumulated_row n f (i - 1)) (f i) })
+            (record { before = omega (arith, place); away = omega arith; is = along i (i / n) (i % n - 1) place (omega (arith, mod-lt i h)) ∙ +ℤ_comm (accumulated_row n f (i - 1)) (f i) })
       ]
-  accumulated_later DownColumns i back h e l =
+  accumulated_later DownColumns i back h e =
       elim (dec_lt i n) [
-        | yes q ↦ absurd (let x : ⊥ = omega (arith, e ∙ ap (λ b. cond b 0 n) (lt-ltb i n q)) in x)
-        | no q ↦ let all : back ≡ n = e ∙ ap (λ b. cond b 0 n) (le-ltb i n (omega arith)) in
+        | yes q ↦ absurd (clash (sym (e ∙ ap (λ b. cond b None (Some n)) (lt-ltb i n q))))
+        | no q ↦ let all : back ≡ n = ap (distance 0) (e ∙ ap (λ b. cond b None (Some n)) (le-ltb i n (omega arith))) in
             subst (λ (s : ℕ). Follows DownColumns i s) (sym all)
-            (record { before = omega arith; is = down i (i / n - 1) (i % n) (row-past i h (omega arith) (i / n) refl) (mod-lt i h) ∙ +ℤ_comm (accumulated_column n f (i - n)) (f i) })
+            (record { before = omega arith; away = h; is = down i (i / n - 1) (i % n) (row-past i h (omega arith) (i / n) refl) (mod-lt i h) ∙ +ℤ_comm (accumulated_column n f (i - n)) (f i) })
       ]
 
 -- ---- size

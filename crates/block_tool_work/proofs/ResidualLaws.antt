@@ -1,13 +1,13 @@
 -- Laws of calls, refused or not.
 --   plain_skip, plain_bypass            without rotation and accumulation: transform skip as it is without the block tools, and the levels
---   skip_named, skip_refused            a transform skip that is refused, with 25 or as without the block tools
+--   skip_refused                        a transform skip that is refused as without the block tools
 --   Skipped, skip_done                  what is known of one that is done
 --   skip_block, skip_modified           its block can be modified, and is then what the definition says
 --   Passes, bypass_passed               what is known of a bypass that is not refused
 --   bypass_block, bypass_modified, bypass_refused   the same of a bypass
 use Rattle.std.specs.Prelude.{Ok, Err}
-use mathlib.Core.Path.{◌≡◌, refl, sym, ap, subst, ◌∙◌}
-use mathlib.Core.Bool.{Bool, true, false, not, ◌&&◌, cond}
+use mathlib.Core.Path.{◌≡◌, refl, sym, ap, subst}
+use mathlib.Core.Bool.{Bool, true, false, cond}
 use mathlib.Core.List.{List, [], ◌∷◌}
 use Prim.Native.Nat.{ℕ, ◌*◌, ◌/◌, ◌%◌, ◌^◌, ◌≤◌, ◌<◌}
 use native.Mathlib.Nat.{div-add-mod', mod-lt}
@@ -44,36 +44,18 @@ use Rattle.block_tool_rules.specs.declared.Accumulate.TheVariants.{Off}
 use Rattle.block_tool_rules.specs.Modification.{rotated, accumulated, modified}
 use Rattle.block_tool_rules.specs.Residual.{Written, Writes, left, wrote, skip_residual_at, skip_residual, bypass_residual_at, bypass_ladder, bypass_residual}
 use Rattle.h265.proofs.TransformLaws.{cell_row}
-use Rattle.block_tool_work.specs.Work.{rotation_named, at, Block}
+use Rattle.block_tool_work.specs.Work.{at, Block}
 use Rattle.block_tool_work.proofs.ModificationLaws.{overwritten_summable, modified_twice}
 use Rattle.block_tool_work.proofs.SkipLaws.{skipped_at_within}
 
 -- ---- row 25 in a ladder
-module _ {A : Type 0} (p q r z : A) where
-  third : (s d t : Bool) → not s && (not d && t) ≡ true → cond s p (cond d q (cond t r z)) ≡ r
-  third true d t e = absurd (subst T (sym e) tt)
-  third false true t e = absurd (subst T (sym e) tt)
-  third false false true e = refl
-  third false false false e = absurd (subst T (sym e) tt)
-
-  without : (s d t : Bool) → not s && (not d && t) ≡ false → cond s p (cond d q (cond t r z)) ≡ cond s p (cond d q z)
-  without true d t e = refl
-  without false true t e = refl
-  without false false true e = absurd (subst T e tt)
-  without false false false e = refl
-
-pub rotation_passed : (t : Bool) (n b : ℕ) → rotation_named t n b ≡ false → size_refused n ≡ false → depth_refused b ≡ false → rotation_refused t n ≡ false
-unfolding rotation_named
-rotation_passed t n b e s d = sym (ap (λ u. not u && (not (depth_refused b) && rotation_refused t n)) s ∙ ap (λ u. not u && rotation_refused t n) d) ∙ e
+without : {A : Type 0} (p q r z : A) (s d t : Bool) → t ≡ false → cond s p (cond d q (cond t r z)) ≡ cond s p (cond d q z)
+without p q r z s d t e = ap (λ u. cond s p (cond d q (cond u r z))) e
 
 module _ (a : Accumulate) (t : Bool) (list : ScalingList) (n : ℕ) (q : ℤ) (b : ℕ) (x : Bool) (levels out : List ℤ) where
-  pub skip_named : rotation_named t n b ≡ true → CountWrites (Err RotationSizeInvalid) out (skip_residual a t list n q b x levels out)
-  unfolding skip_residual rotation_named
-  skip_named e = subst (λ (w : CountWritten). CountWrites (Err RotationSizeInvalid) out w) (sym (third _ _ _ _ (size_refused n) (depth_refused b) (rotation_refused t n) e)) (record { answered = refl; out = refl })
-
-  pub skip_passed : rotation_named t n b ≡ false
+  pub skip_passed : rotation_refused t n ≡ false
       → skip_residual a t list n q b x levels out ≡ scaling_ladder (left_as_lent out) (counted (limited_count list n b x q levels) (overwrite (n * n) (skip_residual_at a t list n b x q levels) out)) bits32 n b x (entries_of list) (length levels) (length out)
-  unfolding skip_residual rotation_named scaling_ladder
+  unfolding skip_residual scaling_ladder
   skip_passed e = without _ _ _ _ (size_refused n) (depth_refused b) (rotation_refused t n) e
 
 -- ---- ladders with another end
@@ -101,14 +83,13 @@ module _ (a : Accumulate) (t : Bool) (list : ScalingList) (n : ℕ) (q : ℤ) (b
   pub record Skipped (k : ℕ) (mid : List ℤ) : Type 0 where
     pub size : T (is_size n)
     pub deep : b ≤ 16
-    pub named : rotation_named t n b ≡ false
     pub rotation : rotation_refused t n ≡ false
     pub room : n * n ≤ length out
     pub passed : Passed (rungs bits32 n b x (entries_of list) (length levels) (length out))
     pub is : mid ≡ overwrite (n * n) (skipped_at list n b x q levels) out
     pub limited : k ≡ limited_count list n b x q levels
 
-  pub skip_done : {k : ℕ} {mid : List ℤ} → rotation_named t n b ≡ false → CountWrites (Ok k) mid (transform_skipped bits32 list n q b x levels out) → Skipped k mid
+  pub skip_done : {k : ℕ} {mid : List ℤ} → rotation_refused t n ≡ false → CountWrites (Ok k) mid (transform_skipped bits32 list n q b x levels out) → Skipped k mid
   unfolding transform_skipped block_written scaling_ladder
   skip_done {k} {mid} e w =
       let p = done_passed out mid (overwrite (n * n) (skipped_at list n b x q levels) out) (limited_count list n b x q levels) k (rungs bits32 n b x (entries_of list) (length levels) (length out)) w in
@@ -116,8 +97,7 @@ module _ (a : Accumulate) (t : Bool) (list : ScalingList) (n : ℕ) (q : ℤ) (b
       record {
         size = size_accepted n s.0;
         deep = (depth_accepted b s.1.0).1;
-        named = e;
-        rotation = rotation_passed t n b e s.0 s.1.0;
+        rotation = e;
         room = block_room n (length out) s.1.1.1.1.1.0;
         passed = s;
         is = p.1.0;
@@ -138,24 +118,19 @@ module _ (a : Accumulate) (t : Bool) (list : ScalingList) (n : ℕ) (q : ℤ) (b
   pub skip_modified : {k : ℕ} {mid after : List ℤ} → Skipped k mid → after ≡ overwrite (n * n) (accumulated a n (rotated t n (at mid))) mid → CountWrites (Ok k) after (skip_residual a t list n q b x levels out)
   unfolding skip_residual_at modified rotated skipped_at scaling_ladder
   skip_modified {k} {after = after} s e =
-      subst (λ (w : CountWritten). CountWrites (Ok k) after w) (sym (skip_passed a t list n q b x levels out s.named))
+      subst (λ (w : CountWritten). CountWrites (Ok k) after w) (sym (skip_passed a t list n q b x levels out s.rotation))
       (count_writes out (overwrite (n * n) (skip_residual_at a t list n b x q levels) out) k (limited_count list n b x q levels) (rungs bits32 n b x (entries_of list) (length levels) (length out)) s.passed
       (modified_twice a t n (skipped_at list n b x q levels) out s.is e) s.limited)
 
-  pub skip_refused : {after : List ℤ} (e : Refusal) → rotation_named t n b ≡ false → CountWrites (Err e) after (transform_skipped bits32 list n q b x levels out) → CountWrites (Err e) after (skip_residual a t list n q b x levels out)
+  pub skip_refused : {after : List ℤ} (e : Refusal) → rotation_refused t n ≡ false → CountWrites (Err e) after (transform_skipped bits32 list n q b x levels out) → CountWrites (Err e) after (skip_residual a t list n q b x levels out)
   unfolding transform_skipped block_written scaling_ladder
   skip_refused {after} e m w =
       subst (λ (v : CountWritten). CountWrites (Err e) after v) (sym (skip_passed a t list n q b x levels out m))
       (refused_still out after (overwrite (n * n) (skipped_at list n b x q levels) out) (limited_count list n b x q levels) _ e (rungs bits32 n b x (entries_of list) (length levels) (length out)) w)
 
-not_named : (s d : Bool) → not s && (not d && false) ≡ false
-not_named true d = refl
-not_named false true = refl
-not_named false false = refl
-
 pub plain_skip : (list : ScalingList) (n : ℕ) (q : ℤ) (b : ℕ) (x : Bool) (levels out : List ℤ) → skip_residual Off false list n q b x levels out ≡ transform_skipped bits32 list n q b x levels out
-unfolding transform_skipped block_written skip_residual_at modified rotated skipped_at rotation_named rotation_refused
-plain_skip list n q b x levels out = skip_passed Off false list n q b x levels out (not_named (size_refused n) (depth_refused b))
+unfolding transform_skipped block_written skip_residual_at modified rotated skipped_at rotation_refused
+plain_skip list n q b x levels out = skip_passed Off false list n q b x levels out refl
 
 pub plain_bypass : (n : ℕ) (levels : List ℤ) (i : ℕ) → bypass_residual_at Off false n levels i ≡ at levels i
 unfolding bypass_residual_at modified rotated

@@ -1,20 +1,19 @@
 -- What the functions below the refusals rely on and say.
---   step_back a n i       how far before sample i the one stands that is added to it; 0 where there is none
+--   step_back a n i       how far before sample i the one stands that is added to it, if one is
 --   at xs                a list as a block
 --   Summable k xs        the first k elements are at most 2^22 in size, so that 32 bits hold the sum of 32 of them
 --   Block t n xs         a whole block of such elements, of a size that is rotated or not
---   rotation_named t n b  row 25 applies, and neither row 1 nor row 2 comes before it
-use Rattle.std.specs.Prelude.{◌≡◌, Bool, false, not, ◌&&◌, cond, List, ℕ, ◌*◌, ◌%◌, ◌≤◌, ◌<◌, T, eqb, ltb, ℤ, pos, length, get_or}
+use Rattle.std.specs.Prelude.{◌≡◌, Bool, false, cond, List, Option, Some, None, ℕ, ◌*◌, ◌%◌, ◌≤◌, ◌<◌, T, eqb, ltb, ℤ, pos, length, get_or}
 use Rattle.integers.specs.Within.{Within}
 use Rattle.h265.specs.Range.{is_size}
-use Rattle.refusal.specs.Condition.{size_refused, depth_refused, rotation_refused}
+use Rattle.refusal.specs.Condition.{rotation_refused}
 use Rattle.block_tool_rules.specs.declared.Accumulate.{Accumulate}
 use Rattle.block_tool_rules.specs.declared.Accumulate.TheVariants.{Off, AlongRows, DownColumns}
 
-abbrev pub step_back : Accumulate → ℕ → ℕ → ℕ
-step_back Off n i = 0
-step_back AlongRows n i = cond (eqb (i % n) 0) 0 1
-step_back DownColumns n i = cond (ltb i n) 0 n
+abbrev pub step_back : Accumulate → ℕ → ℕ → Option ℕ
+step_back Off n i = None
+step_back AlongRows n i = cond (eqb (i % n) 0) None (Some 1)
+step_back DownColumns n i = cond (ltb i n) None (Some n)
 
 abbrev pub at : List ℤ → ℕ → ℤ
 at xs i = get_or xs i (pos 0)
@@ -27,6 +26,3 @@ pub record Block (t : Bool) (n : ℕ) (xs : List ℤ) : Type 0 where
   pub rotation : rotation_refused t n ≡ false
   pub room : n * n ≤ length xs
   pub summable : Summable (n * n) xs
-
-unfoldable pub rotation_named : Bool → ℕ → ℕ → Bool
-rotation_named t n b = not (size_refused n) && (not (depth_refused b) && rotation_refused t n)

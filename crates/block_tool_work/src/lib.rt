@@ -9,7 +9,7 @@ pub mod modify;
 pub mod refuse;
 
 // The first levels, as they are.
-// Kept: std's copy under a clause in the definitions' words, with which `bypass_residual` goes on.
+// Kept: one call of std as a function: it says in the definitions' words (`overwrite`) what `bypass_residual` leaves in the whole output, where `copy_from_slice` speaks of a part.
 pub fn copy_levels(levels: &[i32], count: usize, out: &mut [i32])
     requires { (count ≤ length levels.now) × (count ≤ length out.old) }
     ensures { out.new ≡ overwrite count (at levels.now) out.old }

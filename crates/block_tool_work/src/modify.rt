@@ -7,37 +7,37 @@ ghost use Rattle.block_tool_work.specs.Work.{step_back, at, Summable, Block};
 
 use block_tool_rules::Accumulate;
 
-// How far before sample i the one stands that is added to it, and 0 where there is none. Sizes are powers of two: the column needs no division.
-fn step_back(accumulate: Accumulate, n: usize, i: usize) -> usize
+// How far before sample i the one stands that is added to it, if one is. Sizes are powers of two: the column needs no division.
+fn step_back(accumulate: Accumulate, n: usize, i: usize) -> Option<usize>
     requires { T (is_size n) }
     ensures { result ≡ step_back accumulate n i }
 {
     match accumulate {
-        Accumulate::Off => 0,
+        Accumulate::Off => None,
         Accumulate::AlongRows => {
             if (i & (n - 1)) == 0 {
-                return 0;
+                return None;
             }
-            1
+            Some(1)
         }
         Accumulate::DownColumns => {
             if i < n {
-                return 0;
+                return None;
             }
-            n
+            Some(n)
         }
     }
 }
 
+// Kept: the kind is matched at each sample, so that one loop serves all three; a match outside would write the loop once for each.
 // Each sample takes up the sum of those before it. In row order the one before is done, along rows and down columns alike.
 fn accumulate_block(n: usize, accumulate: Accumulate, out: &mut [i32])
     requires { T (is_size n) × (n * n ≤ length out.old) × Summable (n * n) out.old }
     ensures { out.new ≡ overwrite (n * n) (accumulated accumulate n (at out.old)) out.old }
 {
     for i in 0..n * n {
-        let back = step_back(accumulate, n, i);
-        if 0 < back {
-            out[i] = out[i] + out[i - back];
+        if let Some(back) = step_back(accumulate, n, i) {
+            out[i] += out[i - back];
         }
     }
 }

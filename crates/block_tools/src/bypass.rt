@@ -6,6 +6,7 @@ use block_tool_work::{modify, refuse};
 use refusal::{Precision, Refusal};
 
 // The residuals of a block whose levels are its residuals.
+#[tactic(auto, using(block_tool_work::proofs::ResidualLaws::bypass_refused))]
 pub fn bypass_residual(
     levels: &[i32],
     n: usize,

@@ -4,7 +4,7 @@ ghost use Rattle.scaling_blocks.specs.Blocks.{CountWrites};
 ghost use Rattle.block_tool_rules.specs.Residual.{skip_residual};
 
 use block_tool_rules::Accumulate;
-use block_tool_work::{modify, refuse};
+use block_tool_work::modify;
 use parameters::QpPrime;
 use refusal::{Precision, Refusal};
 use scaling_blocks::blocks;
@@ -12,6 +12,7 @@ use scaling_values::ScalingList;
 
 // Kept: rotation and accumulation stand apart, here and in the bypass, as C gives them; the refusals ask for rotation alone.
 // The residuals of a block, and how many of its coefficients were limited.
+#[tactic(auto, unfolding(block_tool_rules::specs::Residual::skip_residual))]
 pub fn transform_skip_residual(
     levels: &[i32],
     n: usize,
@@ -24,9 +25,12 @@ pub fn transform_skip_residual(
 ) -> Result<u16, Refusal>
     ensures { CountWrites result out.new (skip_residual accumulate rotate (list_of list.entry) n qp_prime.0 precision.bit_depth precision.extended levels.now out.old) }
 {
-    if refuse::rotation_named(rotate, n, precision.bit_depth) {
-        return Err(Refusal::RotationSizeInvalid);
-    }
+    refusal::check_size(n)?;
+    refusal::check_depth(precision.bit_depth)?;
+    refusal::check(
+        refusal::rotation_refused(rotate, n),
+        Refusal::RotationSizeInvalid,
+    )?;
     let limited = blocks::transform_skip(levels, n, qp_prime, precision, list, out)?;
     modify::modify_block(n, rotate, accumulate, out);
     Ok(limited)

@@ -4,25 +4,27 @@ ghost use Rattle.h265.specs.Range.{is_size};
 ghost use Rattle.coefficients.specs.Rows.{RowsUsed};
 ghost use Rattle.block_rules.specs.Columns.{column_used, column_count};
 
-// How many of w coefficients from a place on are not zero. No way out of the loop, so that the compiler takes several at a time.
-fn nonzeros(coeff: &[i32], at: usize, w: usize) -> u32
-    requires { (at + w ≤ length coeff.now) × (w ≤ 32) }
-    ensures { result ≡ 0 → (j : ℕ) → j < w → get_or coeff.now (at + j) (pos 0) ≡ pos 0 }
+// How many coefficients of a row are not zero. No way out of the loop, so that the compiler takes several at a time.
+// Kept: a loop that counts; of `row.iter().filter(..).count()`, tried in its place, the compiler takes one coefficient at a time.
+fn nonzeros(row: &[i32]) -> u32
+    requires { length row.now ≤ 32 }
+    ensures { result ≡ 0 → (j : ℕ) → j < length row.now → get_or row.now j (pos 0) ≡ pos 0 }
 {
     let mut found: u32 = 0;
-    for j in 0..w {
-        found += (coeff[at + j] != 0) as u32;
+    for v in row {
+        found += (*v != 0) as u32;
     }
     found
 }
 
-// What `coefficients::rows_used` gives for all columns, with no way out of a row.
+// What `coefficients::rows_used` gives for all columns.
+// Kept: that one leaves a row at the first coefficient other than zero; a row with no way out is read several at a time (docs/DECISIONS.md, 29).
 fn rows_used(coeff: &[i32], n: usize) -> usize
     requires { T (is_size n) × (n * n ≤ length coeff.now) }
     ensures { RowsUsed coeff.now n n result }
 {
     for k in (0..n).rev() {
-        if nonzeros(coeff, k * n, n) != 0 {
+        if nonzeros(&coeff[k * n..k * n + n]) != 0 {
             return k + 1;
         }
     }

@@ -17,8 +17,8 @@ use columns::column_count;
 use refuse::block_refusal;
 
 // Both stages of an opening, over all columns.
-// Kept: the buffers apart, here and below: a struct of lent slices would have to promise for each slice that it stays the same one (its ghost_name),
-// a clause more for each.
+// Kept: the buffers apart, here and below: a struct of lent slices would have to promise for each slice that it stays the same one (its ghost_name).
+// Kept: kind, size, depth and range apart, here and below: refusals, range and stages each take some of them, and would take a struct apart.
 pub fn open_stages(
     kind: Kind,
     n: usize,
@@ -56,16 +56,12 @@ pub fn open_from(
         residual.len(),
     )?;
     let range = coefficients::transform_range(precision);
-    let first = coefficients::first_outside(coeff, n, n, range);
-    if first < n * n {
-        return Err(coefficients::refusal_at(coeff, n, first, range));
-    }
+    coefficients::check_inside(coeff, n, n, range)?;
     open_stages(kind, n, precision.bit_depth, range, coeff, inter, residual);
     Ok(EditedBlock {
         kind,
         size: n,
-        depth: precision.bit_depth,
-        extended: precision.extended,
+        precision,
         columns: column_count(coeff, n),
         source,
     })

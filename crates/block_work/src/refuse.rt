@@ -2,11 +2,13 @@
 ghost use Rattle.std.specs.Prelude.{◌≡◌};
 ghost use Rattle.refusal.specs.Outcome.{accepted, refused, answer};
 ghost use Rattle.block_rules.specs.Edit.{block_ladder};
+ghost use Rattle.block_rules.specs.Work.{PlaceChecked};
 
 use refusal::Refusal;
 use transform_1d::Kind;
 
 // The lowest row that applies, by the lengths of the buffers.
+#[tactic(auto, unfolding(block_rules::specs::Edit::block_ladder))]
 pub fn block_refusal(
     kind: Kind,
     n: usize,
@@ -17,24 +19,20 @@ pub fn block_refusal(
 ) -> Result<(), Refusal>
     ensures { answer result ≡ block_ladder (refused tt) (accepted tt) kind n bit_depth coeff inter residual }
 {
-    if refusal::size_refused(n) {
-        return Err(Refusal::SizeInvalid);
-    }
-    if refusal::depth_refused(bit_depth) {
-        return Err(Refusal::DepthInvalid);
-    }
-    if transform_1d::dst_refused(kind, n) {
-        return Err(Refusal::DstSizeInvalid);
-    }
-    let cells = n * n;
-    if coeff < cells {
-        return Err(Refusal::InputTooShort);
-    }
-    if inter < cells {
-        return Err(Refusal::OutputTooShort);
-    }
-    if residual < cells {
-        return Err(Refusal::OutputTooShort);
+    refusal::check_size(n)?;
+    refusal::check_depth(bit_depth)?;
+    refusal::check(transform_1d::dst_refused(kind, n), Refusal::DstSizeInvalid)?;
+    refusal::check_room(n, coeff, Refusal::InputTooShort)?;
+    refusal::check_room(n, inter, Refusal::OutputTooShort)?;
+    refusal::check_room(n, residual, Refusal::OutputTooShort)
+}
+
+// Row 8 stops an edit whose place lies outside the block.
+pub fn check_place(n: usize, row: usize, column: usize) -> Result<(), Refusal>
+    ensures { PlaceChecked n row column result }
+{
+    if n <= row || n <= column {
+        return Err(Refusal::PlaceOutside);
     }
     Ok(())
 }

@@ -30,8 +30,7 @@ of_block r =
     record {
       kind = kind_of r.dst;
       size = r.size;
-      depth = r.depth;
-      extended = r.extended;
+      precision = record { bit_depth = r.depth; extended = r.extended };
       columns = r.columns;
       source = record { levels = r.levels; qp_prime = record { 0 = r.qp_prime }; listed = r.listed; dc = r.dc; entries = r.entries };
     }

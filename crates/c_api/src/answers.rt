@@ -1,5 +1,5 @@
 // Each answer of the library as a record of numbers: a refusal's number, row, column and place, and the values, zeros on refusal.
-// Kept: C has each record flat (include/residual.h), so that what all of them begin with is no struct of its own, and each has its own `From`.
+// Kept: C's structs have number, row, column and place as fields of their own (include/residual.h), so that there is no struct for the four, and each answer has its own `From`.
 ghost use Rattle.std.specs.Prelude.{◌≡◌};
 ghost use Rattle.refusal.specs.Outcome.{refused, outcome};
 ghost use Rattle.parameters.specs.Answers.{no_qp_prime, no_dequant, no_transform_skip};

@@ -21,7 +21,8 @@ use refusal::{Precision, Refusal};
 use scaling_values::ScalingList;
 use transform_1d::Kind;
 
-// Kept: neither `Kind` nor `bool` is declared here, so that no `From` can stand here; so for `is_dst`.
+// The kind that C hands over as a flag.
+// Kept: a `From<bool>` can only stand where `Kind` is declared, and that true is the DST is C's alone (the parameter `dst`); so for `is_dst`.
 pub(crate) fn kind_of(dst: bool) -> Kind
     ensures { result ≡ kind_of dst }
 {
@@ -46,8 +47,7 @@ impl From<Block> for EditedBlock {
         EditedBlock {
             kind: kind_of(given.dst),
             size: given.size,
-            depth: given.depth,
-            extended: given.extended,
+            precision: Precision::new(given.depth, given.extended),
             columns: given.columns,
             source: Source {
                 levels: given.levels,
@@ -70,8 +70,8 @@ impl From<EditedBlock> for Block {
         Block {
             dst: is_dst(block.kind),
             size: block.size,
-            depth: block.depth,
-            extended: block.extended,
+            depth: block.precision.bit_depth,
+            extended: block.precision.extended,
             columns: block.columns,
             levels: source.levels,
             qp_prime: source.qp_prime.0,
@@ -164,10 +164,7 @@ pub fn residual_open_block(
 ) -> BlockAnswered
     ensures { Opens (opened_as (on_coefficients (kind_of dst) n bit_depth extended_precision) (buffers coeff.now inter.old residual.old)) result inter.new residual.new }
 {
-    let precision = Precision {
-        bit_depth,
-        extended: extended_precision,
-    };
+    let precision = Precision::new(bit_depth, extended_precision);
     BlockAnswered::from(edited_block::open_block(
         kind_of(dst),
         n,
@@ -192,10 +189,7 @@ pub fn residual_open_levels(
 ) -> BlockAnswered
     ensures { LevelOpens (level_opened (on_levels (kind_of dst) n bit_depth extended_precision qp_prime) levels.now (buffers coeff.old inter.old residual.old)) result coeff.new inter.new residual.new }
 {
-    let precision = Precision {
-        bit_depth,
-        extended: extended_precision,
-    };
+    let precision = Precision::new(bit_depth, extended_precision);
     BlockAnswered::from(level_block::open_levels(
         kind_of(dst),
         n,
@@ -225,10 +219,7 @@ pub fn residual_open_levels_scaled(
 ) -> BlockAnswered
     ensures { LevelOpens (level_opened (on_scaled_levels (kind_of dst) n bit_depth extended_precision qp_prime list.now dc) levels.now (buffers coeff.old inter.old residual.old)) result coeff.new inter.new residual.new }
 {
-    let precision = Precision {
-        bit_depth,
-        extended: extended_precision,
-    };
+    let precision = Precision::new(bit_depth, extended_precision);
     BlockAnswered::from(level_block::open_levels(
         kind_of(dst),
         n,
@@ -281,17 +272,11 @@ pub fn residual_edit_level(
 
 // What C gets of a list: zeros where the opening was refused.
 impl From<Result<Listed, Refusal>> for ListAnswered {
-    ghost from_gives = { λ listed told. let l = outcome (listed_as 0 zero_block 0) listed in (BlockIs (block_of_list told) (valued l.value.limited l) l.value.block) × (told.edits ≡ l.value.edits) };
+    ghost from_gives = { λ listed told. let l = outcome (listed_as 0 zero_block 0) listed in (BlockIs (block_of_list told) (valued l.value.opened.limited l) l.value.opened.block) × (told.edits ≡ l.value.edits) };
 
     fn from(listed: Result<Listed, Refusal>) -> ListAnswered {
         let (opened, edits) = match listed {
-            Ok(l) => (
-                Ok(LevelsOpened {
-                    limited: l.limited,
-                    block: l.block,
-                }),
-                l.edits,
-            ),
+            Ok(l) => (Ok(l.opened), l.edits),
             Err(why) => (Err(why), 0),
         };
         let told = BlockAnswered::from(opened);
@@ -330,10 +315,7 @@ pub fn residual_open_and_edit(
 ) -> ListAnswered
     ensures { Lists (on_coefficients (kind_of dst) n bit_depth extended_precision) levels.old (buffers coeff.old inter.old residual.old) (edits_of (edit_count (length rows.now) (length columns.now) (length values.now) (length ways.now) (slices numbers.old named.old across.old limits.old)) rows.now columns.now values.now ways.now) (slices numbers.old named.old across.old limits.old) result levels.new (buffers coeff.new inter.new residual.new) (slices numbers.new named.new across.new limits.new) }
 {
-    let precision = Precision {
-        bit_depth,
-        extended: extended_precision,
-    };
+    let precision = Precision::new(bit_depth, extended_precision);
     ListAnswered::from(edited_list::open_and_edit(
         kind_of(dst),
         n,
@@ -375,10 +357,7 @@ pub fn residual_open_levels_and_edit(
 ) -> ListAnswered
     ensures { Lists (on_levels (kind_of dst) n bit_depth extended_precision qp_prime) levels.old (buffers coeff.old inter.old residual.old) (edits_of (edit_count (length rows.now) (length columns.now) (length values.now) (length ways.now) (slices numbers.old named.old across.old limits.old)) rows.now columns.now values.now ways.now) (slices numbers.old named.old across.old limits.old) result levels.new (buffers coeff.new inter.new residual.new) (slices numbers.new named.new across.new limits.new) }
 {
-    let precision = Precision {
-        bit_depth,
-        extended: extended_precision,
-    };
+    let precision = Precision::new(bit_depth, extended_precision);
     ListAnswered::from(edited_list::open_levels_and_edit(
         kind_of(dst),
         n,
@@ -424,10 +403,7 @@ pub fn residual_open_levels_scaled_and_edit(
 ) -> ListAnswered
     ensures { Lists (on_scaled_levels (kind_of dst) n bit_depth extended_precision qp_prime list.now dc) levels.old (buffers coeff.old inter.old residual.old) (edits_of (edit_count (length rows.now) (length columns.now) (length values.now) (length ways.now) (slices numbers.old named.old across.old limits.old)) rows.now columns.now values.now ways.now) (slices numbers.old named.old across.old limits.old) result levels.new (buffers coeff.new inter.new residual.new) (slices numbers.new named.new across.new limits.new) }
 {
-    let precision = Precision {
-        bit_depth,
-        extended: extended_precision,
-    };
+    let precision = Precision::new(bit_depth, extended_precision);
     ListAnswered::from(edited_list::open_levels_and_edit(
         kind_of(dst),
         n,
@@ -460,9 +436,6 @@ pub fn residual_refresh_residual(
 ) -> Answered
     ensures { Writes result residual.new (refreshed (kind_of dst) n bit_depth extended_precision inter.now residual.old) }
 {
-    let precision = Precision {
-        bit_depth,
-        extended: extended_precision,
-    };
+    let precision = Precision::new(bit_depth, extended_precision);
     edited_block::refresh_residual(kind_of(dst), n, precision, inter, residual).into()
 }

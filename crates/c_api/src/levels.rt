@@ -32,10 +32,7 @@ pub fn residual_scale_level(
 ) -> LevelAnswered
     ensures { of_level result ≡ scaled_level level m n qp_prime bit_depth extended_precision }
 {
-    let precision = Precision {
-        bit_depth,
-        extended: extended_precision,
-    };
+    let precision = Precision::new(bit_depth, extended_precision);
     let qp = QpPrime(qp_prime);
     scaling::scale_level(level, m, n, qp, precision).into()
 }
@@ -51,10 +48,7 @@ pub fn residual_dequantize_into_scalar_i32(
 ) -> CountAnswered
     ensures { CountWrites result out.new (dequantized bits32 flat n qp_prime bit_depth extended_precision levels.now out.old) }
 {
-    let precision = Precision {
-        bit_depth,
-        extended: extended_precision,
-    };
+    let precision = Precision::new(bit_depth, extended_precision);
     scaling_wide::dequantize_into_scalar_i32(levels, n, QpPrime(qp_prime), precision, out).into()
 }
 
@@ -71,10 +65,7 @@ pub fn residual_dequantize_scaled_into_scalar_i32(
 ) -> CountAnswered
     ensures { CountWrites result out.new (dequantized bits32 (listed list.now dc) n qp_prime bit_depth extended_precision levels.now out.old) }
 {
-    let precision = Precision {
-        bit_depth,
-        extended: extended_precision,
-    };
+    let precision = Precision::new(bit_depth, extended_precision);
     scaling_wide::dequantize_scaled_into_scalar_i32(
         levels,
         n,
@@ -97,10 +88,7 @@ pub fn residual_dequantize_transform_skip_into_scalar_i32(
 ) -> CountAnswered
     ensures { CountWrites result out.new (transform_skipped bits32 flat n qp_prime bit_depth extended_precision levels.now out.old) }
 {
-    let precision = Precision {
-        bit_depth,
-        extended: extended_precision,
-    };
+    let precision = Precision::new(bit_depth, extended_precision);
     scaling_wide::dequantize_transform_skip_into_scalar_i32(
         levels,
         n,
@@ -123,10 +111,7 @@ pub fn residual_dequantize_transform_skip_scaled_into_scalar_i32(
 ) -> CountAnswered
     ensures { CountWrites result out.new (transform_skipped bits32 (listed list.now dc) n qp_prime bit_depth extended_precision levels.now out.old) }
 {
-    let precision = Precision {
-        bit_depth,
-        extended: extended_precision,
-    };
+    let precision = Precision::new(bit_depth, extended_precision);
     scaling_wide::dequantize_transform_skip_scaled_into_scalar_i32(
         levels,
         n,
@@ -149,10 +134,7 @@ pub fn residual_dequantize_into_scalar_i16(
 ) -> CountAnswered
     ensures { CountWrites result out.new (dequantized bits16 flat n qp_prime bit_depth extended_precision levels.now out.old) }
 {
-    let precision = Precision {
-        bit_depth,
-        extended: extended_precision,
-    };
+    let precision = Precision::new(bit_depth, extended_precision);
     scaling_narrow::dequantize_into_scalar_i16(levels, n, QpPrime(qp_prime), precision, out).into()
 }
 
@@ -169,10 +151,7 @@ pub fn residual_dequantize_scaled_into_scalar_i16(
 ) -> CountAnswered
     ensures { CountWrites result out.new (dequantized bits16 (listed list.now dc) n qp_prime bit_depth extended_precision levels.now out.old) }
 {
-    let precision = Precision {
-        bit_depth,
-        extended: extended_precision,
-    };
+    let precision = Precision::new(bit_depth, extended_precision);
     scaling_narrow::dequantize_scaled_into_scalar_i16(
         levels,
         n,
@@ -195,10 +174,7 @@ pub fn residual_dequantize_transform_skip_into_scalar_i16(
 ) -> CountAnswered
     ensures { CountWrites result out.new (transform_skipped bits16 flat n qp_prime bit_depth extended_precision levels.now out.old) }
 {
-    let precision = Precision {
-        bit_depth,
-        extended: extended_precision,
-    };
+    let precision = Precision::new(bit_depth, extended_precision);
     scaling_narrow::dequantize_transform_skip_into_scalar_i16(
         levels,
         n,
@@ -221,10 +197,7 @@ pub fn residual_dequantize_transform_skip_scaled_into_scalar_i16(
 ) -> CountAnswered
     ensures { CountWrites result out.new (transform_skipped bits16 (listed list.now dc) n qp_prime bit_depth extended_precision levels.now out.old) }
 {
-    let precision = Precision {
-        bit_depth,
-        extended: extended_precision,
-    };
+    let precision = Precision::new(bit_depth, extended_precision);
     scaling_narrow::dequantize_transform_skip_scaled_into_scalar_i16(
         levels,
         n,

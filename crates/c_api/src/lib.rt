@@ -1,4 +1,4 @@
-// The library for C and Rust: the entry points that take and give plain data (docs/ARCHITECTURE.md names those that do not) under the prefix residual_, those of pictures under picture_, with numbers and slices as arguments and one record of numbers as answer. include/residual.h and include/picture.h declare the same for C.
+// The library for C and Rust: the entry points that take and give plain data (docs/ARCHITECTURE.md names those that do not) under the prefix residual_, those of pictures under picture_, with numbers, slices and the record of an edited block as arguments and a record or one number as answer. include/residual.h and include/picture.h declare the same for C.
 #![tactic(auto)]
 
 mod answers;
@@ -58,8 +58,9 @@ pub use transforms::{
 };
 pub use version::residual_version;
 
-// What a call answers: 0, or a refusal's number with its place: a row and a column for a coefficient, else one number. The other records
-// add the values, zeros on refusal.
+// What a call answers: 0, or a refusal's number with its place: a row and a column for a coefficient, else one number. The other answers
+// add the values, zeros on refusal, and of edited blocks the record.
+// Kept: number, row, column and place are fields of every answer itself, as in C's structs (include/residual.h): a struct for the four would make each another one for C.
 #[repr(C)]
 #[derive(Clone, Copy, Default)]
 pub struct Answered {
@@ -165,8 +166,8 @@ pub struct TransformSkipAnswered {
     pub tr_shift: i32,
 }
 
-// Kept: C has no options, so that flags say what was given.
 // The record of an edited block, as it goes from call to call: `dst` is its kind; from `levels` on, how it was opened and what its levels are scaled by.
+// Kept: C's struct (`residual_block`) has the kind as the flag `dst`, depth and flag apart, and flags for what was given, since C has no `Option`.
 #[repr(C)]
 #[derive(Clone, Copy)]
 pub struct Block {
@@ -221,7 +222,7 @@ pub struct ListAnswered {
 }
 
 // Whether there was room, and where the text ends; 0 without room.
-// Kept: C has no options.
+// Kept: a flag with the end beside it, as in C's struct (`residual_ran`), since C has no `Option`.
 #[repr(C)]
 #[derive(Clone, Copy)]
 pub struct FeedRan {

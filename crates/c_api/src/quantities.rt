@@ -17,10 +17,7 @@ pub fn residual_max_log2_transform_dynamic_range(
 ) -> NumberAnswered
     ensures { of_number result ≡ max_log2_transform_dynamic_range bit_depth extended_precision }
 {
-    let precision = Precision {
-        bit_depth,
-        extended: extended_precision,
-    };
+    let precision = Precision::new(bit_depth, extended_precision);
     parameters::max_log2_transform_dynamic_range(precision).into()
 }
 
@@ -47,10 +44,7 @@ pub fn residual_dequant_params(
 ) -> DequantAnswered
     ensures { of_dequant result ≡ dequant_params n qp_prime bit_depth extended_precision }
 {
-    let precision = Precision {
-        bit_depth,
-        extended: extended_precision,
-    };
+    let precision = Precision::new(bit_depth, extended_precision);
     let qp = QpPrime(qp_prime);
     parameters::dequant_params(n, qp, precision).into()
 }
@@ -64,10 +58,7 @@ pub fn residual_transform_skip_params(
 ) -> TransformSkipAnswered
     ensures { of_transform_skip result ≡ transform_skip_params n qp_prime bit_depth extended_precision }
 {
-    let precision = Precision {
-        bit_depth,
-        extended: extended_precision,
-    };
+    let precision = Precision::new(bit_depth, extended_precision);
     let qp = QpPrime(qp_prime);
     parameters::transform_skip_params(n, qp, precision).into()
 }
@@ -81,10 +72,7 @@ pub fn residual_rounding_bound(
 ) -> NumberAnswered
     ensures { of_number result ≡ rounding_bound_of (kind_of dst) n bit_depth extended_precision }
 {
-    let precision = Precision {
-        bit_depth,
-        extended: extended_precision,
-    };
+    let precision = Precision::new(bit_depth, extended_precision);
     let kind = edits::kind_of(dst);
     rounding::rounding_bound(kind, n, precision).into()
 }

@@ -28,10 +28,7 @@ pub fn residual_find_edits(
 ) -> Answered
     ensures { Finds result least.new most.new (edits_found (kind_of dst) n bit_depth extended_precision coeff.now target.now wanted.now least.old most.old) }
 {
-    let precision = Precision {
-        bit_depth,
-        extended: extended_precision,
-    };
+    let precision = Precision::new(bit_depth, extended_precision);
     edit_search::find_edits(
         edits::kind_of(dst),
         n,
@@ -60,10 +57,7 @@ pub fn residual_find_level_edits(
 ) -> Answered
     ensures { Finds result least.new most.new (level_edits_found flat (kind_of dst) n qp_prime bit_depth extended_precision levels.now target.now wanted.now least.old most.old) }
 {
-    let precision = Precision {
-        bit_depth,
-        extended: extended_precision,
-    };
+    let precision = Precision::new(bit_depth, extended_precision);
     level_edits::find_level_edits(
         edits::kind_of(dst),
         n,
@@ -96,10 +90,7 @@ pub fn residual_find_level_edits_scaled(
 ) -> Answered
     ensures { Finds result least.new most.new (level_edits_found (listed list.now dc) (kind_of dst) n qp_prime bit_depth extended_precision levels.now target.now wanted.now least.old most.old) }
 {
-    let precision = Precision {
-        bit_depth,
-        extended: extended_precision,
-    };
+    let precision = Precision::new(bit_depth, extended_precision);
     level_edits::find_level_edits(
         edits::kind_of(dst),
         n,

@@ -1,5 +1,5 @@
 // Scaling lists of two streams in one lent table.
-// Kept: C has each function under a name of its own, by the width of its output, and hands over depth and flag, and a list and its DC, apart.
+// Kept: C has each function under a name of its own, by the width of its output, and hands over depth and flag, a list and its DC, and table, stream and number, apart.
 ghost use Rattle.scaling_blocks.specs.Blocks.{bits16, bits32};
 ghost use Rattle.list_places.specs.Table.{stream_of, short};
 ghost use Rattle.list_blocks.specs.Scale.{block, scale_answer};
@@ -54,10 +54,7 @@ pub fn residual_dequantize_by_number_i32(
 ) -> CountAnswered
     ensures { CountWrites result out.new (scale_answer (short table.now) stream (stream_of table.now stream) number (block coefficients bits32 n qp_prime bit_depth extended_precision levels.now) out.old) }
 {
-    let precision = Precision {
-        bit_depth,
-        extended: extended_precision,
-    };
+    let precision = Precision::new(bit_depth, extended_precision);
     list_blocks::dequantize_by_number(
         table,
         stream,
@@ -85,10 +82,7 @@ pub fn residual_dequantize_by_number_i16(
 ) -> CountAnswered
     ensures { CountWrites result out.new (scale_answer (short table.now) stream (stream_of table.now stream) number (block coefficients bits16 n qp_prime bit_depth extended_precision levels.now) out.old) }
 {
-    let precision = Precision {
-        bit_depth,
-        extended: extended_precision,
-    };
+    let precision = Precision::new(bit_depth, extended_precision);
     list_blocks::dequantize_by_number(
         table,
         stream,
@@ -116,10 +110,7 @@ pub fn residual_dequantize_transform_skip_by_number_i32(
 ) -> CountAnswered
     ensures { CountWrites result out.new (scale_answer (short table.now) stream (stream_of table.now stream) number (block residuals bits32 n qp_prime bit_depth extended_precision levels.now) out.old) }
 {
-    let precision = Precision {
-        bit_depth,
-        extended: extended_precision,
-    };
+    let precision = Precision::new(bit_depth, extended_precision);
     list_blocks::transform_skip_by_number(
         table,
         stream,
@@ -147,10 +138,7 @@ pub fn residual_dequantize_transform_skip_by_number_i16(
 ) -> CountAnswered
     ensures { CountWrites result out.new (scale_answer (short table.now) stream (stream_of table.now stream) number (block residuals bits16 n qp_prime bit_depth extended_precision levels.now) out.old) }
 {
-    let precision = Precision {
-        bit_depth,
-        extended: extended_precision,
-    };
+    let precision = Precision::new(bit_depth, extended_precision);
     list_blocks::transform_skip_by_number(
         table,
         stream,

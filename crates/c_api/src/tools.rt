@@ -13,7 +13,8 @@ use parameters::QpPrime;
 use refusal::Precision;
 use scaling_values::ScalingList;
 
-// Kept: neither type is declared here, so that no `From` can stand here.
+// The way of accumulation that C hands over as a number: 0, 1, or any other.
+// Kept: a `From<u8>` can only stand where `Accumulate` is declared, and what the numbers stand for is C's alone.
 fn accumulate_of(accumulate: u8) -> Accumulate
     ensures { result ≡ accumulate_of accumulate }
 {
@@ -37,10 +38,7 @@ pub fn residual_transform_skip_residual(
 ) -> CountAnswered
     ensures { CountWrites result out.new (skip_residual (accumulate_of accumulate) rotate flat n qp_prime bit_depth extended_precision levels.now out.old) }
 {
-    let precision = Precision {
-        bit_depth,
-        extended: extended_precision,
-    };
+    let precision = Precision::new(bit_depth, extended_precision);
     block_tools::transform_skip_residual(
         levels,
         n,
@@ -69,10 +67,7 @@ pub fn residual_transform_skip_scaled_residual(
 ) -> CountAnswered
     ensures { CountWrites result out.new (skip_residual (accumulate_of accumulate) rotate (listed list.now dc) n qp_prime bit_depth extended_precision levels.now out.old) }
 {
-    let precision = Precision {
-        bit_depth,
-        extended: extended_precision,
-    };
+    let precision = Precision::new(bit_depth, extended_precision);
     block_tools::transform_skip_residual(
         levels,
         n,
@@ -98,10 +93,7 @@ pub fn residual_bypass_residual(
 ) -> Answered
     ensures { Writes result out.new (bypass_residual (accumulate_of accumulate) rotate n bit_depth extended_precision levels.now out.old) }
 {
-    let precision = Precision {
-        bit_depth,
-        extended: extended_precision,
-    };
+    let precision = Precision::new(bit_depth, extended_precision);
     block_tools::bypass_residual(
         levels,
         n,
@@ -123,10 +115,7 @@ pub fn residual_find_levels(
 ) -> Answered
     ensures { Writes result levels.new (levels_found flat n qp_prime bit_depth extended_precision coeff.now levels.old) }
 {
-    let precision = Precision {
-        bit_depth,
-        extended: extended_precision,
-    };
+    let precision = Precision::new(bit_depth, extended_precision);
     level_search::find_levels(
         coeff,
         n,
@@ -151,10 +140,7 @@ pub fn residual_find_levels_scaled(
 ) -> Answered
     ensures { Writes result levels.new (levels_found (listed list.now dc) n qp_prime bit_depth extended_precision coeff.now levels.old) }
 {
-    let precision = Precision {
-        bit_depth,
-        extended: extended_precision,
-    };
+    let precision = Precision::new(bit_depth, extended_precision);
     level_search::find_levels(
         coeff,
         n,

@@ -1,5 +1,5 @@
 // Scaling lists read from the bitstream, and written to one.
-// Kept: C lends each of the three default lists, the lists, and their DC numbers apart.
+// Kept: C lends the three default lists, the 20 lists and their DC numbers apart, each as a slice of its own.
 ghost use Rattle.scaling_lists.specs.Answers.{lists_read};
 ghost use Rattle.scaling_lists_codes.specs.Syntax.{defaults};
 ghost use Rattle.scaling_lists_writer.specs.Answers.{lists_written};

@@ -1,4 +1,6 @@
 // What the two programs on scaling lists share: the default lists of a file of cases, and the mark in the buffers that a case lends.
+ghost use Rattle.std.specs.Prelude.{◌≡◌, ◌<◌, true, ℕ, length, get_or};
+
 use crate::writing;
 use refusal::Refusal;
 use std::io::Read;
@@ -23,7 +25,9 @@ impl Defaults {
 }
 
 // Whether every element is still the mark.
-pub fn kept(xs: &[u8]) -> bool {
+pub fn kept(xs: &[u8]) -> bool
+    ensures { result ≡ true → (i : ℕ) → i < length xs.now → get_or xs.now i 0 ≡ 7 }
+{
     xs.iter().all(|x| *x == 7)
 }
 

@@ -1,5 +1,5 @@
 // What the programs of cases share: numbers read from a file of cases, low byte first, and numbers and answers written to standard output. Nothing is known of
-// what a file holds, and nothing is handed back by what writes, so that these functions state lengths and bounds alone.
+// what a file holds, and nothing is handed back by what writes, so that these functions state lengths, bounds, and what a value stands for.
 #![tactic(auto)]
 
 mod defaults;

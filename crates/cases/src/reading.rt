@@ -1,11 +1,12 @@
 // The next numbers of a file of cases. Where the file ends, zeros.
-ghost use Rattle.std.specs.Prelude.{◌≤◌};
+ghost use Rattle.std.specs.Prelude.{◌≡◌, ◌≤◌, cond, eqb};
 
 use refusal::Precision;
 use std::io::Read;
 use transform_1d::Kind;
 
 // A number that a file of cases holds, its low byte first.
+// Kept: five impls alike, since the count of bytes and `from_le_bytes` are each type's own; a trait of the two would have as many impls.
 pub trait Number: Copy + PartialEq {
     fn next_in(input: &mut impl Read) -> Self;
 }
@@ -92,10 +93,7 @@ pub fn next_short_length(input: &mut impl Read, most: usize) -> usize
 
 // Depth and the flag of extended precision, a byte each.
 pub fn next_precision(input: &mut impl Read) -> Precision {
-    Precision {
-        bit_depth: next(input),
-        extended: next::<u8>(input) != 0,
-    }
+    Precision::new(next(input), next::<u8>(input) != 0)
 }
 
 // A byte, 0 for the DCT.
@@ -107,7 +105,9 @@ pub fn next_kind(input: &mut impl Read) -> Kind {
 }
 
 // The number that a byte stands for, where 255 is the largest number there is.
-pub fn named(byte: u8) -> usize {
+pub fn named(byte: u8) -> usize
+    ensures { result ≡ cond (eqb byte 255) 18446744073709551615 byte }
+{
     if byte == 255 {
         usize::MAX
     } else {
@@ -130,7 +130,7 @@ pub fn read_indices(input: &mut impl Read, xs: &mut [usize]) {
 }
 
 // A byte of length, then as many of text, which are written as they are; answers whether there was a text.
-// Kept: it goes from a reader to standard output, and there is no slice to copy into.
+// Kept: a copy by name alone: it goes from a reader to standard output, and std has no method for that.
 pub fn copy_text(rt: &impl Print, input: &mut impl Read) -> bool {
     let mut head = [0u8; 1];
     let mut room = [0u8; 256];

@@ -5,7 +5,8 @@
 --   xor_mask_run     the mask in a run of 128 columns
 --   run_term_eq      what a sample of a run adds is what its column does
 --   total_zero, total_suc, total_add, total_cong   no term, one more, several more, equal terms
-use Rattle.std.proofs.Common.{◌≡◌, ℕ, zero, suc, ◌+◌, ◌*◌, ◌/◌, ◌%◌, ◌^◌, ◌<◌, List, get_or, sym, refl, ap, ◌∙◌, ap₂, add-zero, add_assoc, add-suc, mod-lt, add-one, arith}
+use Rattle.std.proofs.Common.{◌≡◌, ℕ, zero, suc, ◌+◌, ◌*◌, ◌/◌, ◌%◌, ◌^◌, ◌<◌, ◌≤◌, List, get_or, take, drop, sym, refl, ap, ◌∙◌, ap₂, add-zero, add_assoc, add-suc, mod-lt, add-one, arith}
+use Rattle.std.proofs.lemmas.List.{get_or-take, get_or-drop}
 use lib.Arith.{bin_ind}
 use lib.Bits.{bit_xor, differ, xor_lt, xor_step, xor_shr, xor_mod, xor_comm, xor_shifted}
 use Rattle.checksum.specs.Checksum.{xor_mask, sample_term, total, column_term, run_term}
@@ -82,8 +83,9 @@ total_cong zero f g h = refl
 total_cong (suc c) f g h = ap₂ ◌+◌ (total_cong c f g (λ k l. h k (omega arith))) (h c (omega arith))
 
 -- a sample of a run is one of its row
-pub run_term_eq : (b first x y k : ℕ) (plane : List ℕ) {m : ℕ} → m ≡ xor_mask x y → x % 128 ≡ 0 → k < 128
-    → run_term b (first + x) m plane k ≡ column_term b first y plane (x + k)
+pub run_term_eq : (b first x y n k : ℕ) (plane : List ℕ) {m : ℕ} → m ≡ xor_mask x y → x % 128 ≡ 0 → k < n → n ≤ 128
+    → run_term b m (take n (drop (first + x) plane)) k ≡ column_term b first y plane (x + k)
 unfolding run_term column_term
-run_term_eq b first x y k plane e h l =
-    ap₂ (λ (i n : ℕ). sample_term b (get_or plane i 0) n) (add_assoc first x k) (ap (bit_xor k) e ∙ sym (xor_mask_run x y k h l))
+run_term_eq b first x y n k plane e h l s =
+    ap₂ (sample_term b) (get_or-take n (drop (first + x) plane) k 0 l ∙ get_or-drop (first + x) plane k 0 ∙ ap (λ (i : ℕ). get_or plane i 0) (add_assoc first x k))
+    (ap (bit_xor k) e ∙ sym (xor_mask_run x y k h (omega arith)))

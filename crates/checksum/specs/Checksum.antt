@@ -39,5 +39,5 @@ checksummed b width height stride plane =
     (cond (picture_refused width height stride (length plane)) (refused 0 PictureInvalid)
     (accepted (picture_checksum b width height stride plane)))
 
-unfoldable pub run_term : ℕ → ℕ → ℕ → List ℕ → ℕ → ℕ
-run_term b at m plane k = sample_term b (slice_index plane (at + k)) (bit_xor k m)
+unfoldable pub run_term : ℕ → ℕ → List ℕ → ℕ → ℕ
+run_term b m run k = sample_term b (slice_index run k) (bit_xor k m)

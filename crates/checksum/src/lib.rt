@@ -28,21 +28,22 @@ fn sample_term(bit_depth: u8, sample: u16, mask: u16) -> u16
     }
 }
 
-// What the samples of a run add, which stand from `at` on; the mask is that of its first column. In a run of 128 columns the mask changes by the
-// column's low bits alone and 16 bits hold the sum, so that the compiler takes eight samples at a time.
-fn run_total(bit_depth: u8, at: usize, count: usize, mask: u16, plane: &[u16]) -> u16
-    requires { (count ≤ 128) × (mask < 256) × (at + count ≤ length plane.now) }
-    ensures { (result ≡ total count (run_term bit_depth at mask plane.now)) × (result ≤ 510 * count) }
+// What the samples of a run add; the mask is that of its first column. In a run of 128 columns the mask changes by the column's low
+// bits alone and 16 bits hold the sum, so that the compiler takes eight samples at a time.
+fn run_total(bit_depth: u8, mask: u16, run: &[u16]) -> u16
+    requires { (length run.now ≤ 128) × (mask < 256) }
+    ensures { (result ≡ total (length run.now) (run_term bit_depth mask run.now)) × (result ≤ 510 * length run.now) }
 {
     let mut sum: u16 = 0;
-    for k in 0..count {
-        let term = sample_term(bit_depth, plane[at + k], (k as u16) ^ mask);
+    for k in 0..run.len() {
+        let term = sample_term(bit_depth, run[k], (k as u16) ^ mask);
         sum += term;
     }
     sum
 }
 
 // What row y adds: at most 510 for each of 16,384 samples.
+// Kept: width and start beside the plane: the definition goes by them, and a slice of the row would need a law that its total is the same; `run_total` takes slices.
 fn row_total(bit_depth: u8, width: usize, first: usize, y: u16, plane: &[u16]) -> u32
     requires { (width ≤ 16384) × (first + width ≤ length plane.now) }
     ensures { result ≡ row_total bit_depth width first y plane.now }
@@ -51,7 +52,8 @@ fn row_total(bit_depth: u8, width: usize, first: usize, y: u16, plane: &[u16]) -
     for x in (0..width).step_by(128) {
         let mask = xor_mask(x as u16, y);
         let count = (width - x).min(128);
-        let run = run_total(bit_depth, first + x, count, mask, plane);
+        let from = first + x;
+        let run = run_total(bit_depth, mask, &plane[from..from + count]);
         sum += run as u32;
     }
     sum
@@ -71,14 +73,11 @@ fn rows_total(bit_depth: u8, extent: Extent, plane: &[u16]) -> u32
 }
 
 // The checksum of the picture in a plane, whose samples may be any numbers.
+#[tactic(auto, using(planes::proofs::PictureLaws::picture_accepted), unfolding(crate::specs::Checksum::checksummed))]
 pub fn picture_checksum(extent: Extent, bit_depth: u8, plane: &[u16]) -> Result<u32, Refusal>
     ensures { outcome 0 result ≡ checksummed bit_depth extent.width extent.height extent.stride plane.now }
 {
-    if refusal::depth_refused(bit_depth) {
-        return Err(Refusal::DepthInvalid);
-    }
-    if extent.refused(plane.len()) {
-        return Err(Refusal::PictureInvalid);
-    }
+    refusal::check_depth(bit_depth)?;
+    extent.check(plane.len())?;
     Ok(rows_total(bit_depth, extent, plane))
 }

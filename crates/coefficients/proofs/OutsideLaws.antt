@@ -7,6 +7,8 @@
 --   first_outside-inside   what a search that found none says of each place
 --   outside_at-row       the test at row k and column c
 --   none-part, none_row   a part of a row without one, and a whole row
+--   none_passes, flat_passes  a block that passes, by its rows and all at once
+--   row_passes, row_refuses   what the test of row k says of the block
 use mathlib.Core.Path.{◌≡◌, refl, sym, ap, ◌∙◌}
 use mathlib.Core.Bool.{Bool, true, false, ◌&&◌}
 use mathlib.Core.List.{List}
@@ -15,23 +17,27 @@ use native.Mathlib.Nat.{not-suc-le-zero, suc-mul, lt_of_lt_of_le}
 use native.Mathlib.Numerals.{add-one}
 use native.Mathlib.Decide.{ℕ_discrete, dec_lt}
 use native.Mathlib.Omega.{arith}
-use borrow.Author.Tests.{lt-ltb, le-ltb}
-use lib.Arith.{digits_mod, digits_lt}
+use borrow.Author.Tests.{lt-ltb, le-ltb, ltb-true, ltb-false}
+use lib.Arith.{digits_div, digits_mod, digits_lt}
 use lib.Dec.{ltb}
 use lib.Bits.{bit_or, and_le_l, and_le_r, or_add_and}
 use lib.IntN.{ℤ, pos, negsuc, neg_ℤ, ◌-ℤ◌}
-use lib.ListN.{get_or}
+use lib.ListN.{get_or, length, take}
+use lib.Seq.{length-take-le, get_or-take}
 use lib.Pow.{pow_pos, pow_mono}
 use lib.Signed.{lt_z, mag}
 use mir.Syntax.{w32}
 use mir.Val.{SFits}
+use Rattle.std.specs.Prelude.{Ok, Err}
+use Rattle.integers.specs.Search.{first_where}
 use Rattle.integers.specs.Within.{Within}
 use Rattle.integers.proofs.BoundLaws.{within_fits, within_le}
 use Rattle.integers.proofs.LinearLaws.{parts_add, parts_neg, le_out}
 use Rattle.integers.proofs.MachineLaws.{lt_z_of_le}
-use Rattle.integers.proofs.SearchLaws.{None, first_where_first}
+use Rattle.integers.proofs.SearchLaws.{None, none_le, first_where-none, first_where_found, first_where_first}
 use Rattle.h265.specs.Range.{coeff_min, coeff_max, outside_range}
-use Rattle.coefficients.specs.Outside.{outside_at, first_outside}
+use Rattle.refusal.specs.declared.Refusal.{Refusal}
+use Rattle.coefficients.specs.Outside.{outside_at, first_outside, outside_refusal, refusal_at, RowChecked, InsideChecked}
 
 pub range_fits : (r : ℕ) {z : ℤ} → r ≤ 22 → Within (2 ^ r) z → SFits w32 z
 range_fits r h w = within_fits {b = 4194304} tt (within_le (pow_mono h) w)
@@ -132,6 +138,43 @@ module _ (r n nx : ℕ) (xs : List ℤ) where
                 let s : (k + 1) * n ≡ k * n + n = ap (λ (j : ℕ). j * n) (add-one k) ∙ suc-mul k n in
                 rw (← e) (in_row (i - k * n) (omega arith))
           ]
+
+  pub none_passes : None (outside_at r n nx xs) (n * n) → InsideChecked r n nx xs (Ok tt)
+  unfolding first_outside
+  none_passes f = rw (first_where-none (n * n) (omega arith) f) (le-ltb (n * n) (n * n) (omega arith))
+
+  pub flat_passes : n * n ≤ length xs
+      → ((i : ℕ) → i < length (take (n * n) xs) → outside_range r (get_or (take (n * n) xs) i (pos 0)) ≡ false) → InsideChecked r n nx xs (Ok tt)
+  flat_passes h f = none_passes (none_flat (n * n) inside)
+    where
+      inside : (i : ℕ) → i < n * n → outside_range r (get_or xs i (pos 0)) ≡ false
+      inside i l = rw (get_or-take (n * n) xs i (pos 0) l) at (f i (rw (length-take-le (n * n) xs h) l))
+
+  -- row k by itself: ys are its columns that are read
+  module _ (k : ℕ) (ys : List ℤ) (long : length ys ≡ nx) (same : (c : ℕ) → c < nx → get_or ys c (pos 0) ≡ get_or xs (k * n + c) (pos 0)) where
+    abbrev test : ℕ → Bool
+    test c = outside_range r (get_or ys c (pos 0))
+
+    read : (d : ℕ) → d ≤ nx → None test d → None (λ c. outside_range r (get_or xs (k * n + c) (pos 0))) d
+    read d l f = record { at = λ c h. ap (outside_range r) (sym (same c (omega arith))) ∙ f.at c h }
+
+    pub row_passes : 0 < n → nx ≤ n → RowChecked r k ys (Ok tt) → None (outside_at r n nx xs) (k * n) → None (outside_at r n nx xs) ((k + 1) * n)
+    row_passes z l e f =
+        none_row k z l f (read nx (omega arith) (none_le (omega (arith, long, ltb-false (first_where (length ys) test) (length ys) e)) (first_where_first (length ys) test).before))
+
+    pub row_refuses : (e : Refusal) → nx ≤ n → k < n → RowChecked r k ys (Err e) → None (outside_at r n nx xs) (k * n) → InsideChecked r n nx xs (Err e)
+    unfolding first_outside refusal_at
+    row_refuses e l z t f =
+        let c : ℕ = first_where (length ys) test in
+        let h = first_where_first (length ys) test in
+        let in_row : c < length ys = ltb-true c (length ys) t.0 in
+        let read_too : c < nx = omega (arith, long, in_row) in
+        let in_block : k * n + c < n * n = digits_lt {q = k} {m = n} {r = c} {c = n} z (omega (arith, read_too)) in
+        let outside : outside_at r n nx xs (k * n + c) ≡ true = outside_at-row k c read_too l ∙ ap (outside_range r) (sym (same c read_too)) ∙ h.holds in_row in
+        let place : first_where (n * n) (outside_at r n nx xs) ≡ k * n + c =
+        first_where_found (n * n) (k * n + c) in_block (none-part k c (omega (arith, read_too)) l f (read c (omega (arith, read_too)) h.before)) outside in
+        rw (place, digits_div k {m = n} {r = c} (omega (arith, read_too)), digits_mod k {m = n} {r = c} (omega (arith, read_too)))
+        (lt-ltb (k * n + c) (n * n) in_block, t.1 ∙ ap (λ (x : ℤ). outside_refusal r x k c) (same c read_too))
 
 -- where the search passed the block, every coefficient that is read lies in the range
 pub first_outside-inside : (r n nx : ℕ) (xs : List ℤ) → nx ≤ n → n * n ≤ first_outside r n nx xs

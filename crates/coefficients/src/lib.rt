@@ -1,11 +1,10 @@
 // The range of coefficients, where a block has one outside it and on which side, and which rows are in use. Internal: the crates above call these and meet what they require.
 #![tactic(auto)]
 
-ghost use Rattle.std.specs.Prelude.{◌≡◌, true, false, ℕ, ◌+◌, ◌*◌, ◌<◌, ◌≤◌, T, pos, get_or, length};
-ghost use Rattle.integers.specs.Search.{first_where};
+ghost use Rattle.std.specs.Prelude.{◌≡◌, true, false, ℕ, ◌*◌, ◌<◌, ◌≤◌, T, pos, get_or, length};
 ghost use Rattle.std.specs.Int.Signed.{lt_z, mag};
 ghost use Rattle.h265.specs.Range.{is_size, transform_range, coeff_min, outside_range};
-ghost use Rattle.coefficients.specs.Outside.{first_outside, outside_refusal, refusal_at};
+ghost use Rattle.coefficients.specs.Outside.{outside_refusal, InsideChecked, RowChecked};
 
 use refusal::{Precision, Refusal};
 
@@ -14,6 +13,7 @@ mod rows; // which rows are in use
 pub use rows::rows_used;
 
 // R: coefficients lie in -2^R .. 2^R - 1.
+// Kept: R stays a plain number, with `range ≤ 22` where it is used: each function shifts by it, and would take it out of a type of its own first.
 pub fn transform_range(precision: Precision) -> u32
     requires { precision.bit_depth ≤ 16 }
     ensures { result ≡ transform_range precision.bit_depth precision.extended }
@@ -30,7 +30,7 @@ fn is_below(x: i32, range: u32) -> bool
     ensures { result ≡ lt_z x (coeff_min range) }
 {
     let end = 1i32 << range;
-    x < 0 - end
+    x < -end
 }
 
 // Whether x lies outside the range.
@@ -38,11 +38,8 @@ pub fn is_outside(x: i32, range: u32) -> bool
     requires { range ≤ 22 }
     ensures { result ≡ outside_range range x }
 {
-    if is_below(x, range) {
-        return true;
-    }
     let end = 1i32 << range;
-    end - 1 < x
+    !(-end..=end - 1).contains(&x)
 }
 
 // Why a coefficient outside the range is refused: it names the side, the row and the column.
@@ -56,19 +53,6 @@ pub fn outside_refusal(x: i32, range: u32, row: usize, column: usize) -> Refusal
     Refusal::CoefficientAbove(row as u8, column as u8)
 }
 
-// Of nx coefficients from base on, the first outside the range, and nx where there is none.
-fn row_outside(coeff: &[i32], base: usize, nx: usize, range: u32) -> usize
-    requires { (base + nx ≤ length coeff.now) × (range ≤ 22) }
-    ensures { result ≡ first_where nx (λ c. outside_range range (get_or coeff.now (base + c) (pos 0))) }
-{
-    for c in 0..nx {
-        if is_outside(coeff[base + c], range) {
-            return c;
-        }
-    }
-    nx
-}
-
 // The size of x, counted from 0 for x ≥ 0 and from -1 below: x lies in the range where this is below 2^R.
 fn reach(x: i32) -> u32
     ensures { result ≡ mag x }
@@ -79,49 +63,52 @@ fn reach(x: i32) -> u32
     x as u32
 }
 
-// `true` only where the first len coefficients all lie in the range. `false` says nothing, and is left free: the caller then looks row by row, so that
+// `true` only where every coefficient lies in the range. `false` says nothing, and is left free: the caller then looks row by row, so that
 // nothing rests on it but time. One pass with no way out, so that the compiler takes several at a time.
-pub fn all_inside(coeff: &[i32], len: usize, range: u32) -> bool
-    requires { (len ≤ length coeff.now) × (range ≤ 22) }
-    ensures { result ≡ true → (i : ℕ) → i < len → outside_range range (get_or coeff.now i (pos 0)) ≡ false }
+#[tactic(auto, using(crate::proofs::OutsideLaws::all_reach_zero))]
+fn all_inside(coeff: &[i32], range: u32) -> bool
+    requires { range ≤ 22 }
+    ensures { result ≡ true → (i : ℕ) → i < length coeff.now → outside_range range (get_or coeff.now i (pos 0)) ≡ false }
 {
     let mut bits: u32 = 0;
-    for i in 0..len {
-        bits |= reach(coeff[i]);
+    for x in coeff {
+        bits |= reach(*x);
     }
-    bits < (1u32 << range)
+    bits < 1u32 << range
 }
 
-// What `first_outside` looks for, row by row.
-fn rows_outside(coeff: &[i32], n: usize, nx: usize, range: u32) -> usize
-    requires { T (is_size n) × (nx ≤ n) × (n * n ≤ length coeff.now) × (range ≤ 22) }
-    ensures { result ≡ first_outside range n nx coeff.now }
+// Rows 9 and 19 of one row of the block.
+fn check_row(row: &[i32], k: usize, range: u32) -> Result<(), Refusal>
+    requires { (length row.now ≤ 32) × (k < 32) × (range ≤ 22) }
+    ensures { RowChecked range k row.now result }
 {
-    for k in 0..n {
-        let c = row_outside(coeff, k * n, nx, range);
-        if c < nx {
-            return k * n + c;
+    for (column, x) in row.iter().enumerate() {
+        if is_outside(*x, range) {
+            return Err(outside_refusal(*x, range, k, column));
         }
     }
-    n * n
+    Ok(())
 }
 
-// The first coefficient in row order that lies outside the range, among the first nx columns, and n² where there is none.
-// A pass over all columns passes an ordinary block; columns from nx on may hold anything, so that where it stops, the rows decide.
-pub fn first_outside(coeff: &[i32], n: usize, nx: usize, range: u32) -> usize
+// What `check_inside` tests, row by row.
+fn check_rows(coeff: &[i32], n: usize, nx: usize, range: u32) -> Result<(), Refusal>
     requires { T (is_size n) × (nx ≤ n) × (n * n ≤ length coeff.now) × (range ≤ 22) }
-    ensures { result ≡ first_outside range n nx coeff.now }
+    ensures { InsideChecked range n nx coeff.now result }
 {
-    if all_inside(coeff, n * n, range) {
-        return n * n;
+    for k in 0..n {
+        check_row(&coeff[k * n..k * n + nx], k, range)?;
     }
-    rows_outside(coeff, n, nx, range)
+    Ok(())
 }
 
-// Why a block whose first coefficient outside the range stands at an index is refused.
-pub fn refusal_at(coeff: &[i32], n: usize, index: usize, range: u32) -> Refusal
-    requires { T (is_size n) × (index < n * n) × (n * n ≤ length coeff.now) × (range ≤ 22) }
-    ensures { result ≡ refusal_at range n coeff.now index }
+// Rows 9 and 19: the first coefficient in row order that lies outside the range, among the first nx columns.
+// A pass over all columns passes an ordinary block; columns from nx on may hold anything, so that where it stops, the rows decide.
+pub fn check_inside(coeff: &[i32], n: usize, nx: usize, range: u32) -> Result<(), Refusal>
+    requires { T (is_size n) × (nx ≤ n) × (n * n ≤ length coeff.now) × (range ≤ 22) }
+    ensures { InsideChecked range n nx coeff.now result }
 {
-    outside_refusal(coeff[index], range, index / n, index % n)
+    if all_inside(&coeff[..n * n], range) {
+        return Ok(());
+    }
+    check_rows(coeff, n, nx, range)
 }

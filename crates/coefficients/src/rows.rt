@@ -2,17 +2,11 @@
 ghost use Rattle.std.specs.Prelude.{◌≡◌, true, ℕ, ◌+◌, ◌*◌, ◌<◌, ◌≤◌, pos, length, get_or};
 ghost use Rattle.coefficients.specs.Rows.{RowsUsed};
 
-// `true` only where nx coefficients from base on are all zero; `false` says nothing.
-fn zero_run(coeff: &[i32], base: usize, nx: usize) -> bool
-    requires { base + nx ≤ length coeff.now }
-    ensures { result ≡ true → (c : ℕ) → c < nx → get_or coeff.now (base + c) (pos 0) ≡ pos 0 }
+// `true` only where every coefficient is zero; `false` says nothing.
+fn zero_run(row: &[i32]) -> bool
+    ensures { result ≡ true → (c : ℕ) → c < length row.now → get_or row.now c (pos 0) ≡ pos 0 }
 {
-    for c in 0..nx {
-        if coeff[base + c] != 0 {
-            return false;
-        }
-    }
-    true
+    row.iter().all(|x| *x == 0)
 }
 
 // A row from which on the first nx columns are zero. That it is the first such row from `least` on is left free, since a caller that is told too many rows
@@ -22,7 +16,7 @@ pub fn rows_used(coeff: &[i32], n: usize, nx: usize, least: usize) -> usize
     ensures { RowsUsed coeff.now n nx result }
 {
     for k in (least..n).rev() {
-        if !zero_run(coeff, k * n, nx) {
+        if !zero_run(&coeff[k * n..k * n + nx]) {
             return k + 1;
         }
     }

@@ -1,16 +1,20 @@
 // A column of a matrix, read from the tables of `transform_1d`.
-ghost use Rattle.std.specs.Prelude.{◌≡◌, ◌/◌, ◌%◌, ◌<◌, T};
-ghost use Rattle.integers.specs.Lists.{tabulate};
-ghost use Rattle.h265.specs.Matrix.{trans_matrix32, trans_matrix, dst_matrix};
+ghost use Rattle.std.specs.Prelude.{◌≡◌, ◌<◌, T};
+ghost use Rattle.h265.specs.Matrix.{trans_matrix, dst_matrix};
 ghost use Rattle.h265.specs.Range.{is_size};
-ghost use Rattle.transform_1d.specs.Lanes.{lanes};
+ghost use Rattle.transform_1d.specs.declared.Kind.TheVariants.{Dst};
+ghost use Rattle.transform_1d.specs.MatrixOf.{matrix_of};
 ghost use Rattle.contributions.specs.Work.{ColumnOf};
 
+use transform_1d::Kind;
+
+// Kept: columns of their own: edit_tables makes a whole matrix, in 8 KB of stack, where a sample needs two columns of 64 bytes.
 // Column m of the n-point DCT's matrix, whose row k is row k × 32 / n of the 32-point one.
-pub(crate) fn dct_column(t: &[i16; 1024], n: usize, m: usize) -> [i16; 32]
-    requires { (t.now ≡ tabulate 1024 (λ i. trans_matrix32 (i / 32) (i % 32))) × T (is_size n) × (m < n) }
+fn dct_column(n: usize, m: usize) -> [i16; 32]
+    requires { T (is_size n) × (m < n) }
     ensures { ColumnOf (trans_matrix n) n m result }
 {
+    let t = transform_1d::trans_matrix();
     let stride = 1024 / n;
     let mut r = [0i16; 32];
     for k in 0..n {
@@ -20,13 +24,26 @@ pub(crate) fn dct_column(t: &[i16; 1024], n: usize, m: usize) -> [i16; 32]
 }
 
 // Column m of the DST's matrix.
-pub(crate) fn dst_column(t: &[i16; 64], m: usize) -> [i16; 32]
-    requires { (t.now ≡ lanes dst_matrix 4) × (m < 4) }
+// Kept: a loop of its own, since the table is laid out in another way; one loop for both would take the place as a closure, and say of it what it gives for each row.
+fn dst_column(m: usize) -> [i16; 32]
+    requires { m < 4 }
     ensures { ColumnOf dst_matrix 4 m result }
 {
+    let t = transform_1d::lanes_dst();
     let mut r = [0i16; 32];
     for k in 0..4 {
         r[k] = t[32 * (k % 2) + 2 * m + k / 2];
     }
     r
+}
+
+// Column m of the matrix of a kind.
+pub(crate) fn column(kind: Kind, n: usize, m: usize) -> [i16; 32]
+    requires { T (is_size n) × (kind ≡ Dst → n ≡ 4) × (m < n) }
+    ensures { ColumnOf (matrix_of kind n) n m result }
+{
+    match kind {
+        Kind::Dct => dct_column(n, m),
+        Kind::Dst => dst_column(m),
+    }
 }

@@ -3,7 +3,6 @@
 ghost use Rattle.std.specs.Prelude.{◌≡◌, ◌*◌, ◌<◌, ◌≤◌, T, ◌*ℤ◌, length};
 ghost use Rattle.integers.specs.Lists.{overwrite};
 ghost use Rattle.h265.specs.Range.{is_size};
-ghost use Rattle.h265.specs.Matrix.{trans_matrix, dst_matrix};
 ghost use Rattle.h265.specs.Transform.{row_order};
 ghost use Rattle.transform_1d.specs.declared.Kind.TheVariants.{Dst};
 ghost use Rattle.transform_1d.specs.MatrixOf.{matrix_of};
@@ -17,7 +16,7 @@ use transform_1d::Kind;
 fn product(u: i16, v: i16, x: i32) -> i64
     ensures { result ≡ (u *ℤ v) *ℤ x }
 {
-    (u as i64) * (v as i64) * (x as i64)
+    i64::from(u) * i64::from(v) * i64::from(x)
 }
 
 fn products(down: &[i16; 32], across: &[i16; 32], n: usize, coeff: &[i32], out: &mut [i64])
@@ -28,27 +27,6 @@ fn products(down: &[i16; 32], across: &[i16; 32], n: usize, coeff: &[i32], out: 
     for i in 0..count {
         out[i] = product(down[i / n], across[i % n], coeff[i]);
     }
-}
-
-// Kept: two functions for the two kinds, since their tables are laid out differently; what is alike is `products`.
-fn dct_products(n: usize, row: usize, column: usize, coeff: &[i32], out: &mut [i64])
-    requires { T (is_size n) × (row < n) × (column < n) × (n * n ≤ length coeff.now) × (n * n ≤ length out.old) }
-    ensures { out.new ≡ overwrite (n * n) (row_order n (contribution (trans_matrix n) n coeff.now row column)) out.old }
-{
-    let t = transform_1d::trans_matrix();
-    let down = matrix::dct_column(&t, n, row);
-    let across = matrix::dct_column(&t, n, column);
-    products(&down, &across, n, coeff, out);
-}
-
-fn dst_products(row: usize, column: usize, coeff: &[i32], out: &mut [i64])
-    requires { (row < 4) × (column < 4) × (16 ≤ length coeff.now) × (16 ≤ length out.old) }
-    ensures { out.new ≡ overwrite 16 (row_order 4 (contribution dst_matrix 4 coeff.now row column)) out.old }
-{
-    let t = transform_1d::lanes_dst();
-    let down = matrix::dst_column(&t, row);
-    let across = matrix::dst_column(&t, column);
-    products(&down, &across, 4, coeff, out);
 }
 
 // Past the refusals: all n² numbers.
@@ -63,8 +41,7 @@ pub(crate) fn block_products(
     requires { T (is_size n) × (kind ≡ Dst → n ≡ 4) × (row < n) × (column < n) × (n * n ≤ length coeff.now) × (n * n ≤ length out.old) }
     ensures { out.new ≡ overwrite (n * n) (row_order n (contribution (matrix_of kind n) n coeff.now row column)) out.old }
 {
-    match kind {
-        Kind::Dct => dct_products(n, row, column, coeff, out),
-        Kind::Dst => dst_products(row, column, coeff, out),
-    }
+    let down = matrix::column(kind, n, row);
+    let across = matrix::column(kind, n, column);
+    products(&down, &across, n, coeff, out);
 }

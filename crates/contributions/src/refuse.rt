@@ -7,6 +7,7 @@ use refusal::Refusal;
 use transform_1d::Kind;
 
 // The lowest row that applies, by the lengths of the buffers.
+#[tactic(auto, unfolding(crate::specs::Sample::sample_ladder))]
 pub(crate) fn sample_refusal(
     kind: Kind,
     n: usize,
@@ -17,24 +18,9 @@ pub(crate) fn sample_refusal(
 ) -> Result<(), Refusal>
     ensures { answer result ≡ sample_ladder (refused tt) (accepted tt) kind n row column coeff out }
 {
-    if refusal::size_refused(n) {
-        return Err(Refusal::SizeInvalid);
-    }
-    if transform_1d::dst_refused(kind, n) {
-        return Err(Refusal::DstSizeInvalid);
-    }
-    let cells = n * n;
-    if coeff < cells {
-        return Err(Refusal::InputTooShort);
-    }
-    if out < cells {
-        return Err(Refusal::OutputTooShort);
-    }
-    if n <= row {
-        return Err(Refusal::PlaceOutside);
-    }
-    if n <= column {
-        return Err(Refusal::PlaceOutside);
-    }
-    Ok(())
+    refusal::check_size(n)?;
+    refusal::check(transform_1d::dst_refused(kind, n), Refusal::DstSizeInvalid)?;
+    refusal::check_room(n, coeff, Refusal::InputTooShort)?;
+    refusal::check_room(n, out, Refusal::OutputTooShort)?;
+    refusal::check(n <= row || n <= column, Refusal::PlaceOutside)
 }

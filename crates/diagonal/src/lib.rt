@@ -28,15 +28,15 @@ const UP_RIGHT_8: [u8; 64] = [
     63,
 ];
 
-// Kept: one function with the size as a const parameter would hand back size × size elements, and Rattle has no computed const argument.
-pub fn up_right_4() -> [u8; 16]
-    ensures { result ≡ up_right 4 }
+// Kept: two functions, each of one table: one that took the width would ask by a clause that it is 4 or 8, and its one caller tells the sizes apart anyway.
+pub fn up_right_4() -> &'static [u8]
+    ensures { result.now ≡ up_right 4 }
 {
-    UP_RIGHT_4
+    &UP_RIGHT_4
 }
 
-pub fn up_right_8() -> [u8; 64]
-    ensures { result ≡ up_right 8 }
+pub fn up_right_8() -> &'static [u8]
+    ensures { result.now ≡ up_right 8 }
 {
-    UP_RIGHT_8
+    &UP_RIGHT_8
 }

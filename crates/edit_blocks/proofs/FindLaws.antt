@@ -9,7 +9,7 @@
 use mathlib.Core.Path.{◌≡◌, sym, ap, subst, fun_ext, ◌∙◌}
 use mathlib.Core.Bool.{Bool, false}
 use mathlib.Core.List.{List}
-use Prim.Native.Nat.{ℕ, ◌+◌, ◌-◌, ◌*◌, ◌/◌, ◌%◌, ◌≤◌, ◌<◌}
+use Prim.Native.Nat.{ℕ, ◌+◌, ◌*◌, ◌/◌, ◌%◌, ◌≤◌, ◌<◌}
 use native.Mathlib.Omega.{arith}
 use lib.Arith.{digits_lt}
 use lib.Dec.{T}
@@ -155,10 +155,10 @@ module _ {kind : Kind} {n : ℕ} (b : ℕ) (x : Bool) {d ts ds ones gs twos : Li
   a = tables ts ds ones gs twos target
 
   abbrev s : ℕ
-  s = transform_range b x + 5 - b
+  s = stage_two_shift b (transform_range b x)
 
   gives_is : (v : ℤ) → has_target n (sampled_by a n (transform_range b x) s (i / n) (i % n) v) target wanted ≡ gives_target kind n b x d target wanted i v
-  unfolding gives_target edited_residual residual stage_two_shift edited_by
+  unfolding gives_target edited_residual residual edited_by
   gives_is v =
       has_target_cong n _ _ target wanted (λ m j hm hj. prepared_sample h s target (i / n) (i % n) (cell_row n i l) (cell_column n i l) long v m j hm hj)
       ∙ ap (λ (q : ℕ). has_target n (edited_by (matrix_of kind n) n (transform_range b x) s d q v) target wanted) (cell_index n i)
@@ -177,12 +177,12 @@ module _ {kind : Kind} {n : ℕ} (b : ℕ) (x : Bool) {r : ℕ} {d ts ds ones gs
   prepared_at : Prepared kind n (transform_range b x) d ts ds ones gs twos
   prepared_at = subst (λ (q : ℕ). Prepared kind n q d ts ds ones gs twos) e h
 
-  pub written_least : overwrite (n * n) (least_by (tables ts ds ones gs twos target) wanted n r (r + 5 - b)) out ≡ overwrite (n * n) (least_edit kind n b x d target wanted) out
+  pub written_least : overwrite (n * n) (least_by (tables ts ds ones gs twos target) wanted n r (stage_two_shift b r)) out ≡ overwrite (n * n) (least_edit kind n b x d target wanted) out
   written_least =
-      ap (λ (q : ℕ). overwrite (n * n) (least_by (tables ts ds ones gs twos target) wanted n q (q + 5 - b)) out) e
+      ap (λ (q : ℕ). overwrite (n * n) (least_by (tables ts ds ones gs twos target) wanted n q (stage_two_shift b q)) out) e
       ∙ overwrite_cong (n * n) _ _ out (λ i l. found_least b x prepared_at target wanted long i l)
 
-  pub written_most : overwrite (n * n) (most_by (tables ts ds ones gs twos target) wanted n r (r + 5 - b)) out ≡ overwrite (n * n) (most_edit kind n b x d target wanted) out
+  pub written_most : overwrite (n * n) (most_by (tables ts ds ones gs twos target) wanted n r (stage_two_shift b r)) out ≡ overwrite (n * n) (most_edit kind n b x d target wanted) out
   written_most =
-      ap (λ (q : ℕ). overwrite (n * n) (most_by (tables ts ds ones gs twos target) wanted n q (q + 5 - b)) out) e
+      ap (λ (q : ℕ). overwrite (n * n) (most_by (tables ts ds ones gs twos target) wanted n q (stage_two_shift b q)) out) e
       ∙ overwrite_cong (n * n) _ _ out (λ i l. found_most b x prepared_at target wanted long i l)

@@ -71,27 +71,6 @@ module _ (a : Tables) (n r s k c m j : ℕ) (wanted : List ℕ) (hj : j < n) {p 
       range_is : p.range ≡ r
       range_is = unfold probe_at in ap (λ (q : Probe). q.range) e
 
--- the flags' length does not matter to a probe
-pub ask_square : {a : Tables} {n r s w : ℕ} → TablesNeeds a n r s w → TablesNeeds a n r s (n * n)
-ask_square h =
-    record {
-      size = h.size;
-      range = h.range;
-      matrix = h.matrix;
-      coeff = h.coeff;
-      ones = h.ones;
-      between = h.between;
-      twos = h.twos;
-      target = h.target;
-      wanted = omega arith;
-      entries = h.entries;
-      values = h.values;
-      sums = h.sums;
-      inside = h.inside;
-      sums_two = h.sums_two;
-      shift = h.shift;
-    }
-
 pub count_bound : (r : ℕ) → r ≤ 22 → value_count r ≤ 8388608
 count_bound r h = omega (arith, pow_mono {i = r} {j = 22} h)
 

@@ -1,10 +1,13 @@
 -- The search for the values of one coefficient, below the refusals: what its functions hold and find.
 -- Letters as in specs/Edits.antt; t matrix, r range, s shift of stage two, k and c row and column of the coefficient, q index of a sample.
 --   Tables                 matrix, coefficients, sums of stage one, intermediate, sums of stage two, and the target
+--   tables_of s             those that a search reads
 --   probe_at                what a sample has of everything but the coefficient's value, read from the tables
 --   sampled_by              the samples by it, for a value of the coefficient
 --   TablesNeeds              tables of n² elements whose probes are all in bounds
+--   SearchNeeds s            those of a search
 --   Hit n e target wanted q   sample q of the residual e has its target, or is not wanted
+--   hits_of s k c v q        sample q of the block with v in row k and column c, by the tables of a search
 --   Sieved r hit a b from to s   of the places from .. to - 1 of the range those in the span s hit samples a .. b - 1, and no other
 --   least_of, most_of r s    the ends of a span as values, 1 and 0 where it is empty
 --   least_by, most_by        the least and the most value that give the target at every wanted sample, by the tables
@@ -20,6 +23,7 @@ use Rattle.edit_values.specs.declared.Probe.{Probe}
 use Rattle.edit_values.specs.declared.Span.{Span}
 use Rattle.edit_values.specs.Values.{value_at, least_where, most_where}
 use Rattle.edit_values.specs.Sample.{sample_by}
+use Rattle.edit_blocks.specs.declared.Search.{Search}
 use Rattle.edit_blocks.specs.Edits.{is_wanted, has_target}
 
 pub record Tables : Type 0 where
@@ -32,6 +36,9 @@ pub record Tables : Type 0 where
 
 abbrev pub tables : List ℤ → List ℤ → List ℤ → List ℤ → List ℤ → List ℤ → Tables
 tables t d ones between twos target = record { matrix = t; coeff = d; ones = ones; between = between; twos = twos; target = target }
+
+abbrev pub tables_of : Search → Tables
+tables_of s = tables s.matrix.now s.coeff.now s.ones.now s.between.now s.twos.now s.target.now
 
 -- both sums without the coefficient's own product
 unfoldable pub probe_at : Tables → ℕ → ℕ → ℕ → ℕ → ℕ → ℕ → ℕ → Probe
@@ -68,11 +75,17 @@ pub record TablesNeeds (a : Tables) (n r s w : ℕ) : Type 0 where
   pub sums_two : (m j : ℕ) → m < n → j < n → Within 12079595520 (block_at n a.twos m j)
   pub shift : (1 ≤ s) × (s ≤ 12)
 
+abbrev pub SearchNeeds : Search → Type 0
+SearchNeeds s = TablesNeeds (tables_of s) s.n s.range s.shift (length s.wanted.now)
+
 pub record Hit (n : ℕ) (e : ℕ → ℕ → ℤ) (target : List ℤ) (wanted : List ℕ) (q : ℕ) : Type 0 where
   pub hits : is_wanted wanted q ≡ true → row_order n e q ≡ get_or target q (pos 0)
 
 abbrev pub hit_by : Tables → List ℕ → ℕ → ℕ → ℕ → ℕ → ℕ → ℤ → ℕ → Type 0
 hit_by a wanted n r s k c v q = Hit n (sampled_by a n r s k c v) a.target wanted q
+
+abbrev pub hits_of : Search → ℕ → ℕ → ℤ → ℕ → Type 0
+hits_of s k c = hit_by (tables_of s) s.wanted.now s.n s.range s.shift k c
 
 pub record Sieved (r : ℕ) (hit : ℤ → ℕ → Type 0) (a b from to : ℕ) (s : Span) : Type 0 where
   pub least : from ≤ s.from

@@ -14,7 +14,24 @@ use refusal::Precision;
 pub use spans::{least_of, most_of};
 use transform_1d::Kind;
 
+// What the search over one block reads: its tables, the target, which samples are wanted, and the numbers that all samples share.
+// Kept: the tables are lent; as arrays of its own they were tried and proved, and the copies took 40 KB of stack more than include/residual.h allows a search.
+#[derive(Clone, Copy)]
+struct Search<'a> {
+    matrix: &'a [i64; 1024],
+    coeff: &'a [i64; 1024],
+    ones: &'a [i64; 1024],
+    between: &'a [i64; 1024],
+    twos: &'a [i64; 1024],
+    target: &'a [i32],
+    wanted: &'a [u8],
+    n: usize,
+    range: u32,
+    shift: u32,
+}
+
 // The least and the most value at every index; 1 and 0 where there is none.
+// Kept: target and wanted, least and most are slices of their own, as C lends them to `find_edits` of edit_search; a struct of two would be made there for this one call.
 pub fn find(
     kind: Kind,
     n: usize,
@@ -29,13 +46,23 @@ pub fn find(
     ensures { (least.new ≡ overwrite (n * n) (least_edit kind n precision.bit_depth precision.extended coeff.now target.now wanted.now) least.old) × (most.new ≡ overwrite (n * n) (most_edit kind n precision.bit_depth precision.extended coeff.now target.now wanted.now) most.old) }
 {
     let range = coefficients::transform_range(precision);
-    let shift = range + 5 - precision.bit_depth as u32;
+    let shift = transform_1d::stage_two_shift(precision.bit_depth, range);
     let t = matrix::matrix(kind, n);
     let d = sums::widened(coeff, n);
     let ones = sums::down_columns(&t, &d, n);
     let between = sums::limited(&ones, n, range);
     let twos = sums::along_rows(&t, &between, n);
-    spans::all_indices(
-        &t, &d, &ones, &between, &twos, target, wanted, n, range, shift, least, most,
-    );
+    let search = Search {
+        matrix: &t,
+        coeff: &d,
+        ones: &ones,
+        between: &between,
+        twos: &twos,
+        target,
+        wanted,
+        n,
+        range,
+        shift,
+    };
+    spans::all_indices(&search, least, most);
 }

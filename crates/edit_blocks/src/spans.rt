@@ -4,17 +4,13 @@ ghost use Rattle.integers.specs.Lists.{overwrite};
 ghost use Rattle.integers.specs.Within.{Within};
 ghost use Rattle.h265.specs.Transform.{block_at};
 ghost use Rattle.edit_values.specs.Values.{value_count};
-ghost use Rattle.edit_blocks.specs.Work.{tables, probe_at, TablesNeeds, hit_by, Sieved, least_of, most_of, least_by, most_by};
+ghost use Rattle.edit_blocks.specs.Work.{tables_of, probe_at, SearchNeeds, hits_of, Sieved, least_of, most_of, least_by, most_by};
 
+use crate::Search;
 use edit_values::{Probe, Span};
 
-fn wide(x: i32) -> i64
-    ensures { result ≡ x }
-{
-    x as i64
-}
-
 // What stands at a row and a column of a table.
+// Kept: a row and a column are two numbers, here and below: a struct of both could not hold that they are below n, which the search has, and every contract would say it as now.
 fn cell(x: &[i64; 1024], n: usize, row: usize, column: usize) -> i64
     requires { (n ≤ 32) × (row < n) × (column < n) }
     ensures { result ≡ block_at n x.now row column }
@@ -26,7 +22,7 @@ fn target_cell(x: &[i32], n: usize, row: usize, column: usize) -> i64
     requires { (n ≤ 32) × (row < n) × (column < n) × (n * n ≤ length x.now) }
     ensures { (result ≡ block_at n x.now row column) × Within 2147483648 result }
 {
-    wide(x[row * n + column])
+    i64::from(x[row * n + column])
 }
 
 // A sum without the product of an entry and a value.
@@ -34,153 +30,91 @@ fn without(sum: i64, entry: i64, value: i64) -> i64
     requires { Within 12079595520 sum × Within 90 entry × Within 4194304 value }
     ensures { result ≡ sum +ℤ (pos 0 -ℤ entry) *ℤ value }
 {
-    edit_values::mac(sum, 0 - entry, value)
+    edit_values::mac(sum, -entry, value)
 }
 
-// Kept: the tables apart, here and below: one struct that owns them was tried and proves, and the copies into it take 40 KB of stack more than include/residual.h
-// allows a search for edits.
 // What a sample has of everything but the coefficient's value: both sums without the coefficient's own product.
-fn probe_at(
-    t: &[i64; 1024],
-    d: &[i64; 1024],
-    ones: &[i64; 1024],
-    between: &[i64; 1024],
-    twos: &[i64; 1024],
-    target: &[i32],
-    n: usize,
-    range: u32,
-    shift: u32,
-    k: usize,
-    c: usize,
-    m: usize,
-    j: usize,
-) -> Probe
-    requires { TablesNeeds (tables t.now d.now ones.now between.now twos.now target.now) n range shift (n * n) × (k < n) × (c < n) × (m < n) × (j < n) }
-    ensures { (result ≡ probe_at (tables t.now d.now ones.now between.now twos.now target.now) n range shift k c m j) × Within 2147483648 result.target }
+fn probe_at(search: &Search, k: usize, c: usize, m: usize, j: usize) -> Probe
+    requires { SearchNeeds search.now × (k < search.now.n) × (c < search.now.n) × (m < search.now.n) × (j < search.now.n) }
+    ensures { (result ≡ probe_at (tables_of search.now) search.now.n search.now.range search.now.shift k c m j) × Within 2147483648 result.target }
 {
-    let entry_one = cell(t, n, k, m);
-    let entry_two = cell(t, n, c, j);
+    let n = search.n;
+    let entry_one = cell(search.matrix, n, k, m);
+    let entry_two = cell(search.matrix, n, c, j);
     Probe {
-        range,
-        shift,
+        range: search.range,
+        shift: search.shift,
         entry_one,
-        rest_one: without(cell(ones, n, m, c), entry_one, cell(d, n, k, c)),
+        rest_one: without(
+            cell(search.ones, n, m, c),
+            entry_one,
+            cell(search.coeff, n, k, c),
+        ),
         entry_two,
-        rest_two: without(cell(twos, n, m, j), entry_two, cell(between, n, m, c)),
-        target: target_cell(target, n, m, j),
+        rest_two: without(
+            cell(search.twos, n, m, j),
+            entry_two,
+            cell(search.between, n, m, c),
+        ),
+        target: target_cell(search.target, n, m, j),
     }
 }
 
 // The places of a span that hit the sample at row m and column j.
-fn sample_span(
-    t: &[i64; 1024],
-    d: &[i64; 1024],
-    ones: &[i64; 1024],
-    between: &[i64; 1024],
-    twos: &[i64; 1024],
-    target: &[i32],
-    wanted: &[u8],
-    n: usize,
-    range: u32,
-    shift: u32,
-    k: usize,
-    c: usize,
-    m: usize,
-    j: usize,
-    span: Span,
-) -> Span
-    requires { TablesNeeds (tables t.now d.now ones.now between.now twos.now target.now) n range shift (length wanted.now) × (k < n) × (c < n) × (m < n) × (j < n) × (span.from ≤ span.to) × (span.to ≤ value_count range) }
-    ensures { Sieved range (hit_by (tables t.now d.now ones.now between.now twos.now target.now) wanted.now n range shift k c) (m * n + j) (m * n + j + 1) span.from span.to result }
+fn sample_span(search: &Search, k: usize, c: usize, m: usize, j: usize, span: Span) -> Span
+    requires { SearchNeeds search.now × (k < search.now.n) × (c < search.now.n) × (m < search.now.n) × (j < search.now.n) × (span.from ≤ span.to) × (span.to ≤ value_count search.now.range) }
+    ensures { Sieved search.now.range (hits_of search.now k c) (m * search.now.n + j) (m * search.now.n + j + 1) span.from span.to result }
 {
-    if wanted[m * n + j] == 0 {
+    if search.wanted[m * search.n + j] == 0 {
         return span;
     }
-    if span.to <= span.from {
+    if span.is_empty() {
         return span;
     }
-    let p = probe_at(
-        t, d, ones, between, twos, target, n, range, shift, k, c, m, j,
-    );
-    edit_values::narrow(p, span)
+    edit_values::narrow(probe_at(search, k, c, m, j), span)
 }
 
 // The places of a span that hit the samples of row m.
-fn row_span(
-    t: &[i64; 1024],
-    d: &[i64; 1024],
-    ones: &[i64; 1024],
-    between: &[i64; 1024],
-    twos: &[i64; 1024],
-    target: &[i32],
-    wanted: &[u8],
-    n: usize,
-    range: u32,
-    shift: u32,
-    k: usize,
-    c: usize,
-    m: usize,
-    span: Span,
-) -> Span
-    requires { TablesNeeds (tables t.now d.now ones.now between.now twos.now target.now) n range shift (length wanted.now) × (k < n) × (c < n) × (m < n) × (span.from ≤ span.to) × (span.to ≤ value_count range) }
-    ensures { Sieved range (hit_by (tables t.now d.now ones.now between.now twos.now target.now) wanted.now n range shift k c) (m * n) (m * n + n) span.from span.to result }
+fn row_span(search: &Search, k: usize, c: usize, m: usize, span: Span) -> Span
+    requires { SearchNeeds search.now × (k < search.now.n) × (c < search.now.n) × (m < search.now.n) × (span.from ≤ span.to) × (span.to ≤ value_count search.now.range) }
+    ensures { Sieved search.now.range (hits_of search.now k c) (m * search.now.n) (m * search.now.n + search.now.n) span.from span.to result }
 {
-    let mut from = span.from;
-    let mut to = span.to;
-    for j in 0..n {
-        let now = Span { from, to };
-        let left = sample_span(
-            t, d, ones, between, twos, target, wanted, n, range, shift, k, c, m, j, now,
-        );
-        from = left.from;
-        to = left.to;
+    let mut left = span;
+    for j in 0..search.n {
+        left = sample_span(search, k, c, m, j, left);
     }
-    Span { from, to }
+    left
 }
 
 // The places of the range that hit every wanted sample, for the coefficient at row k and column c.
-fn index_span(
-    t: &[i64; 1024],
-    d: &[i64; 1024],
-    ones: &[i64; 1024],
-    between: &[i64; 1024],
-    twos: &[i64; 1024],
-    target: &[i32],
-    wanted: &[u8],
-    n: usize,
-    range: u32,
-    shift: u32,
-    k: usize,
-    c: usize,
-) -> Span
-    requires { TablesNeeds (tables t.now d.now ones.now between.now twos.now target.now) n range shift (length wanted.now) × (k < n) × (c < n) }
-    ensures { Sieved range (hit_by (tables t.now d.now ones.now between.now twos.now target.now) wanted.now n range shift k c) 0 (n * n) 0 (value_count range) result }
+fn index_span(search: &Search, k: usize, c: usize) -> Span
+    requires { SearchNeeds search.now × (k < search.now.n) × (c < search.now.n) }
+    ensures { Sieved search.now.range (hits_of search.now k c) 0 (search.now.n * search.now.n) 0 (value_count search.now.range) result }
 {
-    let mut from: u32 = 0;
-    let mut to: u32 = 2u32 << range;
-    for m in 0..n {
-        if to <= from {
-            return Span { from, to };
+    let mut left = Span {
+        from: 0,
+        to: 2u32 << search.range,
+    };
+    for m in 0..search.n {
+        if left.is_empty() {
+            return left;
         }
-        let now = Span { from, to };
-        let left = row_span(
-            t, d, ones, between, twos, target, wanted, n, range, shift, k, c, m, now,
-        );
-        from = left.from;
-        to = left.to;
+        left = row_span(search, k, c, m, left);
     }
-    Span { from, to }
+    left
 }
 
 // The first value of a span, and 1 where it is empty.
+// Kept: `as i32` here and below: a value of the range is within 2^22, and `try_from` would give a branch for an error that never comes.
 // Kept: two functions for the two ends, since each reads its own place and has its own number for none; one of both would hand out a pair that the callers take apart.
 pub fn least_of(range: u32, span: Span) -> i32
     requires { (range ≤ 22) × (span.to ≤ value_count range) }
     ensures { result ≡ least_of range span }
 {
-    if span.from < span.to {
-        return edit_values::value_at(range, span.from) as i32;
+    if span.is_empty() {
+        return 1;
     }
-    1
+    edit_values::value_at(range, span.from) as i32
 }
 
 // The last value of a span, and 0 where it is empty.
@@ -188,48 +122,22 @@ pub fn most_of(range: u32, span: Span) -> i32
     requires { (range ≤ 22) × (span.to ≤ value_count range) }
     ensures { result ≡ most_of range span }
 {
-    if span.from < span.to {
-        return edit_values::value_at(range, span.to - 1) as i32;
+    if span.is_empty() {
+        return 0;
     }
-    0
+    edit_values::value_at(range, span.to - 1) as i32
 }
 
 // The least and the most value at every index.
-pub(crate) fn all_indices(
-    t: &[i64; 1024],
-    d: &[i64; 1024],
-    ones: &[i64; 1024],
-    between: &[i64; 1024],
-    twos: &[i64; 1024],
-    target: &[i32],
-    wanted: &[u8],
-    n: usize,
-    range: u32,
-    shift: u32,
-    least: &mut [i32],
-    most: &mut [i32],
-)
-    requires { TablesNeeds (tables t.now d.now ones.now between.now twos.now target.now) n range shift (length wanted.now) × (n * n ≤ length least.old) × (n * n ≤ length most.old) }
-    ensures { (least.new ≡ overwrite (n * n) (least_by (tables t.now d.now ones.now between.now twos.now target.now) wanted.now n range shift) least.old) × (most.new ≡ overwrite (n * n) (most_by (tables t.now d.now ones.now between.now twos.now target.now) wanted.now n range shift) most.old) }
+pub(crate) fn all_indices(search: &Search, least: &mut [i32], most: &mut [i32])
+    requires { SearchNeeds search.now × (search.now.n * search.now.n ≤ length least.old) × (search.now.n * search.now.n ≤ length most.old) }
+    ensures { (least.new ≡ overwrite (search.now.n * search.now.n) (least_by (tables_of search.now) search.now.wanted.now search.now.n search.now.range search.now.shift) least.old) × (most.new ≡ overwrite (search.now.n * search.now.n) (most_by (tables_of search.now) search.now.wanted.now search.now.n search.now.range search.now.shift) most.old) }
 {
-    let count = n * n;
-    for i in 0..count {
-        let span = index_span(
-            t,
-            d,
-            ones,
-            between,
-            twos,
-            target,
-            wanted,
-            n,
-            range,
-            shift,
-            i / n,
-            i % n,
-        );
-        let low = least_of(range, span);
-        let high = most_of(range, span);
+    let n = search.n;
+    for i in 0..n * n {
+        let span = index_span(search, i / n, i % n);
+        let low = least_of(search.range, span);
+        let high = most_of(search.range, span);
         least[i] = low;
         most[i] = high;
     }

@@ -12,7 +12,7 @@ use mathlib.Core.Bool.{Bool, true, false}
 use mathlib.Core.List.{List, [], ◌∷◌}
 use Prim.Native.Nat.{ℕ, ◌*◌, ◌%◌, ◌≤◌, ◌<◌}
 use native.Mathlib.Omega.{arith}
-use borrow.Author.Tests.{ltb-false, lt-ltb, le-ltb, eqb-true, not-false}
+use borrow.Author.Tests.{ltb-false, lt-ltb, eqb-true, not-false}
 use lib.Dec.{ltb, eqb}
 use lib.IntN.{ℤ, pos}
 use lib.ListN.{length, get_or}
@@ -82,25 +82,25 @@ module _ (kind : Kind) (n b : ℕ) (x : Bool) (d target : List ℤ) (wanted : Li
   unfolding edits_found edit_ladder
   past p = first_passed (left least most) (block_found kind n b x d target wanted least most) checks p
 
-  pub edits_outside : Passed checks → first_outside (transform_range b x) n n d < n * n → {e : Refusal} → e ≡ refusal_at (transform_range b x) n d (first_outside (transform_range b x) n n d)
+  pub edits_outside : Passed checks → ltb (first_outside (transform_range b x) n n d) (n * n) ≡ true → {e : Refusal} → e ≡ refusal_at (transform_range b x) n d (first_outside (transform_range b x) n n d)
       → Finds (Err e) least most answer_by
   unfolding block_found
-  edits_outside p h q = rw (past p, lt-ltb (first_outside (transform_range b x) n n d) (n * n) h) (record { answered = ap (λ (e : Refusal). answer (Err e)) q; least = refl; most = refl })
+  edits_outside p h q = rw (past p, h) (record { answered = ap (λ (e : Refusal). answer (Err e)) q; least = refl; most = refl })
 
-  pub edits_done : Passed checks → n * n ≤ first_outside (transform_range b x) n n d → {low high : List ℤ}
+  pub edits_done : Passed checks → ltb (first_outside (transform_range b x) n n d) (n * n) ≡ false → {low high : List ℤ}
       → low ≡ overwrite (n * n) (least_edit kind n b x d target wanted) least → high ≡ overwrite (n * n) (most_edit kind n b x d target wanted) most
       → Finds (Ok tt) low high answer_by
   unfolding block_found
-  edits_done p h l m = rw (past p, le-ltb (first_outside (transform_range b x) n n d) (n * n) h) (record { answered = refl; least = l; most = m })
+  edits_done p h l m = rw (past p, h) (record { answered = refl; least = l; most = m })
 
-  pub edits_ask : Passed checks → n * n ≤ first_outside (transform_range b x) n n d → EditsNeeds kind n b x d (length target) (length wanted) (length least) (length most)
+  pub edits_ask : Passed checks → ltb (first_outside (transform_range b x) n n d) (n * n) ≡ false → EditsNeeds kind n b x d (length target) (length wanted) (length least) (length most)
   edits_ask p h =
       record {
         size = size_accepted n p.0;
         dst = four kind p.1.1.0;
         depth = depth_accepted b p.1.0;
         coeff = block_room n (length d) p.1.1.1.0;
-        range = inside-at (transform_range b x) n d h;
+        range = inside-at (transform_range b x) n d (ltb-false (first_outside (transform_range b x) n n d) (n * n) h);
         targets = block_room n (length target) p.1.1.1.1.0;
         wants = block_room n (length wanted) p.1.1.1.1.1.0;
         leasts = block_room n (length least) p.1.1.1.1.1.1.0;
@@ -117,15 +117,15 @@ module _ (kind : Kind) (n b : ℕ) (x : Bool) (d target : List ℤ) (wanted : Li
     unfolding edits_found edit_ladder
     found_passed = answered_passed least most (block_found kind n b x d target wanted least most) checks z
 
-    pub found_wrote : (n * n ≤ first_outside (transform_range b x) n n d)
+    pub found_wrote : (ltb (first_outside (transform_range b x) n n d) (n * n) ≡ false)
         × (answer_by ≡ wrote (overwrite (n * n) (least_edit kind n b x d target wanted) least) (overwrite (n * n) (most_edit kind n b x d target wanted) most))
     unfolding block_found
     found_wrote = by_test (ltb (first_outside (transform_range b x) n n d) (n * n)) refl
       where
         by_test : (t : Bool) → ltb (first_outside (transform_range b x) n n d) (n * n) ≡ t
-            → (n * n ≤ first_outside (transform_range b x) n n d)
+            → (ltb (first_outside (transform_range b x) n n d) (n * n) ≡ false)
             × (answer_by ≡ wrote (overwrite (n * n) (least_edit kind n b x d target wanted) least) (overwrite (n * n) (most_edit kind n b x d target wanted) most))
         by_test true e =
             let w = past found_passed in
             absurd (let y : ⊥ = omega (arith, number_least (refusal_at (transform_range b x) n d (first_outside (transform_range b x) n n d)), sym (ap (λ (f : Found). f.answer.number) (rw e at w)) ∙ z) in y)
-        by_test false e = (ltb-false (first_outside (transform_range b x) n n d) (n * n) e, rw e at (past found_passed))
+        by_test false e = (e, rw e at (past found_passed))

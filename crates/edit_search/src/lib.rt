@@ -14,10 +14,10 @@ pub fn find_edits(
     n: usize,
     precision: Precision,
     coeff: &[i32],
-    // Kept: target and wanted stay two slices: C lends each, and row 6 is of the length of each.
+    // Kept: target and wanted are two slices: C lends each with a length of its own, and row 6 measures each.
     target: &[i32],
     wanted: &[u8],
-    // Kept: a struct of both lent slices would have to promise for each that it stays the same one (its ghost_name), a clause more for each.
+    // Kept: a struct of both lent outputs would need a clause for each that it is still the one that was lent, where two parameters need none.
     least: &mut [i32],
     most: &mut [i32],
 ) -> Result<(), Refusal>
@@ -34,10 +34,7 @@ pub fn find_edits(
         most.len(),
     )?;
     let range = coefficients::transform_range(precision);
-    let first = coefficients::first_outside(coeff, n, n, range);
-    if first < n * n {
-        return Err(coefficients::refusal_at(coeff, n, first, range));
-    }
+    coefficients::check_inside(coeff, n, n, range)?;
     edit_blocks::find(kind, n, precision, coeff, target, wanted, least, most);
     Ok(())
 }

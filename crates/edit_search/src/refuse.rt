@@ -7,6 +7,8 @@ use refusal::Refusal;
 use transform_1d::Kind;
 
 // The lowest row that applies, by the lengths of the buffers.
+// Kept: each length is a number of its own, which one line measures; a struct of them would be made for this one call.
+#[tactic(auto, unfolding(crate::specs::Found::edit_ladder))]
 pub(crate) fn edit_refusal(
     kind: Kind,
     n: usize,
@@ -19,30 +21,12 @@ pub(crate) fn edit_refusal(
 ) -> Result<(), Refusal>
     ensures { answer result ≡ edit_ladder (refused tt) (accepted tt) kind n bit_depth coeff target wanted least most }
 {
-    if refusal::size_refused(n) {
-        return Err(Refusal::SizeInvalid);
-    }
-    if refusal::depth_refused(bit_depth) {
-        return Err(Refusal::DepthInvalid);
-    }
-    if transform_1d::dst_refused(kind, n) {
-        return Err(Refusal::DstSizeInvalid);
-    }
-    let cells = n * n;
-    if coeff < cells {
-        return Err(Refusal::InputTooShort);
-    }
-    if target < cells {
-        return Err(Refusal::InputTooShort);
-    }
-    if wanted < cells {
-        return Err(Refusal::InputTooShort);
-    }
-    if least < cells {
-        return Err(Refusal::OutputTooShort);
-    }
-    if most < cells {
-        return Err(Refusal::OutputTooShort);
-    }
-    Ok(())
+    refusal::check_size(n)?;
+    refusal::check_depth(bit_depth)?;
+    refusal::check(transform_1d::dst_refused(kind, n), Refusal::DstSizeInvalid)?;
+    refusal::check_room(n, coeff, Refusal::InputTooShort)?;
+    refusal::check_room(n, target, Refusal::InputTooShort)?;
+    refusal::check_room(n, wanted, Refusal::InputTooShort)?;
+    refusal::check_room(n, least, Refusal::OutputTooShort)?;
+    refusal::check_room(n, most, Refusal::OutputTooShort)
 }

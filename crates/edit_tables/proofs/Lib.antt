@@ -1,3 +1,3 @@
--- Tables of a block, the loops that fill them, and the matrix by its layout.
+-- Tables of a block, the loops that fill them, and the matrix of a kind.
 pub mod TableLaws
-pub mod LaneLaws
+pub mod MatrixLaws

@@ -2,5 +2,21 @@
 // Internal: no refusal; callers meet each `requires`.
 #![tactic(auto)]
 
+ghost use Rattle.std.specs.Prelude.{◌≡◌, ℕ, ◌<◌, T};
+ghost use Rattle.h265.specs.Range.{is_size};
+ghost use Rattle.edit_tables.specs.Tables.{Filled};
+
 pub mod matrix; // the matrix by row and column
 pub mod sums; // the coefficients, the sums of both stages, and the intermediate between them
+
+// A table of n rows, each number made from its row and its column.
+fn filled<F: Fn(usize, usize) -> i64>(n: usize, cell: F) -> [i64; 1024]
+    requires { T (is_size n) × ((m c : ℕ) → m < n → c < n → F.pre cell m c) }
+    ensures { Filled n (λ m c x. F.post cell m c x) result }
+{
+    let mut r = [0i64; 1024];
+    for i in 0..n * n {
+        r[i] = cell(i / n, i % n);
+    }
+    r
+}

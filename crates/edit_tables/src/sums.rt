@@ -6,23 +6,14 @@ ghost use Rattle.h265.specs.Range.{is_size, clip_coeff};
 ghost use Rattle.h265.specs.Transform.{transform_line, block_at, stage_one_sum, stage_two_sum};
 ghost use Rattle.edit_tables.specs.Tables.{Holds, LineNeeds, StageNeeds};
 
-fn wide(x: i32) -> i64
-    ensures { result ≡ x }
-{
-    x as i64
-}
+use crate::filled;
 
 // The coefficients in 64 bits.
 pub fn widened(coeff: &[i32], n: usize) -> [i64; 1024]
     requires { T (is_size n) × (n * n ≤ length coeff.now) }
     ensures { Holds n (block_at n coeff.now) result }
 {
-    let count = n * n;
-    let mut r = [0i64; 1024];
-    for i in 0..count {
-        r[i] = wide(coeff[i]);
-    }
-    r
+    filled(n, |k, c| i64::from(coeff[k * n + c]))
 }
 
 // One output of a line over x[base], x[base + stride], ..
@@ -43,12 +34,7 @@ pub fn down_columns(t: &[i64; 1024], d: &[i64; 1024], n: usize) -> [i64; 1024]
     requires { StageNeeds n t.now d.now }
     ensures { Holds n (stage_one_sum (block_at n t.now) n (block_at n d.now)) result }
 {
-    let count = n * n;
-    let mut r = [0i64; 1024];
-    for i in 0..count {
-        r[i] = line(t, d, n, i / n, i % n, n);
-    }
-    r
+    filled(n, |m, c| line(t, d, n, m, c, n))
 }
 
 // Stage two: a sum along each row.
@@ -56,24 +42,13 @@ pub fn along_rows(t: &[i64; 1024], g: &[i64; 1024], n: usize) -> [i64; 1024]
     requires { StageNeeds n t.now g.now }
     ensures { Holds n (stage_two_sum (block_at n t.now) n (block_at n g.now)) result }
 {
-    let count = n * n;
-    let mut r = [0i64; 1024];
-    for i in 0..count {
-        r[i] = line(t, g, n, i % n, i / n * n, 1);
-    }
-    r
+    filled(n, |m, j| line(t, g, n, j, m * n, 1))
 }
 
 // The values of stage one, limited.
-// Kept: the limit of one value is `edit_values::stage_one`; what is here is the loop over the table.
 pub fn limited(ones: &[i64; 1024], n: usize, range: u32) -> [i64; 1024]
     requires { T (is_size n) × (range ≤ 22) × ((m c : ℕ) → m < n → c < n → Within 12079595520 (block_at n ones.now m c)) }
     ensures { Holds n (λ m c. clip_coeff range (round_shift (block_at n ones.now m c) 7)) result }
 {
-    let count = n * n;
-    let mut r = [0i64; 1024];
-    for i in 0..count {
-        r[i] = edit_values::stage_one(ones[i], range);
-    }
-    r
+    filled(n, |m, c| edit_values::stage_one(ones[m * n + c], range))
 }

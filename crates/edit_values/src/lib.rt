@@ -29,12 +29,21 @@ pub struct Span {
     pub to: u32,
 }
 
+impl Span {
+    // Whether it has no place.
+    pub fn is_empty(self) -> bool
+        ensures { (result ≡ true → self.to ≤ self.from) × (result ≡ false → self.from < self.to) }
+    {
+        self.to <= self.from
+    }
+}
+
 // The value at a place of the range.
 pub fn value_at(range: u32, place: u32) -> i64
     requires { (range ≤ 22) × (place ≤ 8388608) }
     ensures { (result ≡ value_at range place) × Within 12582912 result }
 {
-    (place as i64) - integers::pow2(range)
+    i64::from(place) - integers::pow2(range)
 }
 
 // a + u × v.
@@ -59,7 +68,7 @@ pub fn stage_one(sum: i64, range: u32) -> i64
     ensures { (result ≡ clip_coeff range (round_shift sum 7)) × Within 4194304 result }
 {
     let end = integers::pow2(range);
-    integers::clip3(0 - end, end - 1, round_shift(sum, 7))
+    integers::clip3(-end, end - 1, round_shift(sum, 7))
 }
 
 // The sample.
@@ -72,6 +81,7 @@ fn sample(p: Probe, value: i64) -> i64
 }
 
 // Whether x comes before y as the coefficient's value grows.
+// Kept: `falling` here and `strict` below are each a yes or a no, and a bool says that; an enum of two names would be matched at the same places.
 fn before(falling: bool, x: i64, y: i64) -> bool
     ensures { result ≡ before falling x y }
 {
@@ -86,10 +96,7 @@ fn falls(p: Probe) -> bool
     requires { Bounded p }
     ensures { result ≡ falls p }
 {
-    if p.entry_one < 0 {
-        return !(p.entry_two < 0);
-    }
-    p.entry_two < 0
+    (p.entry_one < 0) != (p.entry_two < 0)
 }
 
 // Whether the sample at a place lies at the target or past it; strict: past it.
@@ -104,13 +111,13 @@ fn past(p: Probe, strict: bool, place: u32) -> bool
     !before(falls(p), x, p.target)
 }
 
-// The first place that is past, and `to` where none is.
-fn halve(p: Probe, strict: bool, from: u32, to: u32) -> u32
-    requires { Bounded p × (from ≤ to) × (to ≤ 8388608) }
-    ensures { Split (past p strict) from to result }
+// The first place that is past, and the span's end where none is.
+fn halve(p: Probe, strict: bool, span: Span) -> u32
+    requires { Bounded p × (span.from ≤ span.to) × (span.to ≤ 8388608) }
+    ensures { Split (past p strict) span.from span.to result }
 {
-    let mut low = from;
-    let mut high = to;
+    let mut low = span.from;
+    let mut high = span.to;
     // Kept: a search by halves, whose step is no index; `partition_point` asks for a slice, and the places of the range are in none.
     while low < high {
         let middle = (low + high) / 2;
@@ -124,25 +131,25 @@ fn halve(p: Probe, strict: bool, from: u32, to: u32) -> u32
 }
 
 // The first place that reaches the target. Mostly that is the first of all.
-fn first_reached(p: Probe, from: u32, to: u32) -> u32
-    requires { Bounded p × (from < to) × (to ≤ 8388608) }
-    ensures { Split (past p false) from to result }
+fn first_reached(p: Probe, span: Span) -> u32
+    requires { Bounded p × (span.from < span.to) × (span.to ≤ 8388608) }
+    ensures { Split (past p false) span.from span.to result }
 {
-    if past(p, false, from) {
-        return from;
+    if past(p, false, span.from) {
+        return span.from;
     }
-    halve(p, false, from, to)
+    halve(p, false, span)
 }
 
 // The first place that is past the target. Mostly there is none.
-fn first_passed(p: Probe, from: u32, to: u32) -> u32
-    requires { Bounded p × (from ≤ to) × (1 ≤ to) × (to ≤ 8388608) }
-    ensures { Split (past p true) from to result }
+fn first_passed(p: Probe, span: Span) -> u32
+    requires { Bounded p × (span.from ≤ span.to) × (1 ≤ span.to) × (span.to ≤ 8388608) }
+    ensures { Split (past p true) span.from span.to result }
 {
-    if !past(p, true, to - 1) {
-        return to;
+    if !past(p, true, span.to - 1) {
+        return span.to;
     }
-    halve(p, true, from, to)
+    halve(p, true, span)
 }
 
 // The places of a span that give the target.
@@ -150,7 +157,8 @@ pub fn narrow(p: Probe, span: Span) -> Span
     requires { Bounded p × (span.from < span.to) × (span.to ≤ 8388608) }
     ensures { Narrowed p span.from span.to result }
 {
-    let from = first_reached(p, span.from, span.to);
-    let to = first_passed(p, from, span.to);
+    let from = first_reached(p, span);
+    let rest = Span { from, to: span.to };
+    let to = first_passed(p, rest);
     Span { from, to }
 }

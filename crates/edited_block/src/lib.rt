@@ -7,13 +7,13 @@ ghost use Rattle.block_rules.specs.Edit.{edited, refreshed, buffers, Opens, Edit
 
 pub use block_rules::{EditedBlock, Source, zero_block, zero_source};
 use block_work::columns::column_count;
-use block_work::refuse::block_refusal;
+use block_work::refuse::{block_refusal, check_place};
 use refusal::{Precision, Refusal};
 use transform_1d::Kind;
 
 // Opens a block on the caller's own coefficients, which it leaves, and writes its intermediate and its residual.
-// Kept: the buffers apart, here and below: a struct of lent slices would have to promise for each slice that it stays the same one (its ghost_name),
-// a clause more for each.
+// Kept: the buffers apart, here and below: a struct of lent slices would have to promise for each slice that it stays the same one (its ghost_name).
+// Kept: kind, size and precision apart, here and below: refusals, range and stages each take some of them, and would take a struct apart.
 pub fn open_block(
     kind: Kind,
     n: usize,
@@ -36,6 +36,7 @@ pub fn open_block(
 }
 
 // One edit of an open block: sets the value, and writes the column count, the intermediate and the residual. A refused edit changes nothing.
+// Kept: row, column and value apart: C gives them so, and a struct of them would be made for one call and taken apart in it.
 // Kept: a function and no method: an `impl` of the record stands in the record's own crate, which lies below the stages that an edit runs.
 pub fn edit(
     block: &mut EditedBlock,
@@ -51,25 +52,18 @@ pub fn edit(
     let EditedBlock {
         kind,
         size: n,
-        depth,
-        extended,
+        precision,
         source,
         ..
     } = *block;
+    let depth = precision.bit_depth;
     block_refusal(kind, n, depth, coeff.len(), inter.len(), residual.len())?;
-    if source.levels {
-        return Err(Refusal::WayMismatched);
-    }
-    if n <= row || n <= column {
-        return Err(Refusal::PlaceOutside);
-    }
-    let range = coefficients::transform_range(Precision {
-        bit_depth: depth,
-        extended,
-    });
-    if coefficients::is_outside(value, range) {
-        return Err(coefficients::outside_refusal(value, range, row, column));
-    }
+    refusal::check(source.levels, Refusal::WayMismatched)?;
+    check_place(n, row, column)?;
+    let range = coefficients::transform_range(precision);
+    let outside = coefficients::is_outside(value, range);
+    let why = coefficients::outside_refusal(value, range, row, column);
+    refusal::check(outside, why)?;
     block_work::edit_stages(
         kind, n, depth, range, coeff, inter, residual, row, column, value,
     );
@@ -77,7 +71,8 @@ pub fn edit(
     Ok(())
 }
 
-// The residual of an intermediate: stage two alone, for a caller whose residual is out of date.
+// The residual of an intermediate: stage two alone, for a caller whose residual is out of date. It has no coefficients that could be too few: 1024
+// are enough at every size.
 pub fn refresh_residual(
     kind: Kind,
     n: usize,

@@ -2,28 +2,10 @@
 use crate::buffers::Buffers;
 use crate::settings;
 use crate::settings::{Setting, Way};
-use edited_block::{EditedBlock, Source};
+use edited_block::EditedBlock;
 use refusal::Refusal;
 use scaling_blocks::blocks;
 use transform_1d::Kind;
-
-// Kept: field by field, here and below, as long as the records in `parameters` and `block_rules` derive no equality.
-fn same_source(a: Source, b: Source) -> bool {
-    a.levels == b.levels
-        && a.qp_prime.0 == b.qp_prime.0
-        && a.listed == b.listed
-        && a.dc == b.dc
-        && a.entries == b.entries
-}
-
-fn same_record(a: EditedBlock, b: EditedBlock) -> bool {
-    a.kind == b.kind
-        && a.size == b.size
-        && a.depth == b.depth
-        && a.extended == b.extended
-        && a.columns == b.columns
-        && same_source(a.source, b.source)
-}
 
 // A decode of all columns.
 fn decode(setting: &Setting, coeff: &[i32], out: &mut [i32]) -> Result<(), Refusal> {
@@ -70,7 +52,7 @@ fn is_opened(setting: &Setting, block: EditedBlock, values: &[i32; 1040], now: &
     };
     let opened = settings::open(setting, &mut fresh);
     opened.is_ok()
-        && same_record(settings::block_of(opened), block)
+        && settings::block_of(opened) == block
         && is_decoded(setting, now.coeff, fresh.residual)
         && &*fresh.inter == &*now.inter
 }

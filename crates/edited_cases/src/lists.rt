@@ -37,15 +37,11 @@ impl<'a> Told<'a> {
 }
 
 fn put_listed(rt: &impl Print, listed: Result<Listed, Refusal>) {
-    cases::put_count(rt, listed.map(|told| told.limited));
-    settings::put_record(
-        rt,
-        listed.map_or(edited_block::zero_block(), |told| told.block),
-    );
+    settings::put_opened(rt, listed.map(|told| told.opened));
     cases::put(rt, listed.map_or(0, |told| told.edits));
 }
 
-// Kept: four records, each with a use of its own.
+// Kept: setting, buffers, edits and answers are four records already, each of use elsewhere; a fifth around them would serve these two calls alone.
 fn on_coefficients(
     setting: &Setting,
     buffers: &mut Buffers,

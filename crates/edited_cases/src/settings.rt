@@ -95,8 +95,7 @@ pub fn record(setting: &Setting, columns: usize) -> EditedBlock {
     EditedBlock {
         kind: setting.kind,
         size: setting.n,
-        depth: setting.precision.bit_depth,
-        extended: setting.precision.extended,
+        precision: setting.precision,
         columns,
         source: Source {
             levels,
@@ -108,7 +107,7 @@ pub fn record(setting: &Setting, columns: usize) -> EditedBlock {
     }
 }
 
-// Kept: tried with the record, and the borrow checker refused a slice read beside those written; so below.
+// Kept: the buffers apart, here and below: tried with `Buffers`, and the borrow checker refused a slice that is read beside those that are written.
 fn open_coefficients(
     setting: &Setting,
     coeff: &mut [i32],
@@ -167,8 +166,8 @@ pub fn put_record(rt: &impl Print, block: EditedBlock) {
     let kind = block.kind;
     cases::put_flag(rt, kind == Kind::Dst);
     cases::put(rt, block.size);
-    cases::put(rt, block.depth);
-    cases::put_flag(rt, block.extended);
+    cases::put(rt, block.precision.bit_depth);
+    cases::put_flag(rt, block.precision.extended);
     cases::put(rt, block.columns);
     let source = block.source;
     let qp_prime = source.qp_prime;
@@ -182,10 +181,7 @@ pub fn put_record(rt: &impl Print, block: EditedBlock) {
 
 // The record of an opening, zeros where it was refused.
 pub fn block_of(opened: Result<LevelsOpened, Refusal>) -> EditedBlock {
-    match opened {
-        Ok(told) => told.block,
-        Err(_) => edited_block::zero_block(),
-    }
+    opened.map_or(edited_block::zero_block(), |told| told.block)
 }
 
 // An opening's answer alone: number, place, row, column, and how many were limited.

@@ -30,26 +30,26 @@ use Rattle.edited_history.specs.Run.{besides, held_edited, SameAt, EditsKeepColu
 -- ---- what holds of every refused edit and of what passes the ladder holds of an edit
 module _ (block : EditedBlock) (levels : List ℤ) (lent : Buffers) (row column : ℕ) (value : ℤ) where
   edited-all : (P : Left → Type 0) → ((e : Refusal) → P (stopped block lent e))
-      → ((answered : Left) → answered.buffers ≡ edited_buffers block.kind block.size block.depth (transform_range block.depth block.extended) lent row column value → answered.answer.number ≡ 0 → P answered)
+      → ((answered : Left) → answered.buffers ≡ edited_buffers block.kind block.size block.precision.bit_depth (transform_range block.precision.bit_depth block.precision.extended) lent row column value → answered.answer.number ≡ 0 → P answered)
       → P (edited block lent row column value)
   unfolding edited block_ladder
   edited-all P stop done =
       let n = block.size in
       first_both (λ (h : Left) (t : Unit {0}). P h) (stopped block lent) _ (λ e. tt) tt
-      (rung (size_refused n) SizeInvalid ∷ rung (depth_refused block.depth) DepthInvalid ∷ rung (dst_refused block.kind n) DstSizeInvalid ∷ rung (block_refused n (length lent.coeff)) InputTooShort
+      (rung (size_refused n) SizeInvalid ∷ rung (depth_refused block.precision.bit_depth) DepthInvalid ∷ rung (dst_refused block.kind n) DstSizeInvalid ∷ rung (block_refused n (length lent.coeff)) InputTooShort
       ∷ rung (block_refused n (length lent.inter) || block_refused n (length lent.res)) OutputTooShort ∷ rung block.source.levels WayMismatched ∷ rung (leb n row || leb n column) PlaceOutside
-      ∷ rung (outside_range (transform_range block.depth block.extended) value) (outside_refusal (transform_range block.depth block.extended) value row column) ∷ [])
+      ∷ rung (outside_range (transform_range block.precision.bit_depth block.precision.extended) value) (outside_refusal (transform_range block.precision.bit_depth block.precision.extended) value row column) ∷ [])
       stop (λ passed. done _ refl refl)
 
   level-edited-all : (P : LevelLeft → Type 0) → ((e : Refusal) → P (level_stopped block levels lent e))
-      → ((answered : LevelLeft) → answered.buffers ≡ edited_buffers block.kind block.size block.depth (transform_range block.depth block.extended) lent row column
-      (scaled_by block.source block.size block.depth block.extended (row * block.size + column) value) → answered.answer.number ≡ 0 → P answered)
+      → ((answered : LevelLeft) → answered.buffers ≡ edited_buffers block.kind block.size block.precision.bit_depth (transform_range block.precision.bit_depth block.precision.extended) lent row column
+      (scaled_by block.source block.size block.precision.bit_depth block.precision.extended (row * block.size + column) value) → answered.answer.number ≡ 0 → P answered)
       → P (level_edited block levels lent row column value)
   unfolding level_edited level_ladder
   level-edited-all P stop done =
       let n = block.size in
       first_both (λ (h : LevelLeft) (t : Unit {0}). P h) (level_stopped block levels lent) _ (λ e. tt) tt
-      (rung (size_refused n) SizeInvalid ∷ rung (depth_refused block.depth) DepthInvalid ∷ rung (dst_refused block.kind n) DstSizeInvalid ∷ rung (list_refused 64) ListLengthInvalid
+      (rung (size_refused n) SizeInvalid ∷ rung (depth_refused block.precision.bit_depth) DepthInvalid ∷ rung (dst_refused block.kind n) DstSizeInvalid ∷ rung (list_refused 64) ListLengthInvalid
       ∷ rung (block_refused n (looked_at block.source.levels (length levels) (length lent.coeff)) || block_refused n (length lent.coeff)) InputTooShort
       ∷ rung (block_refused n (length lent.inter) || block_refused n (length lent.res)) OutputTooShort ∷ rung (not block.source.levels) WayMismatched ∷ rung (leb n row || leb n column) PlaceOutside ∷ [])
       stop (λ passed. done _ refl refl)
@@ -80,7 +80,7 @@ replaced_other n c f xs i h = record { long = column_replaced-length n c f xs; e
         ]
 
 edited_other : (block : EditedBlock) (lent : Buffers) (row column : ℕ) (value : ℤ) (i : ℕ) → (i % block.size ≡ column → i / block.size < block.size → ⊥)
-    → SameAt i lent.inter (edited_buffers block.kind block.size block.depth (transform_range block.depth block.extended) lent row column value).inter
+    → SameAt i lent.inter (edited_buffers block.kind block.size block.precision.bit_depth (transform_range block.precision.bit_depth block.precision.extended) lent row column value).inter
 unfolding edited_buffers
 edited_other block lent row column value i h = replaced_other block.size column _ lent.inter i h
 
@@ -88,7 +88,7 @@ pub edits_keep_columns : EditsKeepColumns
 unfolding held_edited
 edits_keep_columns block levels lent e i h = by_level e.level
   where
-    other : (b : Buffers) (value : ℤ) → b ≡ edited_buffers block.kind block.size block.depth (transform_range block.depth block.extended) lent e.row e.column value → SameAt i lent.inter b.inter
+    other : (b : Buffers) (value : ℤ) → b ≡ edited_buffers block.kind block.size block.precision.bit_depth (transform_range block.precision.bit_depth block.precision.extended) lent e.row e.column value → SameAt i lent.inter b.inter
     other b value p = subst (λ (x : Buffers). SameAt i lent.inter x.inter) (sym p) (edited_other block lent e.row e.column value i h)
 
     by_level : (t : Bool) → SameAt i lent.inter (cond t (level_edited block levels lent e.row e.column e.value) (besides levels (edited block lent e.row e.column e.value))).buffers.inter

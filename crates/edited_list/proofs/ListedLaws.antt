@@ -14,7 +14,7 @@ use lib.IntN.{ℤ}
 use lib.ListN.{length, take, drop, take-append-drop}
 use Rattle.refusal.specs.declared.Refusal.TheVariants.{SizeInvalid, DepthInvalid, DstSizeInvalid, ListLengthInvalid, InputTooShort, OutputTooShort}
 use Rattle.refusal.specs.Refusal.{number}
-use Rattle.refusal.specs.Outcome.{Outcome, accepted, refused, outcome}
+use Rattle.refusal.specs.Outcome.{Outcome, accepted, refused}
 use Rattle.refusal.specs.Condition.{size_refused, depth_refused, list_refused, block_refused}
 use Rattle.refusal.proofs.RefusalLaws.{number_least}
 use Rattle.refusal.proofs.LadderLaws.{first_both}

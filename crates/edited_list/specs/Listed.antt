@@ -10,6 +10,7 @@ use Rattle.block_rules.specs.declared.EditedBlock.{EditedBlock}
 use Rattle.block_rules.specs.Columns.{column_count}
 use Rattle.block_rules.specs.Edit.{Buffers, buffers, zero_block, valued}
 use Rattle.block_rules.specs.Opening.{Opening, block_of}
+use Rattle.block_rules.specs.Level.{levels_opened}
 use Rattle.edited_history.specs.History.{Edit, answers_to, coefficients_of, history_intermediate, history_residual}
 use Rattle.edited_history.specs.Run.{Ran, held_opened, history_after}
 use Rattle.edited_steps.specs.declared.Listed.{Listed}
@@ -33,7 +34,7 @@ listed o levels lent es =
 
 -- what the call hands back: how many coefficients the opening limited, the record after the last edit, and how many edits there were
 abbrev pub listed_as : ℕ → EditedBlock → ℕ → Listed
-listed_as k block made = record { limited = k; block = block; edits = made }
+listed_as k block made = record { opened = levels_opened k block; edits = made }
 
 -- a refused opening hands back nothing, which counts as zeros
 pub record Lists (o : Opening) (levels : List ℤ) (lent : Buffers) (es : List Edit) (s : Slices) (r : Result Listed Refusal) (ls : List ℤ) (after : Buffers) (told : Slices) : Type 0 where

@@ -20,8 +20,9 @@ use transform_1d::Kind;
 // Opens a block on coefficients and makes a list of edits: edit i puts values[i] at row rows[i] and column columns[i], as a level where ways[i] and as a
 // coefficient elsewhere, and its answer goes to numbers[i]; where it names a coefficient, the row goes to named[i] and the column to across[i], else zeros.
 // Where it limits a level, limits[i] has 1, where its result 2, where both 3, else 0. The list is as long as the shortest slice.
-// Kept, here and below: the buffers apart, since a struct of lent slices would have to promise for each slice that it stays the same one (its ghost_name), a
-// clause more for each; and the slices of the list and of its answers apart, since C lends each, and there is no heap to pair them in.
+// Kept: the buffers apart, here and below: a struct of lent slices would have to promise for each slice that it stays the same one (its ghost_name).
+// Kept: kind, size and precision apart, here and below: refusals, scaling and stages each take some of them, and would take a struct apart.
+// Kept: the slices of the list and of its answers apart, here and below: C lends each, and there is no heap to pair them in.
 pub fn open_and_edit(
     kind: Kind,
     n: usize,

@@ -10,7 +10,7 @@ use lib.ListN.{length}
 use Rattle.block_rules.specs.declared.EditedBlock.{EditedBlock}
 use Rattle.block_rules.specs.declared.LevelsOpened.{LevelsOpened}
 use Rattle.block_rules.specs.Edit.{Buffers}
-use Rattle.block_rules.specs.Level.{LevelLeft}
+use Rattle.block_rules.specs.Level.{LevelLeft, levels_opened}
 use Rattle.edited_history.specs.History.{Edit}
 use Rattle.edited_history.specs.Run.{held_edited, ran_from}
 use Rattle.edited_steps.specs.Steps.{Slices, edit_count, ListNeeds, RunsFrom, RunsAfter}
@@ -50,5 +50,5 @@ count_ask rows columns values ways s =
 -- ---- the edits after an opening
 pub runs_all : (opened : LevelsOpened) (levels : List ℤ) (lent : Buffers) (es : List Edit) (s : Slices) (count : ℕ) (last : EditedBlock) (ls d g e : List ℤ) (told : Slices) → count ≡ length es
     → RunsFrom (ran_from opened.block levels lent es) s last ls d g e told
-    → RunsAfter opened levels lent es s (record { limited = opened.limited; block = last; edits = count }) ls d g e told
+    → RunsAfter opened levels lent es s (record { opened = levels_opened opened.limited last; edits = count }) ls d g e told
 runs_all opened levels lent es s count last ls d g e told made w = record { limited = refl; edits = made ∙ sym (ran-length es opened.block levels lent); runs = w }

@@ -6,7 +6,7 @@
 --   edits_of k rows columns values ways   k edits; the i-th has the i-th row, column and value, and is of a level where the i-th way says so
 --   ListNeeds, RunsFrom       what the loop over the edits relies on, and what it leaves
 --   RunsAfter               the same of the edits after an opening
-use Rattle.std.specs.Prelude.{◌≡◌, Bool, false, cond, List, [], map, ℕ, ◌≤◌, min, ℤ, pos, length, get_or, set}
+use Rattle.std.specs.Prelude.{◌≡◌, Bool, false, cond, List, map, ℕ, ◌≤◌, min, ℤ, pos, length, get_or, set}
 use Rattle.std.proofs.lemmas.List.Edits.{sets}
 use Rattle.integers.specs.Lists.{tabulate}
 use Rattle.refusal.specs.Outcome.{Outcome}
@@ -80,6 +80,6 @@ pub record RunsFrom (ran : Ran) (s : Slices) (block : EditedBlock) (ls d g e : L
   pub told_are : told ≡ put s 0 ran.answers
 
 pub record RunsAfter (opened : LevelsOpened) (levels : List ℤ) (lent : Buffers) (es : List Edit) (s : Slices) (r : Listed) (ls d g e : List ℤ) (told : Slices) : Type 0 where
-  pub limited : r.limited ≡ opened.limited
+  pub limited : r.opened.limited ≡ opened.limited
   pub edits : r.edits ≡ length (ran_from opened.block levels lent es).answers
-  pub runs : RunsFrom (ran_from opened.block levels lent es) s r.block ls d g e told
+  pub runs : RunsFrom (ran_from opened.block levels lent es) s r.opened.block ls d g e told

@@ -11,41 +11,15 @@ ghost use Rattle.edited_steps.specs.Steps.{slices, limits_number, put_one, edit_
 use block_rules::{EditedBlock, LevelsOpened, Limits};
 use refusal::Refusal;
 
-// How many coefficients the opening limited, the record after the last edit, and how many edits were given to the block.
+// What the opening limited with the record after the last edit, and how many edits were given to the block.
 #[derive(Clone, Copy)]
 pub struct Listed {
-    pub limited: u16,
-    pub block: EditedBlock,
+    pub opened: LevelsOpened,
     pub edits: usize,
 }
 
-fn answer_number(given: Result<Limits, Refusal>) -> u8
-    ensures { result ≡ (outcome no_limits given).number }
-{
-    match given {
-        Ok(_) => 0,
-        Err(why) => why.number(),
-    }
-}
-
-fn answer_row(given: Result<Limits, Refusal>) -> u8
-    ensures { result ≡ (outcome no_limits given).row }
-{
-    match given {
-        Ok(_) => 0,
-        Err(why) => why.row(),
-    }
-}
-
-fn answer_column(given: Result<Limits, Refusal>) -> u8
-    ensures { result ≡ (outcome no_limits given).column }
-{
-    match given {
-        Ok(_) => 0,
-        Err(why) => why.column(),
-    }
-}
-
+// What was limited, as the number that C gets.
+// Kept: numbers for a pair of flags, since an answer of a list has one byte for it in C (limits).
 fn limits_number(limits: Limits) -> u8
     ensures { result ≡ limits_number limits }
 {
@@ -57,17 +31,36 @@ fn limits_number(limits: Limits) -> u8
     }
 }
 
-fn answer_limits(given: Result<Limits, Refusal>) -> u8
-    ensures { result ≡ limits_number (outcome no_limits given).value }
+// What an answer puts into the four slices.
+#[derive(Clone, Copy)]
+struct Parts {
+    number: u8,
+    row: u8,
+    column: u8,
+    limits: u8,
+}
+
+fn parts_of(given: Result<Limits, Refusal>) -> Parts
+    ensures { let o = outcome no_limits given in (result.number ≡ o.number) × (result.row ≡ o.row) × (result.column ≡ o.column) × (result.limits ≡ limits_number o.value) }
 {
     match given {
-        Ok(limits) => limits_number(limits),
-        Err(_) => 0,
+        Ok(done) => Parts {
+            number: 0,
+            row: 0,
+            column: 0,
+            limits: limits_number(done),
+        },
+        Err(why) => Parts {
+            number: why.number(),
+            row: why.row(),
+            column: why.column(),
+            limits: 0,
+        },
     }
 }
 
 // One answer into the four slices.
-// Kept, here and below: the slices of a list of edits and of its answers apart: C lends each, and there is no heap to pair them in.
+// Kept: the slices of a list of edits and of its answers apart, here and below: C lends each, and there is no heap to pair them in.
 fn put_answer(
     given: Result<Limits, Refusal>,
     i: usize,
@@ -79,10 +72,11 @@ fn put_answer(
     requires { (i < length numbers.old) × (i < length named.old) × (i < length across.old) × (i < length limits.old) }
     ensures { (slices numbers.new named.new across.new limits.new) ≡ put_one (slices numbers.old named.old across.old limits.old) i (outcome no_limits given) }
 {
-    numbers[i] = answer_number(given);
-    named[i] = answer_row(given);
-    across[i] = answer_column(given);
-    limits[i] = answer_limits(given);
+    let parts = parts_of(given);
+    numbers[i] = parts.number;
+    named[i] = parts.row;
+    across[i] = parts.column;
+    limits[i] = parts.limits;
 }
 
 // As many edits as every slice has.
@@ -107,8 +101,7 @@ fn edit_count(
 }
 
 // One edit, of a level or of a coefficient.
-// Kept: the buffers apart, here and below: a struct of lent slices would have to promise for each slice that it stays the same one (its ghost_name),
-// a clause more for each.
+// Kept: the buffers apart, here and below: a struct of lent slices would have to promise for each slice that it stays the same one (its ghost_name).
 fn edit_one(
     block: &mut EditedBlock,
     levels: &mut [i32],
@@ -194,8 +187,7 @@ pub fn edit_after(
         across, limits, edits,
     );
     Listed {
-        limited: opened.limited,
-        block,
+        opened: LevelsOpened { block, ..opened },
         edits,
     }
 }

@@ -16,7 +16,7 @@ pub use feed_state::{State, Taken, start};
 pub use stream::{run, step};
 
 // Why a record was not taken: it was refused, or a buffer was too short for it.
-// Kept: the error of a `Result`; its two kinds are no value or none.
+// Kept: `NoRoom` is no row of the table that `Refusal` is; a `Result<Option<Taken>, Refusal>` in place of this would hide an error in an `Ok`.
 #[derive(Clone, Copy, Debug, PartialEq, Eq)]
 pub enum StepError {
     Refused(Refusal),

@@ -15,23 +15,14 @@ use feed_state::{State, Taken};
 fn too_short(levels: usize, coeff: usize, inter: usize, residual: usize) -> bool
     ensures { result ≡ (ltb levels 1024 || ltb coeff 1024) || (ltb inter 1024 || ltb residual 1024) }
 {
-    if levels < 1024 {
-        return true;
-    }
-    if coeff < 1024 {
-        return true;
-    }
-    if inter < 1024 {
-        return true;
-    }
-    residual < 1024
+    (levels < 1024 || coeff < 1024) || (inter < 1024 || residual < 1024)
 }
 
 // One record: its kind, and as much of its body as there is. Its text goes to the start of `out`, which must have the bytes that
 // `record_room` says; the buffers of the open block have 1,024 elements or more, and are those that the call before left. Else
 // `NoRoom` is answered before anything else, and the buffers are as given. A refused record too leaves all as given, so the offset of
 // the state that was given is that of its kind.
-// Kept: a struct of lent slices would have to promise for each slice that it stays the same one (its ghost_name), a clause more for each.
+// Kept: the four buffers apart, here and in the crates below: a struct of lent slices would have to promise for each that it stays the same one (its ghost_name), and a struct of four arrays would change what callers outside hand to `step`.
 pub fn step(
     state: State,
     kind: u8,
@@ -54,8 +45,7 @@ pub fn step(
 }
 
 // The text of a whole feed, where there is room for it.
-// Kept: one walk for this and the listing would be generic over what a record does, its line of refusal, the last line and the room, with their laws as
-// members of a trait: more to read than the loop, which stands twice.
+// Kept: the loop goes from record to record, by no index; one walk for this and the listing would be generic over a record's effect, its room and both last lines, with their laws as members of a trait: more to read.
 fn run_within(input: &[u8], out: &mut [u8]) -> usize
     requires { feed_room input.now ≤ length out.old }
     ensures { Wrote out.old 0 (feed_text input.now) out.new result × Counts result out.new }
@@ -67,14 +57,11 @@ fn run_within(input: &[u8], out: &mut [u8]) -> usize
     let mut state = feed_state::start();
     let mut end = 0;
     while (state.offset as usize) < input.len() {
-        let at = state.offset as usize;
-        let kind = input[at];
-        let from = at + 1;
-        let stop = (from + feed_format::record_length(kind)).min(input.len());
+        let (kind, body) = feed_format::record_at(input, state.offset as usize);
         match feed_records::take_record(
             state,
             kind,
-            &input[from..stop],
+            body,
             &mut levels,
             &mut coeff,
             &mut inter,
@@ -86,7 +73,7 @@ fn run_within(input: &[u8], out: &mut [u8]) -> usize
                 state = taken.state;
                 end = taken.end;
             }
-            Err(why) => return feed_lines::put_refused(why.number(), state.offset, out, end),
+            Err(why) => return feed_lines::put_refused(why, state.offset, out, end),
         }
     }
     let blocks = state.blocks;

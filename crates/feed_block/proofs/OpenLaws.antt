@@ -3,8 +3,8 @@
 --   opening_is                     the opening by that list
 --   opening_fits                   no condition of the opening holds
 --   opened-limited, opened_rows    how many coefficients were limited, and the residual
---   opens_block                    both, of what a call hands back
-use Rattle.std.specs.Prelude.{Result}
+--   opens_ok, opens_block          no call refuses, and both of what it hands back
+use Rattle.std.specs.Prelude.{Result, Ok, IsOk}
 use mathlib.Core.Path.{◌≡◌, refl, sym, ap, subst, ◌∙◌}
 use mathlib.Core.Bool.{Bool, false, ◌||◌}
 use mathlib.Core.List.{List, []}
@@ -23,9 +23,7 @@ use Rattle.refusal.specs.declared.Refusal.{Refusal}
 use Rattle.scaling_values.proofs.CountLaws.{count_cong}
 use Rattle.scaling_values.specs.Given.{entries_of}
 use Rattle.transform_1d.specs.declared.Kind.{Kind}
-use Rattle.transform_1d.specs.declared.Kind.TheVariants.{Dct as DctKind, Dst as DstKind}
 use Rattle.transform_1d.specs.Kinds as kinds
-use Rattle.transform_1d.specs.MatrixOf.{matrix_of}
 use Rattle.block_rules.specs.Edit.{zero_block, Buffers}
 use Rattle.block_rules.specs.Opening.{Opening}
 use Rattle.block_rules.specs.declared.LevelsOpened.{LevelsOpened}
@@ -35,11 +33,12 @@ use Rattle.edited_history.specs.History.{history_of, coefficients_of, history_re
 use Rattle.edited_history.specs.Run.{held_opened, ran, ran_from, opened_on, history_after}
 use Rattle.edited_history.proofs.HistoryLaws.{edits_follow_history}
 use Rattle.feed_format.specs.declared.Mode.{Mode}
+use Rattle.feed_format.specs.declared.Mode.TheVariants.{Transform}
 use Rattle.feed_format.specs.declared.Parameters.{Parameters}
 use Rattle.feed_format.specs.Format.{level_at, levels_of, dst_refused, list_ignored}
-use Rattle.feed_rules.specs.Block.{list_for, coefficients, transformed_at, residual_by, residual_at, block_residual, block_limited, mode_of_kind, opening_of}
+use Rattle.feed_rules.specs.Block.{list_for, coefficients, transformed_at, residual_by, residual_at, block_residual, block_limited, opening_of}
 use Rattle.feed_block.specs.Work.{Accepted, OpensBlock}
-use Rattle.feed_block.proofs.ScaleLaws.{size_ok, block_ok}
+use Rattle.feed_block.proofs.ScaleLaws.{size_ok, block_ok, no_refusal}
 
 pub list_is : (kind : Kind) (list : ScalingList) (p : Parameters) (n : ℕ) → list_of (opening_of kind list p n).source ≡ list
 list_is kind flat p n = refl
@@ -49,29 +48,26 @@ pub opening_is : (kind : Kind) (list : ScalingList) (p : Parameters) (n : ℕ) �
 opening_is kind flat p n = refl
 opening_is kind (listed entries d) p n = refl
 
-pub dst_of : (kind : Kind) (n : ℕ) → kinds.dst_refused kind n ≡ dst_refused (mode_of_kind kind) n
-unfolding kinds.dst_refused dst_refused
-dst_of DctKind n = refl
-dst_of DstKind n = refl
+pub dst_of : (kind : Kind) (n : ℕ) → kinds.dst_refused kind n ≡ dst_refused (Transform kind) n
+unfolding dst_refused
+dst_of kind n = refl
 
 both : (s t : Bool) → s ≡ false → t ≡ false → s || t ≡ false
 both s t e f = rw (e, f) refl
 
 -- the residual of clause 8.6 is the history's of no edit
-same_residual : (kind : Kind) (list : ScalingList) (p : Parameters) (n : ℕ) (vs : List ℤ) → p.mode ≡ mode_of_kind kind
+same_residual : (kind : Kind) (list : ScalingList) (p : Parameters) (n : ℕ) (vs : List ℤ) → p.mode ≡ Transform kind
     → history_residual (opening_of kind list p n) (coefficients list p n vs) ≡ block_residual list p n vs
-unfolding history_residual block_residual residual_at residual_by transformed_at list_for list_ignored matrix_of
-same_residual DctKind list p n vs e = rw e refl
-same_residual DstKind list p n vs e = rw e refl
+unfolding history_residual block_residual residual_at residual_by transformed_at list_for list_ignored
+same_residual kind list p n vs e = rw e refl
 
-same_limited : (kind : Kind) (list : ScalingList) (p : Parameters) (n : ℕ) (vs : List ℤ) → p.mode ≡ mode_of_kind kind
+same_limited : (kind : Kind) (list : ScalingList) (p : Parameters) (n : ℕ) (vs : List ℤ) → p.mode ≡ Transform kind
     → block_limited list p n vs ≡ limited_count list n p.precision.bit_depth p.precision.extended (pos p.qp_prime) vs
 unfolding block_limited list_for list_ignored
-same_limited DctKind list p n vs e = rw e refl
-same_limited DstKind list p n vs e = rw e refl
+same_limited kind list p n vs e = rw e refl
 
 module _ (kind : Kind) (list : ScalingList) (p : Parameters) (n : ℕ) (body : List ℕ) (before : List ℤ) (lent : Buffers)
-    (a : Accepted p n) (m : p.mode ≡ mode_of_kind kind) (whole : entries_of list ≡ 64)
+    (a : Accepted p n) (m : p.mode ≡ Transform kind) (whole : entries_of list ≡ 64)
     (levels_long : n * n ≤ length before) (coeff_long : n * n ≤ length lent.coeff) (inter_long : n * n ≤ length lent.inter) (res_long : n * n ≤ length lent.res) where
   abbrev o : Opening
   o = opening_of kind list p n
@@ -131,14 +127,20 @@ module _ (kind : Kind) (list : ScalingList) (p : Parameters) (n : ℕ) (body : L
       ∙ same_residual kind list p n (levels_of n body) m
 
   -- what the function that opens a block on a body's levels hands back
-  pub opens_block : {r : LevelsOpened} {given : Result LevelsOpened Refusal} {ls d g e : List ℤ} → ls ≡ levels → LevelOpens (level_opened o ls lent) given d g e → r ≡ (outcome (levels_opened 0 zero_block) given).value
-      → OpensBlock list p kind n body before lent r ls d g e
-  opens_block {r} {given} {ls} {d} {g} {e} h opens k =
-      let there : LevelOpens (level_opened o levels lent) given d g e = subst (λ (xs : List ℤ). LevelOpens (level_opened o xs lent) given d g e) h opens in
-      record {
-        levels_are = h;
-        block = ap (λ (x : LevelsOpened). x.block) k ∙ ap (λ (a : Outcome LevelsOpened). a.value.block) opens.answered;
-        buffers_are = rw (opens.coeff, opens.inter, opens.res) refl;
-        limited = ap (λ (x : LevelsOpened). x.limited) k ∙ ap (λ (a : Outcome LevelsOpened). a.value.limited) there.answered ∙ opened-limited;
-        rows = ap (take (n * n)) there.res ∙ opened_rows;
-      }
+  module _ {given : Result LevelsOpened Refusal} {ls d g e : List ℤ} (h : ls ≡ levels) (opens : LevelOpens (level_opened o ls lent) given d g e) where
+    there : LevelOpens (level_opened o levels lent) given d g e
+    there = subst (λ (xs : List ℤ). LevelOpens (level_opened o xs lent) given d g e) h opens
+
+    pub opens_ok : IsOk given
+    opens_ok = no_refusal (levels_opened 0 zero_block) given (ap (λ (a : Outcome LevelsOpened). a.number) there.answered ∙ opened-number)
+
+    pub opens_block : {r : LevelsOpened} → given ≡ Ok r → OpensBlock list p kind n body before lent r ls d g e
+    opens_block {r} told =
+        let k : r ≡ (outcome (levels_opened 0 zero_block) given).value = ap (λ (o : Result LevelsOpened Refusal). (outcome (levels_opened 0 zero_block) o).value) (sym told) in
+        record {
+          levels_are = h;
+          block = ap (λ (x : LevelsOpened). x.block) k ∙ ap (λ (a : Outcome LevelsOpened). a.value.block) opens.answered;
+          buffers_are = rw (opens.coeff, opens.inter, opens.res) refl;
+          limited = ap (λ (x : LevelsOpened). x.limited) k ∙ ap (λ (a : Outcome LevelsOpened). a.value.limited) there.answered ∙ opened-limited;
+          rows = ap (take (n * n)) there.res ∙ opened_rows;
+        }

@@ -1,32 +1,29 @@
--- What the crate `scaling` does where nothing is refused, and what its coefficients are good for.
---   dequantized_out, skipped_out   the output of scaling and of transform skip, and the count
+-- What transform skip does where nothing is refused.
 --   size_ok, block_ok              a size and a buffer that no row refuses
---   coefficients_in_range          every coefficient lies in its range
-use Rattle.std.specs.Prelude.{Result}
-use mathlib.Core.Path.{◌≡◌, refl, ap, ◌∙◌}
+--   no_refusal                     an answer without a number is no refusal
+--   skipped_ok, skipped_out        it is not refused, and its output and its count
+use Rattle.std.specs.Prelude.{Result, Ok, Err, IsOk}
+use mathlib.Core.Path.{◌≡◌, refl, sym, ap, ◌∙◌}
 use mathlib.Core.Bool.{Bool, true, false, not}
 use mathlib.Core.List.{List}
-use Prim.Native.Nat.{ℕ, ◌*◌, ◌≤◌, ◌<◌}
+use Prim.Native.Nat.{ℕ, ◌*◌, ◌≤◌}
 use borrow.Author.Tests.{le-ltb}
 use lib.Dec.{T}
-use lib.IntN.{ℤ, pos}
-use lib.ListN.{length, get_or}
+use lib.IntN.{ℤ}
+use lib.ListN.{length}
 use Rattle.integers.specs.Lists.{overwrite}
-use Rattle.integers.proofs.MachineLaws.{lt_z_of_le}
-use Rattle.integers.proofs.ListsLaws.{tabulate-length, tabulate-get_or}
-use Rattle.h265.specs.Range.{is_size, transform_range, clip_coeff, outside_range}
+use Rattle.h265.specs.Range.{is_size}
 use Rattle.h265.specs.ScalingFactor.{ScalingList}
-use Rattle.h265.specs.Scaling.{scale_level, scaled_at}
 use Rattle.h265.specs.TransformSkip.{skipped_at}
 use Rattle.h265.specs.Limited.{limited_count}
-use Rattle.h265.proofs.RangeLaws.{clip_coeff_between}
+use native.Mathlib.Omega.{arith}
 use Rattle.refusal.specs.Outcome.{Outcome, outcome}
+use Rattle.refusal.specs.Refusal.{number}
+use Rattle.refusal.proofs.RefusalLaws.{number_least}
 use Rattle.refusal.specs.Condition.{size_refused, depth_refused, list_refused, block_refused}
 use Rattle.refusal.specs.declared.Refusal.{Refusal}
-use Rattle.scaling_blocks.specs.Blocks.{bits32, scaling_ladder, block_written, dequantized, transform_skipped, CountWritten, CountWrites, counted}
+use Rattle.scaling_blocks.specs.Blocks.{bits32, scaling_ladder, block_written, transform_skipped, CountWritten, CountWrites, counted}
 use Rattle.scaling_values.specs.Given.{entries_of}
-use Rattle.feed_format.specs.declared.Parameters.{Parameters}
-use Rattle.feed_rules.specs.Block.{coefficients}
 use Rattle.feed_block.specs.Work.{Leaves}
 
 pub size_ok : (n : ℕ) → T (is_size n) → size_refused n ≡ false
@@ -45,6 +42,10 @@ pub block_ok : (n len : ℕ) → n * n ≤ len → block_refused n len ≡ false
 unfolding block_refused
 block_ok n len h = le-ltb len (n * n) h
 
+pub no_refusal : {A : Type 0} (none : A) (r : Result A Refusal) → (outcome none r).number ≡ 0 → IsOk r
+no_refusal none (Ok a) h = refl
+no_refusal none (Err why) h = absurd (let z : number why ≡ 0 = h in let f : ⊥ = omega (arith, number_least why, z) in f)
+
 -- a block that nothing refuses
 module _ (list : ScalingList) (n : ℕ) (q : ℤ) (b : ℕ) (x : Bool) (levels out : List ℤ)
     (size : T (is_size n)) (depth : depth_refused b ≡ false) (entries : entries_of list ≡ 64)
@@ -58,28 +59,11 @@ module _ (list : ScalingList) (n : ℕ) (q : ℤ) (b : ℕ) (x : Bool) (levels o
   leaves at w e =
       record { out = w.out ∙ ap (λ (c : CountWritten). c.out) (done at); limited = e ∙ ap (λ (o : Outcome ℕ). o.value) (w.answered ∙ ap (λ (c : CountWritten). c.answer) (done at)) }
 
-  pub dequantized_out : {r : (Result ℕ Refusal)} {after : List ℤ} {m : ℕ} → CountWrites r after (dequantized bits32 list n q b x levels out) → m ≡ (outcome 0 r).value
-      → Leaves (limited_count list n b x q levels) (scaled_at list n b x q levels) (n * n) out after m
-  unfolding dequantized
-  dequantized_out w e = leaves (scaled_at list n b x q levels) w e
+  pub skipped_ok : {r : (Result ℕ Refusal)} {after : List ℤ} → CountWrites r after (transform_skipped bits32 list n q b x levels out) → IsOk r
+  unfolding transform_skipped
+  skipped_ok {r} w = no_refusal 0 r (ap (λ (o : Outcome ℕ). o.number) (w.answered ∙ ap (λ (c : CountWritten). c.answer) (done (skipped_at list n b x q levels))))
 
-  pub skipped_out : {r : (Result ℕ Refusal)} {after : List ℤ} {m : ℕ} → CountWrites r after (transform_skipped bits32 list n q b x levels out) → m ≡ (outcome 0 r).value
+  pub skipped_out : {r : (Result ℕ Refusal)} {after : List ℤ} {m : ℕ} → CountWrites r after (transform_skipped bits32 list n q b x levels out) → r ≡ Ok m
       → Leaves (limited_count list n b x q levels) (skipped_at list n b x q levels) (n * n) out after m
   unfolding transform_skipped
-  skipped_out w e = leaves (skipped_at list n b x q levels) w e
-
--- ---- the range
-pub coefficients-length : (list : ScalingList) (p : Parameters) (n : ℕ) (levels : List ℤ) → length (coefficients list p n levels) ≡ n * n
-unfolding coefficients
-coefficients-length list p n levels = tabulate-length (n * n) _
-
-clipped_in_range : (r : ℕ) (z : ℤ) → outside_range r (clip_coeff r z) ≡ false
-unfolding outside_range
-clipped_in_range r z = let h = clip_coeff_between r z in simp (lt_z_of_le h.0, lt_z_of_le h.1)
-
-pub coefficients_in_range : (list : ScalingList) (p : Parameters) (n : ℕ) (levels : List ℤ) (i : ℕ) → i < n * n
-    → outside_range (transform_range p.precision.bit_depth p.precision.extended) (get_or (coefficients list p n levels) i (pos 0)) ≡ false
-unfolding coefficients scaled_at scale_level
-coefficients_in_range list p n levels i h =
-    rw (tabulate-get_or (n * n) (scaled_at list n p.precision.bit_depth p.precision.extended (pos p.qp_prime) levels) i (pos 0) h)
-    (clipped_in_range (transform_range p.precision.bit_depth p.precision.extended) _)
+  skipped_out w e = leaves (skipped_at list n b x q levels) w (ap (λ (o : Result ℕ Refusal). (outcome 0 o).value) (sym e))

@@ -34,8 +34,7 @@ fn replay(rt: &impl Print, file: &mut impl Read, number: u64) -> bool {
     if streams::read_full(file, &mut head) < 4 {
         return false;
     }
-    // the upper two of four bytes are zero
-    let n = u16::from_le_bytes([head[0], head[1]]) as usize;
+    let n = u32::from_le_bytes(head) as usize;
     if LONGEST < n {
         return false;
     }
@@ -57,7 +56,7 @@ fn replay_all(rt: &impl Print, file: &mut impl Read) {
 }
 
 // The file that an argument names.
-// Kept: as in the other program on files; a shared one would need a closure with Files, Print and Eprint.
+// Kept: `scaling_lists_cases` has this too; one for both would take the replay as a closure, for one `open`, a title and an error line.
 fn replay_file<R: Files + Print + Eprint>(rt: &R, path: &str) {
     match fs::open(rt, path) {
         Ok(mut file) => {

@@ -1,15 +1,13 @@
 -- Laws of the record format.
 --   kind_unknown            a byte outside 1 .. 9 is no kind
 --   Sized, kind_size        a kind of levels has one of the four sizes
---   unknown_is              a byte that is no kind, by what `Option` says
 --   unknown_room            an unknown kind has no text
 --   kind_known              the same of a byte that is of a kind
 --   length_most, text_most  the body and the text of a known kind
 --   room_most               no record's text takes more than that of the largest block
 use Rattle.std.specs.Prelude.{Option, Some, None}
-use Rattle.std.specs.Option.{is_some}
 use mathlib.Core.Path.{◌≡◌, refl, sym}
-use mathlib.Core.Bool.{Bool, true, false, not, cond, true≢false}
+use mathlib.Core.Bool.{Bool, true, false, cond, true≢false}
 use Prim.Native.Nat.{ℕ, ◌≤◌}
 use native.Mathlib.Omega.{arith}
 use borrow.Author.Tests.{ne_eqb}
@@ -40,12 +38,6 @@ kind_size k =
 
 pub kind_known : {kind : Kind} (k : ℕ) → kind_of k ≡ Some kind → T (size_known kind)
 kind_known k e = rw e at (kind_size k)
-
-pub unknown_is : {t : Bool} (kind : Option Kind) → is_some kind ≡ not t → is_unknown kind ≡ t
-unknown_is {t = true} None e = refl
-unknown_is {t = false} None e = absurd (true≢false (sym e))
-unknown_is {t = true} (Some kind) e = absurd (true≢false e)
-unknown_is {t = false} (Some kind) e = refl
 
 pub unknown_room : (k : ℕ) → is_unknown (kind_of k) ≡ true → record_room k ≡ 0
 unfolding record_room

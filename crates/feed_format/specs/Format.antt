@@ -16,14 +16,16 @@
 --   levels_of n body   the n² levels of a body
 --   list_of body      64 entries, then DC
 --   edit_row, edit_column, edit_level   what the body of an edit holds: one byte, one byte, and a level
-use Rattle.std.specs.Prelude.{Bool, true, false, not, cond, List, ℕ, ◌+◌, ◌*◌, eqb, ltb, ℤ, pos, ◌-ℤ◌, get_or, take, drop, Option, Some, None}
+use Rattle.std.specs.Prelude.{Bool, true, false, cond, List, ℕ, ◌+◌, ◌*◌, eqb, ltb, ℤ, pos, ◌-ℤ◌, get_or, take, drop, Option, Some, None}
 use Rattle.integers.specs.Lists.{tabulate}
 use Rattle.h265.specs.Range.{is_size}
 use Rattle.feed_format.specs.declared.Kind.{Kind}
 use Rattle.feed_format.specs.declared.Kind.TheVariants.{Parameters, List as ListKind, NoList, Levels, Edit, Reading}
 use Rattle.feed_format.specs.declared.List.{List as FeedList}
 use Rattle.feed_format.specs.declared.Mode.{Mode}
-use Rattle.feed_format.specs.declared.Mode.TheVariants.{Dct, Dst, Skip}
+use Rattle.feed_format.specs.declared.Mode.TheVariants.{Transform, Skip}
+use Rattle.transform_1d.specs.declared.Kind.TheVariants.{Dct, Dst}
+use Rattle.transform_1d.specs.Kinds.{dst_refused as kind_refused}
 
 unfoldable pub kind_of : ℕ → Option Kind
 kind_of k =
@@ -80,17 +82,15 @@ unfoldable pub flag_of : ℕ → Option Bool
 flag_of f = cond (eqb f 0) (Some false) (cond (eqb f 1) (Some true) None)
 
 unfoldable pub mode_of : ℕ → Option Mode
-mode_of m = cond (eqb m 0) (Some Dct) (cond (eqb m 1) (Some Dst) (cond (eqb m 2) (Some Skip) None))
+mode_of m = cond (eqb m 0) (Some (Transform Dct)) (cond (eqb m 1) (Some (Transform Dst)) (cond (eqb m 2) (Some Skip) None))
 
 unfoldable pub dst_refused : Mode → ℕ → Bool
-dst_refused Dct n = false
-dst_refused Dst n = not (eqb n 4)
+dst_refused (Transform kind) n = kind_refused kind n
 dst_refused Skip n = false
 
 -- clause 8.6: m is 16 for a transform-skip block with nTbS above 4
 unfoldable pub list_ignored : Mode → ℕ → Bool
-list_ignored Dct n = false
-list_ignored Dst n = false
+list_ignored (Transform kind) n = false
 list_ignored Skip n = ltb 4 n
 
 unfoldable pub signed32 : ℕ → ℤ

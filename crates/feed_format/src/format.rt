@@ -1,10 +1,11 @@
 // Kinds of records, what a body holds, and what goes by the mode of a block.
-ghost use Rattle.std.specs.Prelude.{◌≡◌, ◌≤◌, T};
+ghost use Rattle.std.specs.Prelude.{◌≡◌, ◌+◌, ◌≤◌, ◌<◌, T, length, get_or, take, drop};
 ghost use Rattle.feed_format.specs.Format.{kind_of, size_known, body_length, text_room, record_length, record_room, flag_of, mode_of, dst_refused, list_ignored};
 
 use crate::{Kind, Mode};
 
 // What a byte of kind stands for.
+// Kept: an `Option` and no `TryFrom`: lengths and rooms are 0 where a byte is no kind, and only `take_record` refuses it.
 #[tactic(auto, unfolding(crate::specs::Format::kind_of))]
 pub fn kind_of(kind: u8) -> Option<Kind>
     ensures { result ≡ kind_of kind }
@@ -63,6 +64,18 @@ pub fn record_length(kind: u8) -> usize
     }
 }
 
+// The record at an offset of a feed: its kind, and as much of its body as there is.
+pub fn record_at(input: &[u8], at: usize) -> (u8, &[u8])
+    requires { at < length input.now }
+    ensures kind { result.0 ≡ get_or input.now at 0 }
+    ensures body { result.1.now ≡ take (record_length (get_or input.now at 0)) (drop (at + 1) input.now) }
+{
+    let kind = input[at];
+    let from = at + 1;
+    let stop = (from + record_length(kind)).min(input.len());
+    (kind, &input[from..stop])
+}
+
 // How many bytes the text of a record may take.
 #[tactic(auto, using(crate::proofs::FormatLaws::kind_known, crate::proofs::FormatLaws::text_most), unfolding(crate::specs::Format::record_room))]
 pub fn record_room(kind: u8) -> usize
@@ -86,13 +99,14 @@ pub fn flag_of(flag: u8) -> Option<bool>
     }
 }
 
+// Kept: an `Option` and no `TryFrom`, as the flag beside it has (no `TryFrom<u8>` for std's `bool` can stand here): one refusal is for both.
 #[tactic(auto, unfolding(crate::specs::Format::mode_of))]
 pub fn mode_of(mode: u8) -> Option<Mode>
     ensures { result ≡ mode_of mode }
 {
     match mode {
-        0 => Some(Mode::Dct),
-        1 => Some(Mode::Dst),
+        0 => Some(Mode::Transform(transform_1d::Kind::Dct)),
+        1 => Some(Mode::Transform(transform_1d::Kind::Dst)),
         2 => Some(Mode::Skip),
         _ => None,
     }
@@ -104,8 +118,8 @@ pub fn dst_refused(mode: Mode, n: usize) -> bool
     ensures { result ≡ dst_refused mode n }
 {
     match mode {
-        Mode::Dst => n != 4,
-        Mode::Dct | Mode::Skip => false,
+        Mode::Transform(kind) => transform_1d::dst_refused(kind, n),
+        Mode::Skip => false,
     }
 }
 
@@ -115,7 +129,7 @@ pub fn list_ignored(mode: Mode, n: usize) -> bool
     ensures { result ≡ list_ignored mode n }
 {
     match mode {
-        Mode::Dct | Mode::Dst => false,
+        Mode::Transform(_) => false,
         Mode::Skip => 4 < n,
     }
 }

@@ -7,7 +7,7 @@ mod room;
 mod values;
 
 pub use format::{
-    dst_refused, flag_of, kind_of, list_ignored, mode_of, record_length, record_room,
+    dst_refused, flag_of, kind_of, list_ignored, mode_of, record_at, record_length, record_room,
 };
 use refusal::Precision;
 pub use room::feed_room;
@@ -25,14 +25,14 @@ pub enum Kind {
 
 #[derive(Clone, Copy)]
 pub enum Mode {
-    Dct,
-    Dst,
+    Transform(transform_1d::Kind),
     Skip,
 }
 
 #[derive(Clone, Copy)]
 pub struct Parameters {
     pub precision: Precision,
+    // Kept: the byte of the record; a `QpPrime` is an `i32`, and would ask each reader whether it is negative.
     pub qp_prime: u8,
     pub mode: Mode,
 }

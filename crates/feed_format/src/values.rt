@@ -12,6 +12,7 @@ fn level(a: u8, b: u8, c: u8, d: u8) -> i32
 }
 
 // The first `count` levels of a body.
+// Kept: the count beside the buffer: `overwrite` says too that the rest is as lent, which the laws of an opened block need; of a slice the caller would have to work that out.
 pub fn read_levels(body: &[u8], count: usize, levels: &mut [i32])
     requires count_in_bounds { 4 * count ≤ length body.now }
     requires count_in_bounds_2 { count ≤ length levels.old }

@@ -29,7 +29,6 @@ use Rattle.refusal.specs.Condition.{size_refused, depth_refused}
 use Rattle.refusal.specs.Outcome.{Outcome, refused}
 use Rattle.scaling_values.specs.Given.{entries_of}
 use Rattle.transform_1d.specs.declared.Kind.{Kind as TransformKind}
-use Rattle.transform_1d.specs.declared.Kind.TheVariants.{Dct as DctKind, Dst as DstKind}
 use Rattle.block_rules.specs.declared.EditedBlock.{EditedBlock}
 use Rattle.block_rules.specs.Columns.{column_count}
 use Rattle.block_rules.specs.Edit.{Buffers}
@@ -46,10 +45,10 @@ use Rattle.feed_lines.specs.Lines.{columns_text, blocks_text, refused_text}
 use Rattle.feed_format.specs.declared.Kind.{Kind}
 use Rattle.feed_format.specs.declared.Kind.TheVariants.{Parameters as ParametersKind, List as ListKind, NoList, Levels, Edit as EditKind, Reading}
 use Rattle.feed_format.specs.declared.Mode.{Mode}
-use Rattle.feed_format.specs.declared.Mode.TheVariants.{Dct, Dst, Skip}
+use Rattle.feed_format.specs.declared.Mode.TheVariants.{Transform, Skip}
 use Rattle.feed_format.specs.declared.Parameters.{Parameters}
 use Rattle.feed_format.specs.Format.{kind_of, body_length, record_length, flag_of, mode_of, level_at, levels_of, dst_refused, size_known}
-use Rattle.feed_rules.specs.Block.{mode_of_kind, opening_of}
+use Rattle.feed_rules.specs.Block.{opening_of}
 use Rattle.feed_block.specs.Work.{Accepted}
 use Rattle.feed_format.proofs.FormatLaws.{Sized, kind_size}
 use Rattle.feed_block.proofs.OpenLaws.{opened-number, levels_are}
@@ -172,7 +171,7 @@ module _ {s : FeedState Buffered} {t : FeedState History} (f : Follows s t) wher
     abbrev levels_now : List ℤ
     levels_now = overwrite (n * n) (level_at body) before
 
-    module _ (kind : TransformKind) (m : p.mode ≡ mode_of_kind kind) where
+    module _ (kind : TransformKind) (m : p.mode ≡ Transform kind) where
       abbrev o : Opening
       o = opening_of kind s.list p n
 
@@ -219,8 +218,7 @@ module _ {s : FeedState Buffered} {t : FeedState History} (f : Follows s t) wher
         → Follows (record { given = s.given; list = s.list; block = block_after in_buffers mode s p n body; blocks = s.blocks + 1; offset = s.offset + 1 + 4 * (n * n) })
         (record { given = t.given; list = t.list; block = block_after in_history mode t p n body; blocks = t.blocks + 1; offset = t.offset + 1 + 4 * (n * n) })
     unfolding block_after
-    block_follows Dct e = opened_follows DctKind e (4 * (n * n))
-    block_follows Dst e = opened_follows DstKind e (4 * (n * n))
+    block_follows (Transform kind) e = opened_follows kind e (4 * (n * n))
     block_follows Skip e =
         record { given = f.given; list = f.list; blocks = ap (λ (k : ℕ). k + 1) f.blocks; offset = ap (λ (k : ℕ). k + 1 + 4 * (n * n)) f.offset; whole = f.whole; ample = f.ample; held = tt }
 

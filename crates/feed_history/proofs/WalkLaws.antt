@@ -5,20 +5,20 @@
 --   Going, going_start             the invariant of the loop, with the fuel that is left; it holds before the first record
 --   going_room                     there is room for the next record, and for a line behind it
 --   effect_at w input s             what the record at the state's offset does
---   Turn, turn                     the part of the input that is handed over is the record's body, as much of it as there is
+--   Turn, turn_of                  what was made of one record, of which the body is handed over, as much of it as there is
 --   Passed, passed                 a record that is accepted, and where the next one stands
 --   going_refused, going_more      after a record that is refused, and after one that is not
 --   going_done                     after the last record
-use mathlib.Core.Path.{◌≡◌, refl, sym, ap, ◌∙◌}
+use mathlib.Core.Path.{◌≡◌, refl, ap, ◌∙◌}
 use mathlib.Core.Bool.{Bool, true, false, cond}
 use mathlib.Core.List.{List}
-use Prim.Native.Nat.{ℕ, zero, suc, ◌+◌, ◌-◌, ◌≤◌, ◌<◌, min}
+use Prim.Native.Nat.{ℕ, zero, suc, ◌+◌, ◌-◌, ◌≤◌, ◌<◌}
 use native.Mathlib.Numerals.{add-one}
 use native.Mathlib.Omega.{arith}
-use borrow.Author.Tests.{eq-eqb, leb-true, leb-false}
-use lib.Dec.{leb, eqb}
+use borrow.Author.Tests.{eq-eqb}
+use lib.Dec.{eqb}
 use lib.ListN.{length, take, drop, get_or, length-take, length-drop, drop_of_length-le}
-use lib.Seq.{drop-cons, drop-drop, take_all}
+use lib.Seq.{drop-cons, drop-drop}
 use Rattle.refusal.specs.Outcome.{Outcome}
 use Rattle.text.specs.Text.{Wrote, WroteUpTo}
 use Rattle.text.proofs.WroteLaws.{Left, left_start, left_more}
@@ -123,16 +123,6 @@ after : {v : Lent} {input l out out' : List ℕ} {end end' : ℕ} (w : Walk) (s 
 after w s zero h k a t = absurd (omega arith)
 after {v} {input} w s (suc fuel) h k a t = record { rest = fuel; one = refl; left = left_more (rw (text_step w input fuel s h) at a) t }
 
-part_body : (input : List ℕ) (from n stop : ℕ) → from ≤ length input → stop ≡ min (from + n) (length input)
-    → take (stop - from) (drop from input) ≡ take n (drop from input)
-part_body input from n stop h e = by_test (leb (from + n) (length input)) refl
-  where
-    by_test : (b : Bool) → leb (from + n) (length input) ≡ b → take (stop - from) (drop from input) ≡ take n (drop from input)
-    by_test true k = let w : stop - from ≡ n = omega (arith, leb-true (from + n) (length input) k) in rw w refl
-    by_test false k =
-        let g = leb-false (from + n) (length input) k in
-        take_all (stop - from) (drop from input) (rw length-drop (omega arith)) ∙ sym (take_all n (drop from input) (rw length-drop (omega arith)))
-
 -- what the loop has of a record: what was answered of it, and what was made of it
 pub record Turn (w : Walk) (Answered : Outcome (Effect Buffered) → Type 0) (input : List ℕ) (s : State) (b : Lent) (s' : State) (b' : Lent) (out : List ℕ) (end : ℕ) (out' : List ℕ) (end' : ℕ) : Type 0 where
   pub fits : length input ≤ 18446744073709551615
@@ -142,16 +132,13 @@ pub record Turn (w : Walk) (Answered : Outcome (Effect Buffered) → Type 0) (in
   pub text : WroteUpTo out end (effect_at w input (state_of s b)).value.text out' end' (end + w.asks (kind_at input s.offset))
   pub buffers : Ample b'
 
-pub turn : {s' : State} {b' : Lent} {out out' : List ℕ} {end end' : ℕ} (w : Walk) (Answered : Outcome (Effect Buffered) → Type 0) (input : List ℕ) (s : State) (b : Lent) (n stop : ℕ)
-    → length input ≤ 18446744073709551615 → s.offset < length input → n ≡ record_length (get_or input s.offset 0) → stop ≡ min (s.offset + 1 + n) (length input)
-    → let body = take (stop - (s.offset + 1)) (drop (s.offset + 1) input) in
-    let o = w.effect (state_of s b) (get_or input s.offset 0) body in
-    Answered o → state_of s' b' ≡ capped o.value.state → WroteUpTo out end o.value.text out' end' (end + w.asks (get_or input s.offset 0)) → Ample b'
+pub turn_of : {s' : State} {b' : Lent} {out out' : List ℕ} {end end' : ℕ} (w : Walk) (Answered : Outcome (Effect Buffered) → Type 0) (input : List ℕ) (s : State) (b : Lent) (kind : ℕ) (body : List ℕ)
+    → length input ≤ 18446744073709551615 → s.offset < length input → kind ≡ kind_at input s.offset → body ≡ body_at input s.offset
+    → let o = w.effect (state_of s b) kind body in
+    Answered o → state_of s' b' ≡ capped o.value.state → WroteUpTo out end o.value.text out' end' (end + w.asks kind) → Ample b'
     → Turn w Answered input s b s' b' out end out' end'
-turn w Answered input s b n stop f h en es a m t k =
-    let from = s.offset + 1 in
-    let body : take (stop - from) (drop from input) ≡ body_at input s.offset = part_body input from n stop (omega arith) es ∙ ap (λ (k : ℕ). take k (drop from input)) en in
-    record { fits = f; inside = h; answered = rw body at a; state = rw body at m; text = rw body at t; buffers = k }
+turn_of w Answered input s b kind body f h ek eb a m t k =
+    record { fits = f; inside = h; answered = rw (ek, eb) at a; state = rw (ek, eb) at m; text = rw (ek, eb) at t; buffers = k }
 
 -- ---- the turns of the loop
 module _ {w : Walk} {Answered : Outcome (Effect Buffered) → Type 0} {v b b' : Lent} {input l out out' : List ℕ} {s s' : State} {end end' : ℕ}

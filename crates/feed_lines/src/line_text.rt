@@ -1,8 +1,8 @@
-// Lines that are not rows: how one ends, the two that stand behind a block's rows, and the two that stand behind a feed's blocks.
+// Lines that are not rows: how one ends, one of a word and a number, and the two that stand behind a feed's blocks.
 ghost use Rattle.std.specs.Prelude.{[], ◌∷◌, ◌++◌, ◌+◌, ◌≤◌, length};
 ghost use Rattle.refusal.specs.Refusal.{number};
 ghost use Rattle.text.specs.Text.{line_end, unsigned_text, WroteUpTo};
-ghost use Rattle.feed_lines.specs.Lines.{limited_text, columns_text, refused_text, blocks_text, Lines};
+ghost use Rattle.feed_lines.specs.Lines.{refused_text, blocks_text, Lines};
 
 use crate::Line;
 use refusal::Refusal;
@@ -17,31 +17,22 @@ fn put_last(n: u64, out: &mut [u8], at: usize) -> usize
     end + 1
 }
 
-// How many coefficients of a block were limited.
-pub(crate) fn put_limited(limited: u16, out: &mut [u8], at: usize) -> usize
-    requires { at + 29 ≤ length out.old }
-    ensures { WroteUpTo out.old at (limited_text limited) out.new result (at + 29) }
+// A word with a space behind it, then a number that ends the line.
+pub(crate) fn put_line(word: &[u8], n: u64, out: &mut [u8], at: usize) -> usize
+    requires { at + length word.now + 21 ≤ length out.old }
+    ensures { WroteUpTo out.old at (word.now ++ (unsigned_text n ++ (line_end ∷ []))) out.new result (at + length word.now + 21) }
 {
-    let word = text::put_bytes(b"limited ", out, at);
-    put_last(limited as u64, out, word)
-}
-
-// How many columns of a block are in use.
-pub(crate) fn put_columns(columns: usize, out: &mut [u8], at: usize) -> usize
-    requires { at + 29 ≤ length out.old }
-    ensures { WroteUpTo out.old at (columns_text columns) out.new result (at + 29) }
-{
-    let word = text::put_bytes(b"columns ", out, at);
-    put_last(columns as u64, out, word)
+    let end = text::put_bytes(word, out, at);
+    put_last(n, out, end)
 }
 
 // The line of a refusal.
-pub fn put_refused(number: u8, offset: u64, out: &mut [u8], at: usize) -> usize
+pub fn put_refused(refusal: Refusal, offset: u64, out: &mut [u8], at: usize) -> usize
     requires { at + 40 ≤ length out.old }
-    ensures { WroteUpTo out.old at (refused_text number offset) out.new result (at + 40) }
+    ensures { WroteUpTo out.old at (refused_text (number refusal) offset) out.new result (at + 40) }
 {
     let word = text::put_bytes(b"refused ", out, at);
-    let end = text::put_unsigned(number as u64, out, word);
+    let end = text::put_unsigned(u64::from(refusal.number()), out, word);
     out[end] = b' ';
     put_last(offset, out, end + 1)
 }
@@ -51,8 +42,7 @@ pub fn put_blocks(blocks: u64, out: &mut [u8], at: usize) -> usize
     requires { at + 40 ≤ length out.old }
     ensures { WroteUpTo out.old at (blocks_text blocks) out.new result (at + 40) }
 {
-    let word = text::put_bytes(b"blocks ", out, at);
-    put_last(blocks, out, word)
+    put_line(b"blocks ", blocks, out, at)
 }
 
 // The line of a refusal, with the byte offset of the refused record's kind, which the state after it holds.
@@ -60,7 +50,7 @@ pub fn refusal_line(refusal: Refusal, offset: u64) -> Line
     ensures { Lines result (refused_text (number refusal) offset) }
 {
     let mut bytes = [0u8; 40];
-    let end = put_refused(refusal.number(), offset, &mut bytes, 0);
+    let end = put_refused(refusal, offset, &mut bytes, 0);
     Line { bytes, end }
 }
 

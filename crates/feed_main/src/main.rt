@@ -3,22 +3,18 @@
 #![tactic(auto)]
 
 use feed::State;
-use feed_program::{after_step, after_write, next_record, read_failed, write_line};
+use feed_program::{Buffers, after_step, after_write, next_record, read_failed, write_line};
 use std::io::Read;
 
 // The name that it gives itself on standard error.
 const PROGRAM: &str = "feed_main";
 
 // One record: reads it, writes its text and answers the state after it, where more may come.
-// Kept: four buffers as step takes them; a struct would be taken apart in the one call.
 fn turn<R: Print + Eprint>(
     rt: &R,
     stdin: &mut impl Read,
     state: State,
-    levels: &mut [i32],
-    coeff: &mut [i32],
-    inter: &mut [i32],
-    residual: &mut [i32],
+    buffers: &mut Buffers,
 ) -> Option<State> {
     let mut room = [0u8; 4096];
     let mut out = [0u8; 12320];
@@ -29,27 +25,23 @@ fn turn<R: Print + Eprint>(
         let done = write_line(rt, feed::blocks_line(state.blocks));
         return after_write(rt, PROGRAM, done, None);
     };
+    let Buffers {
+        levels,
+        coeff,
+        inter,
+        residual,
+    } = buffers;
     let answer = feed::step(state, kind, body, levels, coeff, inter, residual, &mut out);
     after_step(rt, PROGRAM, state.offset, answer, &out)
 }
 
+// Kept: the loop in both programs: one function for it would take `turn` as a closure, whose every call may ask something first, so that it would need a `requires` that each may be made, and an answer to it in each program.
 fn main(rt: HostRuntime) {
     let mut stdin = rt.stdin();
-    let mut levels = [0i32; 1024];
-    let mut coeff = [0i32; 1024];
-    let mut inter = [0i32; 1024];
-    let mut residual = [0i32; 1024];
+    let mut buffers = Buffers::new();
     let mut state = feed::start();
     for _ in 0..u64::MAX {
-        let Some(next) = turn(
-            &rt,
-            &mut stdin,
-            state,
-            &mut levels,
-            &mut coeff,
-            &mut inter,
-            &mut residual,
-        ) else {
+        let Some(next) = turn(&rt, &mut stdin, state, &mut buffers) else {
             return;
         };
         state = next;

@@ -7,6 +7,26 @@ ghost use Rattle.text.specs.Text.{Counts};
 use feed::{Line, State, StepError, Taken};
 use std::io::Read;
 
+// The buffers of a feed's open block, each with room for the largest.
+#[derive(Drop)]
+pub struct Buffers {
+    pub levels: [i32; 1024],
+    pub coeff: [i32; 1024],
+    pub inter: [i32; 1024],
+    pub residual: [i32; 1024],
+}
+
+impl Buffers {
+    pub fn new() -> Buffers {
+        Buffers {
+            levels: [0; 1024],
+            coeff: [0; 1024],
+            inter: [0; 1024],
+            residual: [0; 1024],
+        }
+    }
+}
+
 // Says that a read failed; nothing more is read.
 pub fn read_failed(rt: &impl Eprint, program: &str) -> Option<State> {
     let _ = eprintln!(rt; "{program}: a read of standard input failed, so this text is not whole");
@@ -38,10 +58,7 @@ pub fn write_line(rt: &impl Print, line: Line) -> bool
 // Whether one more read says that the input has ended.
 fn has_ended(stdin: &mut impl Read) -> bool {
     let mut byte = [0u8; 1];
-    match stdin.read(&mut byte) {
-        Ok(got) => got == 0,
-        Err(_) => false,
-    }
+    matches!(stdin.read(&mut byte), Ok(0))
 }
 
 // A read of the input failed.
@@ -54,9 +71,7 @@ pub fn next_record<'a>(
     room: &'a mut [u8; 4096],
 ) -> Result<Option<(u8, &'a [u8])>, ReadFailed> {
     let mut byte = [0u8; 1];
-    let Ok(got) = stdin.read(&mut byte) else {
-        return Err(ReadFailed);
-    };
+    let got = stdin.read(&mut byte).map_err(|_| ReadFailed)?;
     if got == 0 {
         return Ok(None);
     }

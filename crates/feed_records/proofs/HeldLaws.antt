@@ -21,7 +21,6 @@ use Rattle.refusal.specs.Refusal.{number}
 use Rattle.refusal.specs.Outcome.{Outcome, accepted, refused, outcome}
 use Rattle.refusal.proofs.RefusalLaws.{number_least}
 use Rattle.transform_1d.specs.declared.Kind.{Kind}
-use Rattle.transform_1d.specs.declared.Kind.TheVariants.{Dct, Dst}
 use Rattle.block_rules.specs.declared.EditedBlock.{EditedBlock}
 use Rattle.block_rules.specs.declared.Limits.{Limits}
 use Rattle.block_rules.specs.Level.{LevelLeft, no_limits, level_edited, LevelEdits}
@@ -33,11 +32,11 @@ use Rattle.feed_lines.specs.Lines.{limited_text, columns_text}
 use Rattle.block_rules.specs.declared.LevelsOpened.{LevelsOpened}
 use Rattle.feed_format.specs.declared.Kind.TheVariants.{Levels, Reading}
 use Rattle.feed_format.specs.declared.Mode.{Mode}
-use Rattle.feed_format.specs.declared.Mode.TheVariants.{Skip}
+use Rattle.feed_format.specs.declared.Mode.TheVariants.{Transform, Skip}
 use Rattle.feed_format.specs.declared.Parameters.{Parameters}
 use Rattle.feed_state.specs.declared.State.{State}
 use Rattle.feed_format.specs.Format.{text_room, levels_of, edit_row, edit_column, edit_level}
-use Rattle.feed_rules.specs.Block.{list_in, residual_at, block_residual, block_limited, mode_of_kind}
+use Rattle.feed_rules.specs.Block.{list_in, residual_at, block_residual, block_limited}
 use Rattle.feed_block.specs.Work.{Accepted, Leaves, OpensBlock}
 use Rattle.feed_state.specs.declared.Taken.{Taken}
 use Rattle.feed_rules.specs.Record.{FeedState, unchanged, block_after, counted, levels_by, edit_effect, reading_effect}
@@ -51,14 +50,13 @@ with_open s b blocks length =
     record { given = s.given; list = s.list; held = Some b; blocks = blocks; offset = min (s.offset + 1 + length) 18446744073709551615 }
 
 -- ---- opened by a levels record
-block-opened : (kind : Kind) (s : FeedState Buffered) (p : Parameters) (n : ℕ) (body : List ℕ) → p.mode ≡ mode_of_kind kind
+block-opened : (kind : Kind) (s : FeedState Buffered) (p : Parameters) (n : ℕ) (body : List ℕ) → p.mode ≡ Transform kind
     → block_after in_buffers p.mode s p n body ≡ opened_in kind s.list p n body s.block
 unfolding block_after
-block-opened Dct s p n body e = rw e refl
-block-opened Dst s p n body e = rw e refl
+block-opened kind s p n body e = rw e refl
 
 pub opened_takes : {l m : List ℕ} {at end : ℕ} (s : State) (p : Parameters) (kind : Kind) (n : ℕ) (body : List ℕ) (w : Lent) (r : LevelsOpened) (ls d g e : List ℤ) (blocks : ℕ)
-    → Accepted p n → p.mode ≡ mode_of_kind kind → OpensBlock (list_in s.list) p kind n body w.levels w.buffers r ls d g e
+    → Accepted p n → p.mode ≡ Transform kind → OpensBlock (list_in s.list) p kind n body w.levels w.buffers r ls d g e
     → blocks ≡ min (s.blocks + 1) 18446744073709551615 → WroteUpTo l at (block_text n (take (n * n) e) ++ limited_text r.limited) m end (at + text_room (Levels n))
     → Takes s (Ok (record { state = with_open s r.block blocks (4 * (n * n)); end = end })) (lent ls d g e) l at m (levels_by in_buffers (Some p) (state_of s w) n body) (text_room (Levels n))
 unfolding levels_by

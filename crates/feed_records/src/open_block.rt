@@ -1,19 +1,18 @@
 // The block that a feed holds open: opened by a levels record, edited, and read.
 ghost use Rattle.std.specs.Prelude.{◌≡◌, Some, Ok, ◌+◌, ◌*◌, ◌≤◌, length};
 ghost use Rattle.feed_format.specs.Format.{text_room};
-ghost use Rattle.feed_rules.specs.Block.{mode_of_kind};
 ghost use Rattle.feed_rules.specs.Record.{levels_by, edit_effect};
 ghost use Rattle.feed_state.specs.Buffers.{lent, in_buffers};
 ghost use Rattle.feed_state.specs.Taken.{state_of, Ample, Takes, Quiet};
 ghost use Rattle.feed_block.specs.Work.{Accepted};
 ghost use Rattle.feed_records.specs.Work.{Reads};
 
-use feed_format::{Kind, Parameters};
+use feed_format::{Kind, Mode, Parameters};
 use feed_state::{State, Taken, with_open};
 use refusal::Refusal;
 
 // A block by a transform, which stays open.
-// Kept: a struct of lent slices would have to promise for each slice that it stays the same one (its ghost_name), a clause more for each.
+// Kept: the four buffers apart, here and below: a struct of lent slices would have to promise for each that it stays the same one (its ghost_name), and a struct of four arrays would be filled by a copy, since `feed::step` is lent slices.
 pub(crate) fn take_opened(
     s: State,
     p: Parameters,
@@ -27,7 +26,7 @@ pub(crate) fn take_opened(
     out: &mut [u8],
     at: usize,
 ) -> Taken
-    requires accepted { Accepted p n × (p.mode ≡ mode_of_kind kind) }
+    requires accepted { Accepted p n × (p.mode ≡ Mode.Transform kind) }
     requires n_in_bounds { 4 * (n * n) ≤ length body.now }
     requires ample { Ample (lent levels.old coeff.old inter.old residual.old) }
     requires n_in_bounds_2 { at + text_room (Kind.Levels n) ≤ length out.old }
@@ -36,15 +35,9 @@ pub(crate) fn take_opened(
     let opened = feed_block::open_body(s, p, kind, n, body, levels, coeff, inter, residual);
     let end = feed_lines::put_rows(residual, n, opened.limited, out, at);
     Taken {
-        state: with_open(s, opened.block, s.blocks.saturating_add(1), 4 * (n * n)),
+        state: with_open(s, opened.block, s.blocks.saturating_add(1), Kind::Levels(n)),
         end,
     }
-}
-
-fn index(byte: u8) -> usize
-    ensures { result ≡ byte }
-{
-    byte as usize
 }
 
 // An edit of the open block.
@@ -60,17 +53,15 @@ pub(crate) fn take_edit(
     requires { 6 ≤ length body.now }
     ensures { Quiet s result (lent levels.new coeff.new inter.new residual.new) at (edit_effect in_buffers (state_of s (lent levels.old coeff.old inter.old residual.old)) body.now) }
 {
-    let Some(mut held) = s.held else {
-        return Err(Refusal::BlockMissing);
-    };
-    let row = index(body[0]);
-    let column = index(body[1]);
+    let mut held = s.held.ok_or(Refusal::BlockMissing)?;
+    let row = usize::from(body[0]);
+    let column = usize::from(body[1]);
     let level = feed_format::edit_level(body);
     level_block::edit_level(
         &mut held, levels, coeff, inter, residual, row, column, level,
     )?;
     Ok(Taken {
-        state: with_open(s, held, s.blocks, 6),
+        state: with_open(s, held, s.blocks, Kind::Edit),
         end: at,
     })
 }
@@ -86,17 +77,11 @@ pub(crate) fn take_reading(
     requires text_room_in_bounds { at + text_room Kind.Reading ≤ length out.old }
     ensures { Reads s result residual.now out.old at out.new }
 {
-    let Some(held) = s.held else {
-        return Err(Refusal::BlockMissing);
-    };
-    let n = held.size;
-    let columns = held.columns;
-    if refusal::size_refused(n) {
-        return Err(Refusal::SizeInvalid);
-    }
-    let end = feed_lines::put_reading(residual, n, columns, out, at);
+    let held = s.held.ok_or(Refusal::BlockMissing)?;
+    refusal::check_size(held.size)?;
+    let end = feed_lines::put_reading(residual, held.size, held.columns, out, at);
     Ok(Taken {
-        state: with_open(s, held, s.blocks, 0),
+        state: with_open(s, held, s.blocks, Kind::Reading),
         end,
     })
 }

@@ -1,8 +1,8 @@
 // What one record does: a function for each kind, below the question of room.
-ghost use Rattle.std.specs.Prelude.{◌≡◌, Some, Ok, ◌+◌, ◌*◌, ◌≤◌, T, length};
+ghost use Rattle.std.specs.Prelude.{◌≡◌, Ok, ◌+◌, ◌*◌, ◌≤◌, T, length};
 ghost use Rattle.h265.specs.Range.{is_size};
 ghost use Rattle.feed_format.specs.Format.{text_room, record_room};
-ghost use Rattle.feed_rules.specs.Record.{levels_by, levels_effect, body_effect, record_effect};
+ghost use Rattle.feed_rules.specs.Record.{levels_effect, body_effect, record_effect};
 ghost use Rattle.feed_state.specs.Buffers.{lent, in_buffers};
 ghost use Rattle.feed_state.specs.Taken.{state_of, Ample, Takes};
 ghost use Rattle.feed_block.specs.Work.{Accepted};
@@ -14,6 +14,7 @@ use feed_state::{State, Taken, with_closed};
 use refusal::Refusal;
 
 // A block by transform skip.
+// Kept: state, parameters, size and body apart, here and below, and in `take_opened`: state, size and body come before the parameters are known to be there, and the laws take each by itself.
 fn take_skipped(s: State, p: Parameters, n: usize, body: &[u8], out: &mut [u8], at: usize) -> Taken
     requires accepted { Accepted p n × (p.mode ≡ Mode.Skip) }
     requires n_in_bounds { 4 * (n * n) ≤ length body.now }
@@ -30,63 +31,7 @@ fn take_skipped(s: State, p: Parameters, n: usize, body: &[u8], out: &mut [u8], 
 }
 
 // A block of levels, by the parameters.
-// Kept: a struct of lent slices would have to promise for each slice that it stays the same one (its ghost_name), a clause more for each.
-fn take_block(
-    s: State,
-    p: Parameters,
-    n: usize,
-    body: &[u8],
-    levels: &mut [i32],
-    coeff: &mut [i32],
-    inter: &mut [i32],
-    residual: &mut [i32],
-    out: &mut [u8],
-    at: usize,
-) -> Result<Taken, Refusal>
-    requires t { T (is_size n) }
-    requires n_in_bounds { 4 * (n * n) ≤ length body.now }
-    requires ample { Ample (lent levels.old coeff.old inter.old residual.old) }
-    requires n_in_bounds_2 { at + text_room (Kind.Levels n) ≤ length out.old }
-    ensures { Takes s result (lent levels.new coeff.new inter.new residual.new) out.old at out.new (levels_by in_buffers (Some p) (state_of s (lent levels.old coeff.old inter.old residual.old)) n body.now) (text_room (Kind.Levels n)) }
-{
-    if refusal::depth_refused(p.precision.bit_depth) {
-        return Err(Refusal::DepthInvalid);
-    }
-    let mode = p.mode;
-    if feed_format::dst_refused(mode, n) {
-        return Err(Refusal::DstSizeInvalid);
-    }
-    match mode {
-        Mode::Dct => Ok(open_block::take_opened(
-            s,
-            p,
-            transform_1d::Kind::Dct,
-            n,
-            body,
-            levels,
-            coeff,
-            inter,
-            residual,
-            out,
-            at,
-        )),
-        Mode::Dst => Ok(open_block::take_opened(
-            s,
-            p,
-            transform_1d::Kind::Dst,
-            n,
-            body,
-            levels,
-            coeff,
-            inter,
-            residual,
-            out,
-            at,
-        )),
-        Mode::Skip => Ok(take_skipped(s, p, n, body, out, at)),
-    }
-}
-
+// Kept: the four buffers apart, here and below: a struct of lent slices would have to promise for each that it stays the same one (its ghost_name), and a struct of four arrays would be filled by a copy, since `feed::step` is lent slices.
 fn take_levels(
     s: State,
     n: usize,
@@ -104,10 +49,14 @@ fn take_levels(
     requires n_in_bounds_2 { at + text_room (Kind.Levels n) ≤ length out.old }
     ensures { Takes s result (lent levels.new coeff.new inter.new residual.new) out.old at out.new (levels_effect in_buffers (state_of s (lent levels.old coeff.old inter.old residual.old)) n body.now) (text_room (Kind.Levels n)) }
 {
-    let given = s.given;
-    match given {
-        None => Err(Refusal::LevelsBeforeParameters),
-        Some(p) => take_block(s, p, n, body, levels, coeff, inter, residual, out, at),
+    let p = s.given.ok_or(Refusal::LevelsBeforeParameters)?;
+    refusal::check_depth(p.precision.bit_depth)?;
+    refusal::check(feed_format::dst_refused(p.mode, n), Refusal::DstSizeInvalid)?;
+    match p.mode {
+        Mode::Transform(kind) => Ok(open_block::take_opened(
+            s, p, kind, n, body, levels, coeff, inter, residual, out, at,
+        )),
+        Mode::Skip => Ok(take_skipped(s, p, n, body, out, at)),
     }
 }
 
@@ -154,11 +103,7 @@ pub fn take_record(
     requires kind_in_bounds { at + record_room kind ≤ length out.old }
     ensures { Takes s result (lent levels.new coeff.new inter.new residual.new) out.old at out.new (record_effect in_buffers (state_of s (lent levels.old coeff.old inter.old residual.old)) kind body.now) (record_room kind) }
 {
-    let Some(what) = feed_format::kind_of(kind) else {
-        return Err(Refusal::KindUnknown);
-    };
-    if body.len() < what.body_length() {
-        return Err(Refusal::BodyTooShort);
-    }
+    let what = feed_format::kind_of(kind).ok_or(Refusal::KindUnknown)?;
+    refusal::check(body.len() < what.body_length(), Refusal::BodyTooShort)?;
     take_body(s, what, body, levels, coeff, inter, residual, out, at)
 }

@@ -4,11 +4,10 @@
 --   list_for mode n list        the list by which a block is scaled, where `list` is in force
 --   coefficients list p n      the scaled levels
 --   transformed_at t b x n      the residual at an index, of coefficients by a matrix t
---   residual_by mode list p n   the residual at an index, of levels by the mode: 0 DCT, 1 DST, 2 transform skip
+--   residual_by mode list p n   the residual at an index, of levels by the mode: a transform, or transform skip
 --   residual_at list p n        the same where `list` is in force
 --   block_residual list p n     the whole block
 --   block_limited list p n      how many of its coefficients were limited. Change request R-6
---   mode_of_kind kind            the mode of a transform: DCT or DST
 --   opening_of kind list p n    what a block of levels is opened with, so that it can be edited: the parameters, and the list in force. Change request R-14
 use Rattle.std.specs.Prelude.{Bool, true, false, cond, List, Option, Some, None, ℕ, ◌*◌, ℤ, pos, replicate}
 use Rattle.integers.specs.Lists.{tabulate}
@@ -18,14 +17,13 @@ use Rattle.h265.specs.ScalingFactor.ScalingList.{flat, listed}
 use Rattle.h265.specs.Scaling.{scaled_at}
 use Rattle.h265.specs.TransformSkip.{skipped_at}
 use Rattle.h265.specs.Limited.{limited_count}
-use Rattle.h265.specs.Matrix.{trans_matrix, dst_matrix}
 use Rattle.h265.specs.Transform.{residual, row_order}
 use Rattle.transform_1d.specs.declared.Kind.{Kind}
-use Rattle.transform_1d.specs.declared.Kind.TheVariants.{Dct as DctKind, Dst as DstKind}
+use Rattle.transform_1d.specs.MatrixOf.{matrix_of}
 use Rattle.block_rules.specs.Opening.{Opening}
 use Rattle.feed_format.specs.declared.List.{List as FeedList}
 use Rattle.feed_format.specs.declared.Mode.{Mode}
-use Rattle.feed_format.specs.declared.Mode.TheVariants.{Dct, Dst, Skip}
+use Rattle.feed_format.specs.declared.Mode.TheVariants.{Transform, Skip}
 use Rattle.feed_format.specs.declared.Parameters.{Parameters}
 use Rattle.feed_format.specs.Format.{list_ignored}
 
@@ -45,10 +43,8 @@ unfoldable pub transformed_at : (ℕ → ℕ → ℤ) → ℕ → Bool → ℕ �
 transformed_at t b x n d = row_order n (residual t n b (transform_range b x) n d)
 
 unfoldable pub residual_by : Mode → ScalingList → Parameters → ℕ → List ℤ → ℕ → ℤ
-residual_by Dct list p n levels =
-    transformed_at (trans_matrix n) p.precision.bit_depth p.precision.extended n (coefficients list p n levels)
-residual_by Dst list p n levels =
-    transformed_at dst_matrix p.precision.bit_depth p.precision.extended n (coefficients list p n levels)
+residual_by (Transform kind) list p n levels =
+    transformed_at (matrix_of kind n) p.precision.bit_depth p.precision.extended n (coefficients list p n levels)
 residual_by Skip list p n levels =
     skipped_at list n p.precision.bit_depth p.precision.extended (pos p.qp_prime) levels
 
@@ -61,10 +57,6 @@ block_residual list p n levels = tabulate (n * n) (residual_at list p n levels)
 unfoldable pub block_limited : ScalingList → Parameters → ℕ → List ℤ → ℕ
 block_limited list p n levels =
     limited_count (list_for p.mode n list) n p.precision.bit_depth p.precision.extended (pos p.qp_prime) levels
-
-abbrev pub mode_of_kind : Kind → Mode
-mode_of_kind DctKind = Dct
-mode_of_kind DstKind = Dst
 
 -- what a record keeps of a list; without one all is 0
 abbrev pub is_listed : ScalingList → Bool

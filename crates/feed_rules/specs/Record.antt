@@ -25,12 +25,11 @@ use Rattle.refusal.specs.declared.Refusal.TheVariants.{DepthInvalid, DstSizeInva
 use Rattle.refusal.specs.Condition.{depth_refused}
 use Rattle.refusal.specs.Outcome.{Outcome, accepted, refused}
 use Rattle.transform_1d.specs.declared.Kind.{Kind as TransformKind}
-use Rattle.transform_1d.specs.declared.Kind.TheVariants.{Dct as DctKind, Dst as DstKind}
 use Rattle.text.specs.Text.{block_text}
 use Rattle.feed_format.specs.declared.Kind.{Kind}
 use Rattle.feed_format.specs.declared.Kind.TheVariants.{Parameters as ParametersKind, List as ListKind, NoList, Levels, Edit, Reading}
 use Rattle.feed_format.specs.declared.Mode.{Mode}
-use Rattle.feed_format.specs.declared.Mode.TheVariants.{Dct, Dst, Skip}
+use Rattle.feed_format.specs.declared.Mode.TheVariants.{Transform, Skip}
 use Rattle.feed_format.specs.declared.Parameters.{Parameters}
 use Rattle.feed_format.specs.Format.{kind_of, body_length, flag_of, mode_of, dst_refused, list_of, levels_of}
 use Rattle.feed_lines.specs.Lines.{limited_text}
@@ -102,8 +101,7 @@ no_list_effect g s =
 -- ---- levels
 -- a block is open where it has a transform
 unfoldable pub block_after : {H : Type 0} → Keeper H → Mode → FeedState H → Parameters → ℕ → List ℕ → H
-block_after g Dct s p n body = g.opened DctKind s.list p n body s.block
-block_after g Dst s p n body = g.opened DstKind s.list p n body s.block
+block_after g (Transform kind) s p n body = g.opened kind s.list p n body s.block
 block_after g Skip s p n body = g.closed s.block
 
 abbrev pub counted : {H : Type 0} → FeedState H → H → ℕ → FeedState H

@@ -1,4 +1,5 @@
 -- Laws of states and of what a record hands back.
+--   none_said                    what `ok_or` says of a value that is not there
 --   capped_id, capped_offset     numbers that fit are held as they are; the same where the offset was limited already
 --   quiet_kept, quiet_moved      what a refused record, and an accepted one without text, hand back
 --   refused_takes                what a refused record hands back, whatever room there is
@@ -6,7 +7,8 @@
 --   block_takes                  what a record with text hands back
 --   levels_given                 a block of levels, by what is known of the parameters
 use Rattle.feed_format.specs.declared.Parameters.{Parameters}
-use Rattle.std.specs.Prelude.{Result, Ok, Err, Option}
+use Rattle.std.specs.Prelude.{Result, Ok, Err, Option, Some, None}
+use Rattle.std.proofs.Common.{ok_or}
 use mathlib.Core.Path.{◌≡◌, refl, sym, ap, ◌∙◌}
 use mathlib.Core.List.{List, []}
 use Prim.Native.Nat.{ℕ, ◌+◌, ◌≤◌, min}
@@ -20,6 +22,10 @@ use Rattle.feed_state.specs.declared.State.{State}
 use Rattle.feed_state.specs.declared.Taken.{Taken}
 use Rattle.feed_state.specs.Buffers.{Lent, Buffered}
 use Rattle.feed_state.specs.Taken.{state_of, capped, Takes, Quiet}
+
+pub none_said : {A : Type 0} (o : Option A) (why e : Refusal) → Err e ≡ ok_or o why → (o ≡ None) × (e ≡ why)
+none_said None why e h = (refl, cc)
+none_said (Some a) why e h = absurd (cc)
 
 abbrev pub at_offset : {H : Type 0} → FeedState H → ℕ → FeedState H
 at_offset s o = record { given = s.given; list = s.list; block = s.block; blocks = s.blocks; offset = o }

@@ -6,7 +6,7 @@ ghost use Rattle.feed_state.specs.Taken.{Silent};
 
 use crate::states::behind;
 use crate::{State, Taken};
-use feed_format::{Parameters, flag_of, list_of, mode_of};
+use feed_format::{Kind, Parameters, flag_of, list_of, mode_of};
 use refusal::{Precision, Refusal};
 
 pub fn take_parameters(s: State, body: &[u8], at: usize) -> Result<Taken, Refusal>
@@ -14,28 +14,21 @@ pub fn take_parameters(s: State, body: &[u8], at: usize) -> Result<Taken, Refusa
     ensures { Silent s result at (λ (f : FeedState Buffered). parameters_effect in_buffers f body.now) }
 {
     let bit_depth = body[0];
-    if refusal::depth_refused(bit_depth) {
-        return Err(Refusal::DepthInvalid);
-    }
-    let Some(extended) = flag_of(body[1]) else {
-        return Err(Refusal::ParameterInvalid);
-    };
-    let Some(mode) = mode_of(body[3]) else {
-        return Err(Refusal::ParameterInvalid);
-    };
-    let precision = Precision {
-        bit_depth,
-        extended,
-    };
+    refusal::check_depth(bit_depth)?;
+    let extended = flag_of(body[1]).ok_or(Refusal::ParameterInvalid)?;
+    let mode = mode_of(body[3]).ok_or(Refusal::ParameterInvalid)?;
     let p = Parameters {
-        precision,
+        precision: Precision {
+            bit_depth,
+            extended,
+        },
         qp_prime: body[2],
         mode,
     };
     let state = State {
         given: Some(p),
         held: None,
-        offset: behind(s.offset, 4),
+        offset: behind(s.offset, Kind::Parameters),
         ..s
     };
     Ok(Taken { state, end: at })
@@ -48,7 +41,7 @@ pub fn take_list(s: State, body: &[u8], at: usize) -> Taken
     let state = State {
         list: Some(list_of(body)),
         held: None,
-        offset: behind(s.offset, 65),
+        offset: behind(s.offset, Kind::List),
         ..s
     };
     Taken { state, end: at }
@@ -60,7 +53,7 @@ pub fn take_no_list(s: State, at: usize) -> Taken
     let state = State {
         list: None,
         held: None,
-        offset: behind(s.offset, 0),
+        offset: behind(s.offset, Kind::NoList),
         ..s
     };
     Taken { state, end: at }

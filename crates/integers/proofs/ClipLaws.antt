@@ -3,7 +3,7 @@
 --   clip3_between                     the result lies in the range
 --   clip3_idem, clip3_mono            a second limit changes nothing; the limit keeps the order
 --   clip3_within                      the result is no larger in size than the range's ends
---   clamp_clips, max_min_clips        std's `clamp` is the limit, and so is `max` before `min`
+--   clamp_clips                       std's `clamp` is the limit
 use mathlib.Core.Path.{◌≡◌, refl, sym}
 use mathlib.Core.Bool.{Bool, true, false, cond}
 use Prim.Native.Nat.{ℕ}
@@ -67,11 +67,3 @@ clamp_clips lo hi x h = by_tests (lt_z hi x) (lt_z x lo) refl refl
     by_tests true b e k = rw (e, lt_z_of_le h) (sym (clip3_high lo hi x (≤ℤ_trans h (<ℤ-≤ℤ (lt_z_true e))) (lt_z_true e)))
     by_tests false true e k = rw (e, k) (sym (clip3_low lo hi x (lt_z_true k)))
     by_tests false false e k = rw (e, k) (sym (clip3_id lo hi x (lt_z_false k) (lt_z_false e)))
-
-pub max_min_clips : (lo hi x : ℤ) → lo ≤ℤ hi → int_min (int_max lo x) hi ≡ clip3 lo hi x
-max_min_clips lo hi x h = by_tests (lt_z x lo) (lt_z hi x) refl refl
-  where
-    by_tests : (a b : Bool) → lt_z x lo ≡ a → lt_z hi x ≡ b → int_min (int_max lo x) hi ≡ clip3 lo hi x
-    by_tests true b e k = rw (e, lt_z_of_le h) (sym (clip3_low lo hi x (lt_z_true e)))
-    by_tests false true e k = rw (e, k) (sym (clip3_high lo hi x (lt_z_false e) (lt_z_true k)))
-    by_tests false false e k = rw (e, k) (sym (clip3_id lo hi x (lt_z_false e) (lt_z_false k)))

@@ -3,11 +3,13 @@
 
 ghost use Rattle.scaling_values.specs.Given.{list_of};
 ghost use Rattle.block_rules.specs.Edit.{buffers};
+ghost use Rattle.level_work.specs.Work.{LevelEditChecked};
 ghost use Rattle.block_rules.specs.Level.{level_edited, LevelEdits, on_levels_by, level_opened, LevelOpens};
 
 use block_rules::EditedBlock;
 pub use block_rules::{LevelsOpened, Limits};
 use block_work::columns::column_count;
+use block_work::refuse::check_place;
 use level_work::refuse::level_refusal;
 use level_work::{coefficient_of, looked_at, source_of};
 use parameters::QpPrime;
@@ -16,10 +18,40 @@ use scaling_blocks::blocks;
 use scaling_values::ScalingList;
 use transform_1d::Kind;
 
+// The rows that refuse a level edit, lowest first; but for 10 before 8. It cannot meet 9 or 19: scaling limits.
+// Kept: the rows but the levels', 10 and 8 are block_work's `block_refusal` too, and the levels' stands amid them: what is read is measured before what is written.
+// Kept: the buffers apart, here and below: a struct of lent slices would have to promise for each slice that it stays the same one (its ghost_name).
+// Kept: row, column and level apart, here and below: C gives them so, and a struct of them would be made for one call and taken apart in it.
+fn check_edit(
+    block: EditedBlock,
+    levels: &[i32],
+    coeff: &[i32],
+    inter: &[i32],
+    residual: &[i32],
+    row: usize,
+    column: usize,
+) -> Result<(), Refusal>
+    ensures { LevelEditChecked block levels.now (buffers coeff.now inter.now residual.now) row column result }
+{
+    let n = block.size;
+    let source = block.source;
+    refusal::check_size(n)?;
+    refusal::check_depth(block.precision.bit_depth)?;
+    refusal::check(
+        transform_1d::dst_refused(block.kind, n),
+        Refusal::DstSizeInvalid,
+    )?;
+    let held = looked_at(source.levels, levels.len(), coeff.len());
+    refusal::check_room(n, held, Refusal::InputTooShort)?;
+    refusal::check_room(n, coeff.len(), Refusal::InputTooShort)?;
+    refusal::check_room(n, inter.len(), Refusal::OutputTooShort)?;
+    refusal::check_room(n, residual.len(), Refusal::OutputTooShort)?;
+    refusal::check(!source.levels, Refusal::WayMismatched)?;
+    check_place(n, row, column)
+}
+
 // One level edit of an open block: sets the level, and writes the coefficient, the column count, the intermediate and the residual. A refused edit
-// changes nothing. It cannot meet 9 or 19: scaling limits.
-// Kept: the buffers apart, here and below: a struct of lent slices would have to promise for each slice that it stays the same one (its ghost_name),
-// a clause more for each.
+// changes nothing.
 pub fn edit_level(
     block: &mut EditedBlock,
     levels: &mut [i32],
@@ -32,37 +64,17 @@ pub fn edit_level(
 ) -> Result<Limits, Refusal>
     ensures { LevelEdits (level_edited block.old levels.old (buffers coeff.old inter.old residual.old) row column level) result block.new levels.new coeff.new inter.new residual.new }
 {
+    check_edit(*block, levels, coeff, inter, residual, row, column)?;
     let EditedBlock {
         kind,
         size: n,
-        depth,
-        extended,
+        precision,
         source,
         ..
     } = *block;
-    let held = looked_at(source.levels, levels.len(), coeff.len());
-    level_refusal(
-        kind,
-        n,
-        depth,
-        64,
-        held,
-        coeff.len(),
-        inter.len(),
-        residual.len(),
-    )?;
-    if !source.levels {
-        return Err(Refusal::WayMismatched);
-    }
-    if n <= row || n <= column {
-        return Err(Refusal::PlaceOutside);
-    }
+    let depth = precision.bit_depth;
     let at = row * n + column;
     levels[at] = level;
-    let precision = Precision {
-        bit_depth: depth,
-        extended,
-    };
     let scaled = coefficient_of(source, n, precision, at, level);
     let value = scaled.value;
     let range = coefficients::transform_range(precision);
@@ -77,6 +89,7 @@ pub fn edit_level(
 }
 
 // Opens a block on lent levels: writes its coefficients, its intermediate and its residual. The record keeps the list.
+// Kept: kind, size and precision apart: refusals, scaling and stages each take some of them, and would take a struct apart.
 pub fn open_levels(
     kind: Kind,
     n: usize,

@@ -7,23 +7,20 @@
 --   level_ask           what the search below asks
 --   level-wrote         an answer of 0: no condition holds, and both buffers are written
 use Rattle.std.specs.Prelude.{Ok, Err}
-use mathlib.Core.Path.{◌≡◌, refl, sym, ap, ap₂, subst, fun_ext, ◌∙◌}
-use mathlib.Core.Bool.{Bool, true, false}
+use mathlib.Core.Path.{◌≡◌, refl, sym, ap, subst, ◌∙◌}
+use mathlib.Core.Bool.{Bool, false}
 use mathlib.Core.List.{List, [], ◌∷◌}
 use Prim.Native.Nat.{ℕ, ◌*◌}
 use native.Mathlib.Omega.{arith}
 use borrow.Author.Tests.{eqb-true, not-false}
-use lib.Dec.{T, eqb}
-use lib.IntN.{ℤ, pos, nat_abs}
-use lib.ListN.{length, get_or, set}
+use lib.Dec.{eqb}
+use lib.IntN.{ℤ}
+use lib.ListN.{length}
 use Rattle.integers.specs.Lists.{overwrite}
-use Rattle.integers.proofs.ListsLaws.{overwrite_cong, tabulate_cong}
-use Rattle.h265.specs.Range.{is_size, log2_size, transform_range, outside_range}
-use Rattle.h265.specs.Quantization.{clip_qp_prime}
-use Rattle.h265.specs.Scaling.{bd_shift, scale_level, scaled_at}
-use Rattle.h265.specs.ScalingFactor.{ScalingList, factor_source, factor_by, scaling_factor}
-use Rattle.h265.specs.ScalingFactor.ScalingList.{flat}
-use Rattle.h265.specs.Transform.{residual}
+use Rattle.integers.proofs.ListsLaws.{overwrite_cong}
+use Rattle.h265.specs.Range.{log2_size, transform_range, outside_range}
+use Rattle.h265.specs.Scaling.{scale_level}
+use Rattle.h265.specs.ScalingFactor.{ScalingList}
 use Rattle.h265.proofs.RangeLaws.{log2_size_bound, clip_coeff_between}
 use Rattle.refusal.specs.declared.Refusal.{Refusal}
 use Rattle.refusal.specs.declared.Refusal.TheVariants.{SizeInvalid, DepthInvalid, DstSizeInvalid, ListLengthInvalid, InputTooShort, OutputTooShort}
@@ -39,18 +36,15 @@ use Rattle.parameters.specs.Parameters.{dequant_of, dequant_params, KnownSize}
 use Rattle.transform_1d.specs.declared.Kind.{Kind}
 use Rattle.transform_1d.specs.declared.Kind.TheVariants.{Dct, Dst}
 use Rattle.transform_1d.specs.Kinds.{dst_refused}
-use Rattle.transform_1d.specs.MatrixOf.{matrix_of}
 use Rattle.scaling_values.specs.Level.{listed_level}
 use Rattle.scaling_values.proofs.LevelLaws.{listed_level_eq}
 use Rattle.scaling_values.specs.Given.{entries_of}
 use Rattle.level_search.specs.Work.{Invertible}
 use Rattle.least_level.proofs.LevelLaws.{inside_range}
 use Rattle.level_search.proofs.FoundLaws.{dequant_of_invertible}
-use Rattle.edit_values.specs.Values.{least_where, most_where}
-use Rattle.edit_blocks.specs.Edits.{has_target}
 use Rattle.edit_search.specs.Found.{Found, left, wrote, Finds}
 use Rattle.edit_search.proofs.FoundLaws.{answered_passed}
-use Rattle.level_edits.specs.Levels.{scaled_block, level_gives, least_level_edit, most_level_edit, level_edit_ladder, level_edits_found}
+use Rattle.level_edits.specs.Levels.{least_level_edit, most_level_edit, level_edit_ladder, level_edits_found}
 use Rattle.level_edits.specs.Work.{least_level_by, most_level_by, LevelsNeeds}
 use Rattle.level_edits.proofs.BlockLaws.{least_is, most_is}
 

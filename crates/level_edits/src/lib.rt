@@ -15,6 +15,7 @@ mod places;
 mod refuse;
 
 // The least and the most level at every index.
+// Kept: target and wanted, least and most are slices of their own, here and in block.rt: C lends each with a length of its own, and rows 6 and 7 measure each.
 pub fn find_level_edits(
     kind: Kind,
     n: usize,

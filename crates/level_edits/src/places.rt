@@ -11,6 +11,7 @@ use parameters::DequantParams;
 use scaling_values::level;
 
 // One level, scaled.
+// Kept: m apart from the numbers of the block: it is another one at each index of a list, and they are the same throughout.
 pub(crate) fn scaled_value(given: i32, m: u8, by: DequantParams) -> i32
     requires { Manageable by }
     ensures { result ≡ listed_level by m given }
@@ -20,6 +21,8 @@ pub(crate) fn scaled_value(given: i32, m: u8, by: DequantParams) -> i32
 }
 
 // Whether the level at a place scales to `end` or above; strict: above.
+// Kept: `strict` is a yes or a no, and a bool says that; an enum of two names would be matched at the same place.
+// Kept: `as i32`: the value at a place fits 32 bits, and `try_from` would give a branch for an error that never comes.
 fn beyond(m: u8, by: DequantParams, range: u32, end: i32, strict: bool, place: u32) -> bool
     requires { Manageable by × (range ≤ 22) × (place ≤ 8388608) }
     ensures { result ≡ beyond (listed_level by m) range end strict place }
@@ -28,7 +31,7 @@ fn beyond(m: u8, by: DequantParams, range: u32, end: i32, strict: bool, place: u
     if strict {
         return end < x;
     }
-    !(x < end)
+    end <= x
 }
 
 // The first place that does, and one past the last where none does.
@@ -38,7 +41,7 @@ fn first_beyond(m: u8, by: DequantParams, range: u32, end: i32, strict: bool) ->
 {
     let mut low: u32 = 0;
     let mut high: u32 = 2u32 << range;
-    // Kept: a search by halves, whose step is no index; one loop for this and the one of edit_values would take its test as a closure, with clauses longer than the loop.
+    // Kept: a search by halves, as `halve` of edit_values; one loop of both would take its test as a closure, and clauses on what that answers at every place, longer than the loop.
     while low < high {
         let middle = (low + high) / 2;
         if beyond(m, by, range, end, strict, middle) {

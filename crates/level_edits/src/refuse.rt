@@ -7,7 +7,9 @@ use refusal::Refusal;
 use transform_1d::Kind;
 
 // The lowest row that applies, by the lengths of the buffers.
-// Kept: the conditions are edit_search's but for row 5, which stands between rows 4 and 6, so that none of the two ladders can call the other whole.
+// Kept: each length is a number of its own, which one line measures; a struct of them would be made for this one call.
+// Kept: the rows but 5 are edit_search's too, and 5 stands amid them; a function for those that both have would have a contract as long as its lines.
+#[tactic(auto, unfolding(crate::specs::Levels::level_edit_ladder))]
 pub(crate) fn level_edit_refusal(
     kind: Kind,
     n: usize,
@@ -21,33 +23,13 @@ pub(crate) fn level_edit_refusal(
 ) -> Result<(), Refusal>
     ensures { answer result ≡ level_edit_ladder (refused tt) (accepted tt) kind n bit_depth entries levels target wanted least most }
 {
-    if refusal::size_refused(n) {
-        return Err(Refusal::SizeInvalid);
-    }
-    if refusal::depth_refused(bit_depth) {
-        return Err(Refusal::DepthInvalid);
-    }
-    if transform_1d::dst_refused(kind, n) {
-        return Err(Refusal::DstSizeInvalid);
-    }
-    if entries != 64 {
-        return Err(Refusal::ListLengthInvalid);
-    }
-    let cells = n * n;
-    if levels < cells {
-        return Err(Refusal::InputTooShort);
-    }
-    if target < cells {
-        return Err(Refusal::InputTooShort);
-    }
-    if wanted < cells {
-        return Err(Refusal::InputTooShort);
-    }
-    if least < cells {
-        return Err(Refusal::OutputTooShort);
-    }
-    if most < cells {
-        return Err(Refusal::OutputTooShort);
-    }
-    Ok(())
+    refusal::check_size(n)?;
+    refusal::check_depth(bit_depth)?;
+    refusal::check(transform_1d::dst_refused(kind, n), Refusal::DstSizeInvalid)?;
+    refusal::check_list(entries)?;
+    refusal::check_room(n, levels, Refusal::InputTooShort)?;
+    refusal::check_room(n, target, Refusal::InputTooShort)?;
+    refusal::check_room(n, wanted, Refusal::InputTooShort)?;
+    refusal::check_room(n, least, Refusal::OutputTooShort)?;
+    refusal::check_room(n, most, Refusal::OutputTooShort)
 }

@@ -4,6 +4,7 @@
 --   side_end_bound, nearest_size_bound   sizes stay at most 2^22
 --   sided_within, scaled_fits     so that 32 bits hold the level and what it scales to
 --   halved                        the end of the halving
+--   le_is                         at most, by below
 --   reaches_below_is, reaches_above_is   the test of a size, by the side
 --   equal_bits                    the machine's test for equality
 use mathlib.Core.Path.{◌≡◌, refl, sym, ap, subst, ◌∙◌}
@@ -11,14 +12,14 @@ use mathlib.Core.Bool.{Bool, true, false, not, cond}
 use Prim.Native.Nat.{ℕ, ◌≤◌, ◌<◌}
 use native.Mathlib.Omega.{arith}
 use borrow.Author.Tests.{eqb-true, eq-eqb, ltb-true, ltb-false}
-use lib.Dec.{eqb, ltb}
+use lib.Dec.{T, eqb, ltb}
 use lib.IntN.{ℤ, pos, neg_ℤ, nat_abs}
-use lib.Signed.{lt_z}
+use lib.Signed.{lt_z, le_z}
 use mir.Syntax.{Width, w32}
 use mir.Val.{SFits, to_z, of_z}
 use Rattle.integers.specs.Search.{first_where}
 use Rattle.integers.specs.Within.{Within}
-use Rattle.integers.proofs.MachineLaws.{round_trip}
+use Rattle.integers.proofs.MachineLaws.{round_trip, lt_z_of_le, lt_z_false}
 use Rattle.integers.proofs.BoundLaws.{within_pos, within_neg}
 use Rattle.integers.proofs.SearchLaws.{None, first_where_first, first_where-none, first_where_found}
 use Rattle.parameters.specs.declared.DequantParams.{DequantParams}
@@ -27,6 +28,15 @@ use Rattle.scaling_values.proofs.LevelLaws.{listed_level_fits, manageable_ends}
 use Rattle.least_level.specs.Level.{equal}
 use Rattle.level_search.specs.Work.{sided, side_end, reaches, nearest_size}
 use Rattle.least_level.proofs.LevelLaws.{clash, equal_sound, equal_refl}
+
+pub le_is : (a b : ℤ) → le_z a b ≡ not (lt_z b a)
+le_is a b = by_test (le_z a b) (lt_z b a) refl refl
+  where
+    by_test : (s t : Bool) → le_z a b ≡ s → lt_z b a ≡ t → s ≡ not t
+    by_test true true d e = clash (lt_z_of_le {x = b} {y = a} (record { le = subst T (sym d) tt })) e
+    by_test true false d e = refl
+    by_test false true d e = refl
+    by_test false false d e = absurd (subst T d (lt_z_false {x = b} {y = a} e).le)
 
 module _ (x : ℤ) (k : ℕ) where
   pub sided_below : lt_z x (pos 0) ≡ true → sided x k ≡ neg_ℤ (pos k)
@@ -37,13 +47,13 @@ module _ (x : ℤ) (k : ℕ) where
   unfolding sided
   sided_above e = rw e
 
-  pub reaches_below_is : (f : ℤ → ℤ) → lt_z x (pos 0) ≡ true → not (lt_z x (f (sided x k))) ≡ reaches f x k
+  pub reaches_below_is : (f : ℤ → ℤ) → lt_z x (pos 0) ≡ true → le_z (f (sided x k)) x ≡ reaches f x k
   unfolding reaches
-  reaches_below_is f e = rw e
+  reaches_below_is f e = le_is (f (sided x k)) x ∙ (let q : not (lt_z x (f (sided x k))) ≡ reaches f x k = rw e in q)
 
-  pub reaches_above_is : (f : ℤ → ℤ) → lt_z x (pos 0) ≡ false → not (lt_z (f (sided x k)) x) ≡ reaches f x k
+  pub reaches_above_is : (f : ℤ → ℤ) → lt_z x (pos 0) ≡ false → le_z x (f (sided x k)) ≡ reaches f x k
   unfolding reaches
-  reaches_above_is f e = rw e
+  reaches_above_is f e = le_is x (f (sided x k)) ∙ (let q : not (lt_z (f (sided x k)) x) ≡ reaches f x k = rw e in q)
 
 module _ (p : DequantParams) (x : ℤ) where
   pub side_end_below : lt_z x (pos 0) ≡ true → nat_abs p.clip_min ≡ side_end p x

@@ -8,8 +8,8 @@
 --   scaling_by, nearest_at   scaling, and that level, at an index of a block
 --   misses_at, first_miss    it does not scale to the coefficient there; the first such index
 --   Invertible p           what the search relies on
---   Searched               what a search over a block leaves: the first index without a level, and all levels where there is none
-use Rattle.std.specs.Prelude.{◌≡◌, Bool, not, cond, List, ℕ, ◌*◌, ℤ, pos, neg_ℤ, nat_abs, length, get_or, ◌≤ℤ◌}
+--   Searched, SearchedAll  what a search over a block answers and leaves: the first index without a level, or all levels
+use Rattle.std.specs.Prelude.{◌≡◌, Bool, not, cond, List, Option, Some, None, ℕ, ◌*◌, ◌<◌, ℤ, pos, neg_ℤ, nat_abs, length, get_or, ◌≤ℤ◌}
 use Rattle.std.specs.Int.Signed.{lt_z}
 use Rattle.integers.specs.Lists.{overwrite}
 use Rattle.integers.specs.Search.{first_where}
@@ -51,7 +51,11 @@ pub record Invertible (p : DequantParams) : Type 0 where
   pub most : pos 0 ≤ℤ p.clip_max
   pub scales : (m : ℕ) → Scales (listed_level p m)
 
-pub record Searched (p : DequantParams) (list : ScalingList) (n : ℕ) (coeff before after : List ℤ) (first : ℕ) : Type 0 where
-  pub is : first ≡ first_miss p list n coeff
+pub record SearchedAll (p : DequantParams) (list : ScalingList) (n : ℕ) (coeff before after : List ℤ) : Type 0 where
+  pub none : first_miss p list n coeff ≡ n * n
   pub same : length after ≡ length before
-  pub levels : first ≡ n * n → after ≡ overwrite (n * n) (nearest_at p list n coeff) before
+  pub levels : after ≡ overwrite (n * n) (nearest_at p list n coeff) before
+
+abbrev pub Searched : DequantParams → ScalingList → ℕ → List ℤ → List ℤ → List ℤ → Option ℕ → Type 0
+Searched p list n coeff before after None = SearchedAll p list n coeff before after
+Searched p list n coeff before after (Some i) = (first_miss p list n coeff ≡ i) × (i < n * n)

@@ -14,30 +14,29 @@ use parameters::DequantParams;
 use refusal::Refusal;
 use scaling_values::ScalingList;
 
-// The levels of a block up to the first coefficient that no level gives, whose index is the result; n² where there is none.
+// The levels of a block up to the first coefficient that no level gives, whose index is the result.
 fn search(
     coeff: &[i32],
     n: usize,
     by: DequantParams,
     list: ScalingList,
     found: &mut [i32; 1024],
-) -> usize
+) -> Option<usize>
     requires invertible { Invertible by }
     requires whole_list { WholeList (entries_of (list_of list)) n }
     requires n_in_bounds { n * n ≤ length coeff.now }
     requires found_len { length found.old ≡ 1024 }
     ensures { Searched by (list_of list.entry) n coeff.now found.old found.new result }
 {
-    let count = n * n;
-    for i in 0..count {
+    for i in 0..n * n {
         let m = scaling::factor_at(list, n, i);
         let level = nearest::nearest(coeff[i], m, by);
         if !nearest::scales_to(level, coeff[i], m, by) {
-            return i;
+            return Some(i);
         }
         found[i] = level;
     }
-    count
+    None
 }
 
 // Row 11 at an index.
@@ -65,11 +64,10 @@ pub(crate) fn find_block(
     ensures { Writes result levels.new (block_found n (first_miss by (list_of list.entry) n coeff.now) (nearest_at by (list_of list.entry) n coeff.now) levels.old) }
 {
     let mut found = [0i32; 1024];
-    let first = search(coeff, n, by, list, &mut found);
-    let count = n * n;
-    if first < count {
-        return Err(missing_at(n, first));
+    if let Some(index) = search(coeff, n, by, list, &mut found) {
+        return Err(missing_at(n, index));
     }
+    let count = n * n;
     levels[..count].copy_from_slice(&found[..count]);
     Ok(())
 }

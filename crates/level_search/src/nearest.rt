@@ -13,12 +13,13 @@ fn sided(x: i32, size: u32) -> i32
     ensures { result ≡ sided x size }
 {
     if x < 0 {
-        return 0 - (size as i32);
+        return -(size as i32);
     }
     size as i32
 }
 
-// Kept: `Invertible`, here and below, is what `find_levels` knows of the numbers of a block; a type for it would be opened again by each function that works by them.
+// Kept: x, m and the numbers of a block stand apart, here and below, and `Invertible` is a clause: the scaling of one level takes the three so, and a struct of them would be
+// opened at every call.
 
 // The largest size on the side of x.
 fn side_end(x: i32, by: DequantParams) -> u32
@@ -40,9 +41,9 @@ fn reaches(x: i32, size: u32, m: u8, by: DequantParams) -> bool
     let scaled = level::scaled_listed(sided(x, size), m, by);
     let value = scaled.value;
     if x < 0 {
-        return !(x < value);
+        return value <= x;
     }
-    !(value < x)
+    x <= value
 }
 
 // The least size that does.
@@ -52,7 +53,7 @@ fn nearest_size(x: i32, m: u8, by: DequantParams) -> u32
 {
     let mut low: u32 = 0;
     let mut high = side_end(x, by);
-    // Kept: the interval is halved; no index is counted.
+    // Kept: a search by halves, whose step is no index; `partition_point` asks for a slice, and the sizes are in none.
     while low < high {
         let middle = (low + high) / 2;
         if reaches(x, middle, m, by) {

@@ -7,6 +7,7 @@ use refusal::Refusal;
 use transform_1d::Kind;
 
 // The lowest row that applies, by the lengths of the list and of the buffers.
+#[tactic(auto, unfolding(block_rules::specs::Level::level_ladder))]
 pub fn level_refusal(
     kind: Kind,
     n: usize,
@@ -19,30 +20,12 @@ pub fn level_refusal(
 ) -> Result<(), Refusal>
     ensures { answer result ≡ level_ladder (refused tt) (accepted tt) kind n bit_depth list levels coeff inter residual }
 {
-    if refusal::size_refused(n) {
-        return Err(Refusal::SizeInvalid);
-    }
-    if refusal::depth_refused(bit_depth) {
-        return Err(Refusal::DepthInvalid);
-    }
-    if transform_1d::dst_refused(kind, n) {
-        return Err(Refusal::DstSizeInvalid);
-    }
-    if list != 64 {
-        return Err(Refusal::ListLengthInvalid);
-    }
-    let cells = n * n;
-    if levels < cells {
-        return Err(Refusal::InputTooShort);
-    }
-    if coeff < cells {
-        return Err(Refusal::InputTooShort);
-    }
-    if inter < cells {
-        return Err(Refusal::OutputTooShort);
-    }
-    if residual < cells {
-        return Err(Refusal::OutputTooShort);
-    }
-    Ok(())
+    refusal::check_size(n)?;
+    refusal::check_depth(bit_depth)?;
+    refusal::check(transform_1d::dst_refused(kind, n), Refusal::DstSizeInvalid)?;
+    refusal::check_list(list)?;
+    refusal::check_room(n, levels, Refusal::InputTooShort)?;
+    refusal::check_room(n, coeff, Refusal::InputTooShort)?;
+    refusal::check_room(n, inter, Refusal::OutputTooShort)?;
+    refusal::check_room(n, residual, Refusal::OutputTooShort)
 }

@@ -10,10 +10,7 @@ ghost use Rattle.lines.specs.Fold.{value_most, dot_sum, Small, DotNeeds, FoldNee
 fn value<const N: usize>(x: &[i16; N], i: usize) -> i16
     ensures { result ≡ get_or x.now i (pos 0) }
 {
-    match x.get(i) {
-        Some(v) => *v,
-        None => 0,
-    }
+    x.get(i).copied().unwrap_or(0)
 }
 
 // Two products.

@@ -1,7 +1,7 @@
 // One-dimensional inverse transforms of 4 and 8 points on values of up to 23 bits. An output sums up to at most 479 × 2^22 in size, so that
 // 32-bit products and sums are exact.
 // Internal: no depth, no limit, no refusal; callers meet each `requires`.
-// Kept: beside `lines`, which multiply 16-bit values and give twice each output; twice 479 × 2^22 is past 32 bits.
+// Kept: beside `lines`, which multiply 16-bit values and give twice each output; twice 479 × 2^22 is past the signed 32 bits.
 #![tactic(auto)]
 
 ghost use Rattle.std.specs.Prelude.{◌≡◌, ◌+◌, ◌*◌, ◌^◌, nat_abs, ◌+ℤ◌, ◌*ℤ◌};

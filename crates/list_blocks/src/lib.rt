@@ -31,6 +31,7 @@ fn block_list<'a, R: Residual>(
     Ok(list_places::scaling_list(table, stream, number))
 }
 
+// Kept: two functions, for coefficients and for residuals, as C has them; what is alike is `block_list`.
 // The coefficients of a block with the list of a number.
 pub fn dequantize_by_number<R: Residual>(
     table: &[u8],

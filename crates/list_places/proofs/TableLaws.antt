@@ -1,7 +1,7 @@
 -- Laws of the streams that stand in a table.
 --   stream_of-numbered, numbered-past, stream_of-length   the places of a stream
 --   free_byte                      a number is free where its place's first byte is 0
---   missing_stream, missing-past, missing_byte   row 18, test by test
+--   missing_stream, missing_past, missing_byte   row 18, test by test
 --   number-inside, held_place      what a number gives that is not missing
 --   stream_of-set, stream_of_kept    a stream after one place has changed: its own, or another's
 --   table_short, table_long, table_room   row 7 of a table, and its bytes where it does not apply
@@ -69,9 +69,9 @@ or_true : (t : Bool) → t || true ≡ true
 or_true true = refl
 or_true false = refl
 
-pub missing-past : (table : List ℕ) (d i : ℕ) → 12 ≤ i → missing d (stream_of table d) i ≡ true
+pub missing_past : (table : List ℕ) (d i : ℕ) → 12 ≤ i → missing d (stream_of table d) i ≡ true
 unfolding missing
-missing-past table d i h = rw (numbered-past table d i h) (or_true (stream_refused d))
+missing_past table d i h = rw (numbered-past table d i h) (or_true (stream_refused d))
 
 pub missing_byte : (table : List ℕ) (d i : ℕ) → d < 2 → i < 12 → missing d (stream_of table d) i ≡ eqb (get_or table (66 * (12 * d + i)) 0) 0
 unfolding missing stream_refused
@@ -88,7 +88,7 @@ number-inside table d i e =
   where
     by_test : (t : Bool) → ltb i 12 ≡ t → i < 12
     by_test true h = ltb-true i 12 h
-    by_test false h = absurd (clash (sym (missing-past table d i (ltb-false i 12 h)) ∙ e))
+    by_test false h = absurd (clash (sym (missing_past table d i (ltb-false i 12 h)) ∙ e))
 
 pub held_place : (table : List ℕ) (d i : ℕ) → missing d (stream_of table d) i ≡ false
     → numbered (stream_of table d) i ≡ held (entries_at table (12 * d + i)) (get_or table (66 * (12 * d + i) + 1) 0)

@@ -8,9 +8,10 @@
 --   stream_refused d   18: the stream is not one of the two
 --   missing d s i     18: so it is, or it does not hold the number
 --   full s            17: it holds 12 already
+--   LowestFree s r     a search answers the lowest free number, or none where the stream is full
 --   number_ladder      rows 7 and 18 of a call that names a number; `short` says that the lent table has no room for 24 places
 --   number_answer      the answer of such a call, where it hands back no value
-use Rattle.std.specs.Prelude.{Bool, true, false, ◌||◌, cond, List, [], ℕ, leb, ltb, get_or, replicate}
+use Rattle.std.specs.Prelude.{◌≡◌, Bool, true, false, ◌||◌, cond, List, [], Option, Some, None, ℕ, ◌<◌, leb, ltb, get_or, replicate}
 use Rattle.integers.specs.Search.{first_where}
 use Rattle.refusal.specs.declared.Refusal.{Refusal}
 use Rattle.refusal.specs.declared.Refusal.TheVariants.{OutputTooShort, ListMissing}
@@ -52,6 +53,11 @@ missing d s i = stream_refused d || is_free (numbered s i)
 
 unfoldable pub full : Stream → Bool
 full s = leb 12 (lowest_free s)
+
+-- a search for the lowest free number
+abbrev pub LowestFree : Stream → Option ℕ → Type 0
+LowestFree s None = full s ≡ true
+LowestFree s (Some i) = (full s ≡ false) × (i < 12) × (i ≡ lowest_free s)
 
 -- `stop` makes something of a refusal
 unfoldable pub number_ladder : {A : Type 0} → (Refusal → A) → A → Bool → ℕ → Stream → ℕ → A

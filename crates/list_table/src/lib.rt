@@ -13,38 +13,28 @@ use refusal::Refusal;
 pub fn store_list(table: &mut [u8], stream: usize, list: &[u8], dc: u8) -> Result<usize, Refusal>
     ensures { Stores result table.new table.old stream list.now dc }
 {
-    if list.len() != 64 {
-        return Err(Refusal::ListLengthInvalid);
-    }
-    if table.len() < 1584 {
-        return Err(Refusal::OutputTooShort);
-    }
-    if 1 < stream {
-        return Err(Refusal::ListMissing);
-    }
-    let number = list_places::lowest_free(table, stream);
-    if 12 <= number {
+    refusal::check_list(list.len())?;
+    list_places::check_table(table)?;
+    refusal::check(1 < stream, Refusal::ListMissing)?;
+    let Some(number) = list_places::lowest_free(table, stream) else {
         return Err(Refusal::StreamFull);
-    }
+    };
     list_places::put_place(table, list_places::start_of(stream, number), list, dc);
     Ok(number)
 }
 
 // Frees a number of a stream for use again.
+#[tactic(auto, using(crate::proofs::AnswerLaws::drop_refused))]
 pub fn drop_list(table: &mut [u8], stream: usize, number: usize) -> Result<(), Refusal>
     ensures { Drops result table.new table.old stream number }
 {
-    if table.len() < 1584 {
-        return Err(Refusal::OutputTooShort);
-    }
-    if list_places::is_missing(table, stream, number) {
-        return Err(Refusal::ListMissing);
-    }
+    list_places::number_refused(table, stream, number)?;
     table[list_places::start_of(stream, number)] = 0;
     Ok(())
 }
 
 // The list and the DC of a number.
+#[tactic(auto, using(crate::proofs::AnswerLaws::find_narrow, crate::proofs::AnswerLaws::find_refused))]
 pub fn list_at(
     table: &[u8],
     stream: usize,
@@ -53,15 +43,8 @@ pub fn list_at(
 ) -> Result<u8, Refusal>
     ensures { Finds result list_out.new (find_answer (short table.now) stream (stream_of table.now stream) number list_out.old) }
 {
-    if table.len() < 1584 {
-        return Err(Refusal::OutputTooShort);
-    }
-    if list_out.len() < 64 {
-        return Err(Refusal::OutputTooShort);
-    }
-    if list_places::is_missing(table, stream, number) {
-        return Err(Refusal::ListMissing);
-    }
+    refusal::check(list_out.len() < 64, Refusal::OutputTooShort)?;
+    list_places::number_refused(table, stream, number)?;
     let at = list_places::start_of(stream, number);
     list_places::entries_out(table, at, list_out);
     Ok(table[at + 1])

@@ -82,8 +82,8 @@ fn level(i: usize) -> i32 {
 }
 
 fn fill(levels: &mut [i32]) {
-    for i in 0..levels.len() {
-        levels[i] = level(i);
+    for (i, value) in levels.iter_mut().enumerate() {
+        *value = level(i);
     }
 }
 

@@ -1,11 +1,9 @@
 // Replays recorded answers of the ported Rust, through the functions that C gets. A case is a text, which is written as it is: the function and what it is called with.
-// Then come the function's number, depth, flag and DC or m, a byte each; size, column count or index, and the lengths of list, input and output, two bytes each; QP or
-// QP', and a level; the list, the input, and the output that the Rust left. The text goes on with number, row and column, of a block that is
+// Then come the function's number, depth, flag and DC or m, a byte each; size, and column count or index, two bytes each; QP or
+// QP', and a level, four bytes each; the lengths of list, input and output, two bytes each, as far as the function has them; the list, the input, and the output that the Rust left. The text goes on with number, row and column, of a block that is
 // scaled the count of limited coefficients, of a level whether it and its result were limited, by a plain writing of the rule, and whether every value is the Rust's.
 // `harness record` writes cases and text.
 #![tactic(auto)]
-
-ghost use Rattle.std.specs.Prelude.{◌≤◌};
 
 use c_api::{Answered, CountAnswered};
 use cases::Number;
@@ -17,8 +15,8 @@ mod function; // the functions by their numbers
 mod inverted;
 mod scaled;
 
-// Kept: depth and flag stand apart, as C hands them over.
 // `byte` is DC or m, `qp` is QP or QP', `count` the column count or an index.
+// Kept: depth and flag stand apart, as the functions for C take them.
 #[derive(Clone, Copy)]
 struct Case {
     bit_depth: u8,
@@ -90,18 +88,22 @@ fn run_transform_skip(rt: &impl Print, stdin: &mut impl Read, case: Case) {
         case.extended_precision,
     );
     put_answer(rt, r.number, r.row, r.column);
-    let own = [r.tr_add as i64, r.tr_shift as i64];
-    for z in [r.factor, r.add, r.shift as i64, r.clip_min, r.clip_max] {
-        put_next(rt, stdin, z);
-    }
-    for z in own {
+    for z in [
+        r.factor,
+        r.add,
+        r.shift as i64,
+        r.clip_min,
+        r.clip_max,
+        r.tr_add as i64,
+        r.tr_shift as i64,
+    ] {
         put_next(rt, stdin, z);
     }
 }
 
 fn run_factor(rt: &impl Print, stdin: &mut impl Read, case: Case) {
     let mut list = [0u8; 64];
-    let entries = length_read(stdin, 64);
+    let entries = cases::next_short_length(stdin, 64);
     cases::read_first(stdin, entries, &mut list);
     let r = c_api::residual_scaling_coeff(&list[..entries], case.byte, case.n, case.count);
     put_answer(rt, r.number, r.row, r.column);
@@ -123,14 +125,7 @@ fn run_level(rt: &impl Print, stdin: &mut impl Read, case: Case) {
     put_next(rt, stdin, r.value as i64);
 }
 
-// A length of two bytes; none is longer than `most`.
-fn length_read(stdin: &mut impl Read, most: usize) -> usize
-    ensures { result ≤ most }
-{
-    (cases::next::<u16>(stdin) as usize).min(most)
-}
-
-// A call on a block with its list. The output has the mark 77 in every place, as the recorder lent it to the Rust.
+// A call on a block with its list, which is empty where the function takes none. The output has the mark 77 in every place, as the recorder lent it to the Rust.
 fn run_listed<O, A, F>(rt: &impl Print, stdin: &mut impl Read, out: &mut [O], call: F)
 where
     O: Number + Display,
@@ -140,9 +135,9 @@ where
 {
     let mut list = [0u8; 64];
     let mut input = [0i32; 1040];
-    let entries = length_read(stdin, 64);
-    let count = length_read(stdin, 1040);
-    let len = length_read(stdin, out.len());
+    let entries = cases::next_short_length(stdin, 64);
+    let count = cases::next_short_length(stdin, 1040);
+    let len = cases::next_short_length(stdin, out.len());
     cases::read_first(stdin, entries, &mut list);
     cases::read_first(stdin, count, &mut input);
     let answer = call(&list[..entries], &input[..count], &mut out[..len]);
@@ -150,8 +145,8 @@ where
     cases::put_same(rt, cases::are_next(stdin, &out[..len]));
 }
 
-// A transform 16 bits wide, which has no list.
-// Kept: one function for both would need a flag for the list that is not in these cases.
+// A transform 16 bits wide, whose cases have no list.
+// Kept: in a case with a list its length stands before the other two and its bytes behind them, so that one function for both would ask twice which it is.
 fn run_short<F>(rt: &impl Print, stdin: &mut impl Read, call: F)
 where
     F: FnOnce(&[i16], &mut [i16]) -> Answered,
@@ -159,8 +154,8 @@ where
 {
     let mut input = [0i16; 1040];
     let mut out = [77i16; 1040];
-    let count = length_read(stdin, 1040);
-    let len = length_read(stdin, 1040);
+    let count = cases::next_short_length(stdin, 1040);
+    let len = cases::next_short_length(stdin, 1040);
     cases::read_first(stdin, count, &mut input);
     let answer = call(&input[..count], &mut out[..len]);
     answer.put(rt);
@@ -204,9 +199,5 @@ fn replay(rt: &impl Print, stdin: &mut impl Read) -> bool {
 
 fn main(rt: HostRuntime) {
     let mut stdin = rt.stdin();
-    for _ in 0..u64::MAX {
-        if !replay(&rt, &mut stdin) {
-            break;
-        }
-    }
+    cases::replay_all(|| replay(&rt, &mut stdin));
 }

@@ -48,19 +48,7 @@ fn put_sizes(rt: &impl Print, precision: Precision) {
 fn main(rt: HostRuntime) {
     streams::write_all(&rt, b"depth\text\tsize\tR\ts\tt\tQP'\n");
     for bit_depth in 8..17 {
-        put_sizes(
-            &rt,
-            Precision {
-                bit_depth,
-                extended: false,
-            },
-        );
-        put_sizes(
-            &rt,
-            Precision {
-                bit_depth,
-                extended: true,
-            },
-        );
+        put_sizes(&rt, Precision::new(bit_depth, false));
+        put_sizes(&rt, Precision::new(bit_depth, true));
     }
 }

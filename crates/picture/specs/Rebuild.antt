@@ -5,6 +5,7 @@
 --   Rebuilds r after w     a call's answer r and its plane `after` are what w says
 -- What the functions below the refusals rely on and say:
 --   Below top k xs         the first k samples are at most top
+--   SamplesChecked top xs a   the test of row 12: it refuses at the first sample above top
 --   Placed                 n elements from `at` on are f 0, f 1, .., all others as before
 --   Inside                 buffers, block and plane have the sizes that the ladder leaves
 use Rattle.std.specs.Prelude.{◌≡◌, cond, List, ℕ, ◌+◌, ◌-◌, ◌*◌, ◌≤◌, ◌<◌, T, ltb, ℤ, length, get_or, Result}
@@ -12,6 +13,7 @@ use Rattle.h265.specs.Range.{is_size}
 use Rattle.refusal.specs.declared.Refusal.{Refusal}
 use Rattle.refusal.specs.declared.Refusal.TheVariants.{SizeInvalid, DepthInvalid, InputTooShort, SampleOutside, PictureInvalid}
 use Rattle.refusal.specs.Condition.{size_refused, depth_refused, block_refused}
+use Rattle.refusal.specs.Check.{Checked}
 use Rattle.refusal.specs.Outcome.{Outcome, accepted, refused, answer}
 use Rattle.planes.specs.Picture.{picture_refused, block_outside}
 use Rattle.picture.specs.Samples.{sample_max, among, rebuilt_plane, first_above}
@@ -44,6 +46,11 @@ pub record Rebuilds (r : Result (Unit {0}) Refusal) (after : List ℕ) (w : Rebu
 
 pub record Below (top k : ℕ) (xs : List ℕ) : Type 0 where
   pub at : (i : ℕ) → i < k → get_or xs i 0 ≤ top
+
+abbrev pub SamplesChecked : ℕ → List ℕ → Result (Unit {0}) Refusal → Type 0
+SamplesChecked top xs a =
+    let first : ℕ = first_above top (length xs) xs in
+    Checked (ltb first (length xs)) (SampleOutside first) a
 
 pub record Placed (at n : ℕ) (f : ℕ → ℕ) (before after : List ℕ) : Type 0 where
   pub same : length after ≡ length before

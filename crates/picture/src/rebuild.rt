@@ -21,10 +21,11 @@ fn rebuilt_sample(top: u16, prediction: u16, residual: i32) -> u16
     ensures { result ≡ rebuilt_sample top prediction residual }
 {
     let p = prediction as i32;
-    (p + residual.clamp(0 - p, top as i32 - p)) as u16
+    (p + residual.clamp(-p, top as i32 - p)) as u16
 }
 
 // One row of the block: n samples from `from` on, put into the plane from `at` on.
+// Kept: n, `from` and `at` beside the slices: `Placed` speaks of the whole plane, to which the law of the rows adds one row; of row slices each would need a law that it is that part of the whole.
 fn rebuild_row(
     n: usize,
     top: u16,
@@ -44,6 +45,7 @@ fn rebuild_row(
 }
 
 // The rows of the block.
+// Kept: size and depth, then column and row, apart: `rebuild_block` is called with them apart, and the definition takes each by itself.
 fn rebuild_rows(
     n: usize,
     bit_depth: u8,
@@ -73,6 +75,7 @@ fn rebuild_rows(
 }
 
 // The samples of a block in their places of the plane, whose first is at column x and row y of the picture.
+#[tactic(auto, using(crate::proofs::RebuildLaws::samples_below, h265::proofs::RangeLaws::size_square), unfolding(crate::specs::Rebuild::rebuilt))]
 pub fn rebuild_block(
     n: usize,
     bit_depth: u8,
@@ -85,28 +88,13 @@ pub fn rebuild_block(
 ) -> Result<(), Refusal>
     ensures { Rebuilds result plane.new (rebuilt n bit_depth residual.now prediction.now extent.width extent.height extent.stride x y plane.old) }
 {
-    if refusal::size_refused(n) {
-        return Err(Refusal::SizeInvalid);
-    }
-    if refusal::depth_refused(bit_depth) {
-        return Err(Refusal::DepthInvalid);
-    }
-    if residual.len() < n * n {
-        return Err(Refusal::InputTooShort);
-    }
-    if prediction.len() < n * n {
-        return Err(Refusal::InputTooShort);
-    }
-    if extent.refused(plane.len()) {
-        return Err(Refusal::PictureInvalid);
-    }
-    if extent.block_outside(n, x, y) {
-        return Err(Refusal::PictureInvalid);
-    }
-    let first = refuse::first_above(sample_max(bit_depth), n * n, prediction);
-    if first < n * n {
-        return Err(Refusal::SampleOutside(first));
-    }
+    refusal::check_size(n)?;
+    refusal::check_depth(bit_depth)?;
+    refusal::check_room(n, residual.len(), Refusal::InputTooShort)?;
+    refusal::check_room(n, prediction.len(), Refusal::InputTooShort)?;
+    extent.check(plane.len())?;
+    extent.check_block(n, x, y)?;
+    refuse::check_samples(sample_max(bit_depth), &prediction[..n * n])?;
     rebuild_rows(n, bit_depth, residual, prediction, extent, x, y, plane);
     Ok(())
 }

@@ -1,40 +1,36 @@
 // Row 12: samples above the depth's limit.
-ghost use Rattle.std.specs.Prelude.{◌≡◌, true, ◌≤◌, length};
-ghost use Rattle.picture.specs.Rebuild.{Below};
-ghost use Rattle.picture.specs.Samples.{first_above};
+ghost use Rattle.std.specs.Prelude.{◌≡◌, true, length};
+ghost use Rattle.picture.specs.Rebuild.{Below, SamplesChecked};
 
-// Whether the first `count` samples are all at most the largest. One pass with no way out, so that the compiler takes several at a time.
-fn all_below(top: u16, count: usize, samples: &[u16]) -> bool
-    requires { count ≤ length samples.now }
-    ensures { result ≡ true → Below top count samples.now }
+use refusal::Refusal;
+
+// `true` only where every sample is at most the largest. One pass with no way out, so that the compiler takes several at a time.
+fn all_below(top: u16, samples: &[u16]) -> bool
+    ensures { result ≡ true → Below top (length samples.now) samples.now }
 {
     let mut bits: u16 = 0;
-    for i in 0..count {
-        bits |= samples[i];
+    for sample in samples {
+        bits |= *sample;
     }
     bits <= top
 }
 
-// What `first_above` looks for, sample by sample.
-fn search_above(top: u16, count: usize, samples: &[u16]) -> usize
-    requires { count ≤ length samples.now }
-    ensures { result ≡ first_above top count samples.now }
+// What `check_samples` tests, sample by sample.
+fn check_each(top: u16, samples: &[u16]) -> Result<(), Refusal>
+    ensures { SamplesChecked top samples.now result }
 {
-    for i in 0..count {
-        if top < samples[i] {
-            return i;
-        }
+    for (i, sample) in samples.iter().enumerate() {
+        refusal::check(top < *sample, Refusal::SampleOutside(i))?;
     }
-    count
+    Ok(())
 }
 
-// Row 12: the first of `count` samples that is above the largest, and `count` where there is none.
-pub(crate) fn first_above(top: u16, count: usize, samples: &[u16]) -> usize
-    requires { count ≤ length samples.now }
-    ensures { result ≡ first_above top count samples.now }
+// Row 12: the first sample that is above the largest.
+pub(crate) fn check_samples(top: u16, samples: &[u16]) -> Result<(), Refusal>
+    ensures { SamplesChecked top samples.now result }
 {
-    if all_below(top, count, samples) {
-        return count;
+    if all_below(top, samples) {
+        return Ok(());
     }
-    search_above(top, count, samples)
+    check_each(top, samples)
 }

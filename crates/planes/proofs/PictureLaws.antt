@@ -2,11 +2,12 @@
 --   side_accepted, stride_accepted   a side is 1 .. 16,384, a stride the width .. 65,536
 --   Sized, picture_accepted          the sizes of a plane
 --   block-accepted                   the block ends within the picture
---   stride_height                    the elements of the largest plane
+--   stride_height, plane_fits        the elements of the largest plane, and that 64 bits count them
 use mathlib.Core.Path.{◌≡◌}
 use mathlib.Core.Bool.{false}
-use Prim.Native.Nat.{ℕ, ◌+◌, ◌*◌, ◌≤◌}
+use Prim.Native.Nat.{ℕ, ◌+◌, ◌*◌, ◌≤◌, ◌<◌}
 use native.Mathlib.Nat.{mul-le-mul}
+use native.Mathlib.Omega.{arith}
 use borrow.Author.Tests.{ltb-false}
 use lib.Dec.{ltb}
 use Rattle.integers.proofs.TestLaws.{neither}
@@ -47,3 +48,7 @@ block-accepted n width height x y e =
 
 pub stride_height : (stride height : ℕ) → stride ≤ 65536 → height ≤ 16384 → stride * height ≤ 1073741824
 stride_height stride height s h = mul-le-mul s h
+
+pub plane_fits : (width stride height : ℕ) → side_refused height ≡ false → stride_refused width stride ≡ false → stride * height < 18446744073709551616
+plane_fits width stride height h s =
+    omega (arith, stride_height stride height (stride_accepted width stride s).1 (side_accepted height h).1)

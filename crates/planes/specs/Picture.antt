@@ -2,7 +2,11 @@
 -- A plane has the sample of column x and row y at y × stride + x.
 --   picture_refused width height stride len   of the plane: a side outside 1 .. 16,384, a stride under the width or above 65,536, or under stride × height elements
 --   block_outside n width height x y          of the block: a column or a row of it lies past the picture
-use Rattle.std.specs.Prelude.{Bool, ◌||◌, ℕ, ◌+◌, ◌*◌, ltb}
+--   PictureChecked width height stride len a, BlockChecked n width height x y a   the test of each
+use Rattle.std.specs.Prelude.{Bool, ◌||◌, ℕ, ◌+◌, ◌*◌, ltb, Result}
+use Rattle.refusal.specs.declared.Refusal.{Refusal}
+use Rattle.refusal.specs.declared.Refusal.TheVariants.{PictureInvalid}
+use Rattle.refusal.specs.Check.{Checked}
 
 unfoldable pub side_refused : ℕ → Bool
 side_refused k = ltb k 1 || ltb 16384 k
@@ -16,3 +20,9 @@ picture_refused width height stride len =
 
 unfoldable pub block_outside : ℕ → ℕ → ℕ → ℕ → ℕ → Bool
 block_outside n width height x y = ltb width (x + n) || ltb height (y + n)
+
+abbrev pub PictureChecked : ℕ → ℕ → ℕ → ℕ → Result (Unit {0}) Refusal → Type 0
+PictureChecked width height stride len a = Checked (picture_refused width height stride len) PictureInvalid a
+
+abbrev pub BlockChecked : ℕ → ℕ → ℕ → ℕ → ℕ → Result (Unit {0}) Refusal → Type 0
+BlockChecked n width height x y a = Checked (block_outside n width height x y) PictureInvalid a

@@ -2,3 +2,4 @@ pub mod Refusal
 pub mod Outcome
 pub mod Condition
 pub mod Written
+pub mod Check

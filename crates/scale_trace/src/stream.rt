@@ -13,6 +13,7 @@ use feed::{StepError, Taken};
 use feed_state::State;
 
 // The lines of a block, by the parameters; a block of size 0 has none.
+#[tactic(auto, using(text::proofs::WroteLaws::wrote_none))]
 fn put_levels(state: State, n: usize, out: &mut [u8], at: usize) -> usize
     requires t { 0 < n → T (is_size n) }
     requires n_in_bounds { at + 20 * (n * n) ≤ length out.old }
@@ -25,7 +26,8 @@ fn put_levels(state: State, n: usize, out: &mut [u8], at: usize) -> usize
 }
 
 // A record, whole or not: its lines at a place of the buffer. The text that the feed writes is put aside.
-// Kept: a struct of lent slices would have to promise for each slice that it stays the same one (its ghost_name), a clause more for each.
+// Kept: the four buffers apart, here and below: a struct of lent slices would have to promise for each that it stays the same one (its ghost_name), and a struct of four arrays would be filled by a copy, since `feed::step` is lent slices.
+#[tactic(auto, using(crate::proofs::StepLaws::kind_side, scale_trace_block::proofs::RoomLaws::room_is))]
 fn take_record(
     state: State,
     kind: u8,
@@ -69,21 +71,20 @@ pub fn step(
 }
 
 // The line of a refusal.
+#[tactic(auto, using(text::proofs::WroteLaws::wrote_none, scale_trace_block::proofs::LineLaws::within))]
 fn put_refusal(error: StepError, offset: u64, out: &mut [u8], at: usize) -> usize
     requires { at + 40 ≤ length out.old }
     ensures { WroteUpTo out.old at (refusal_of error offset) out.new result (at + 40) }
 {
     match error {
-        StepError::Refused(why) => {
-            let line = feed_lines::refusal_line(why, offset);
-            text::put_bytes(&line.bytes[..line.end], out, at)
-        }
+        StepError::Refused(why) => feed_lines::put_refused(why, offset, out, at),
         StepError::NoRoom => at,
     }
 }
 
 // The listing of a whole feed, where there is room for it.
-// Kept: the loop is the feed's own; the reason is beside that one.
+// Kept: the loop goes from record to record, by no index; one walk for this and `feed::run` would be generic over lines, last line and room, with their laws
+// as members of a trait: more to read than the loop.
 fn run_within(input: &[u8], out: &mut [u8]) -> usize
     requires { listing_room input.now ≤ length out.old }
     ensures { Wrote out.old 0 (trace_text input.now) out.new result × Counts result out.new }
@@ -95,14 +96,11 @@ fn run_within(input: &[u8], out: &mut [u8]) -> usize
     let mut state = feed_state::start();
     let mut end = 0;
     while (state.offset as usize) < input.len() {
-        let at = state.offset as usize;
-        let kind = input[at];
-        let from = at + 1;
-        let stop = (from + feed_format::record_length(kind)).min(input.len());
+        let (kind, body) = feed_format::record_at(input, state.offset as usize);
         match take_record(
             state,
             kind,
-            &input[from..stop],
+            body,
             &mut levels,
             &mut coeff,
             &mut inter,

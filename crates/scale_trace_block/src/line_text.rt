@@ -23,21 +23,21 @@ fn put_reason(source: Source, out: &mut [u8], at: usize) -> usize
     }
 }
 
+#[tactic(auto, using(crate::proofs::LineLaws::within, crate::proofs::LineLaws::position_short))]
 fn put_position(source: Source, out: &mut [u8], at: usize) -> usize
     requires { (position_of source < 64) × (at + 2 ≤ length out.old) }
     ensures { WroteUpTo out.old at (position_text (source_is source)) out.new result (at + 2) }
 {
     match source {
-        Source::None => text::put_bytes(b"-", out, at),
-        Source::Four(p) => text::put_unsigned(p as u64, out, at),
-        Source::Eight(p) => text::put_unsigned(p as u64, out, at),
-        Source::Dc => text::put_bytes(b"-", out, at),
-        Source::Repeat(p) => text::put_unsigned(p as u64, out, at),
-        Source::Skip => text::put_bytes(b"-", out, at),
+        Source::Four(p) | Source::Eight(p) | Source::Repeat(p) => {
+            text::put_unsigned(p as u64, out, at)
+        }
+        Source::None | Source::Dc | Source::Skip => text::put_bytes(b"-", out, at),
     }
 }
 
 // A number below 1024 and a space.
+#[tactic(auto, using(crate::proofs::LineLaws::number_short))]
 fn put_number(n: usize, out: &mut [u8], at: usize) -> usize
     requires { (n < 1024) × (at + 5 ≤ length out.old) }
     ensures { WroteUpTo out.old at (unsigned_text n ++ (space ∷ [])) out.new result (at + 5) }
@@ -60,6 +60,7 @@ fn put_rule(source: Source, out: &mut [u8], at: usize) -> usize
 }
 
 // The line of one index: at most 20 bytes.
+#[tactic(auto, using(h265::proofs::RangeLaws::size_square))]
 fn put_line(
     list: Option<List>,
     mode: Mode,
@@ -75,11 +76,12 @@ fn put_line(
     let source = rule::source_of(list, mode, n, index);
     let m = rule::factor_of(list, mode, n, index);
     let first = put_number(index, out, at);
-    let second = put_number(m as usize, out, first);
+    let second = put_number(usize::from(m), out, first);
     put_rule(source, out, second)
 }
 
 // The lines of a block, in row order; a block of size 0 has none.
+#[tactic(auto, using(h265::proofs::TransformLaws::cell_row, crate::proofs::LineLaws::lines_done))]
 pub fn put_lines(list: Option<List>, mode: Mode, n: usize, out: &mut [u8], at: usize) -> usize
     requires known_size { 0 < n → T (is_size n) }
     requires n_in_bounds { at + 20 * (n * n) ≤ length out.old }

@@ -1,21 +1,32 @@
 // How many bytes the listing may take, by the kinds of a feed's records.
 ghost use Rattle.std.specs.Prelude.{◌≡◌, min};
 ghost use Rattle.feed_format.specs.Format.{kind_of};
-ghost use Rattle.scale_trace_rules.specs.Trace.{size_of, list_room, listing_room};
+ghost use Rattle.scale_trace_rules.specs.Trace.{block_size, size_of, list_room, listing_room};
 
 use feed_format::Kind;
 
 // The size of a kind's block; 0 where a kind has none.
+fn block_size(kind: Kind) -> usize
+    ensures { result ≡ block_size kind }
+{
+    match kind {
+        Kind::Levels(n) => n,
+        Kind::Parameters | Kind::List | Kind::NoList | Kind::Edit | Kind::Reading => 0,
+    }
+}
+
+// The same by the byte; 0 where it is no kind.
 pub fn size_of(kind: u8) -> usize
     ensures { result ≡ size_of (kind_of kind) }
 {
     match feed_format::kind_of(kind) {
-        Some(Kind::Levels(n)) => n,
-        _ => 0,
+        Some(kind) => block_size(kind),
+        None => 0,
     }
 }
 
 // How many bytes the lines of a record may take.
+#[tactic(auto, using(crate::proofs::RoomLaws::room_is, crate::proofs::RoomLaws::size_most))]
 pub fn list_room(kind: u8) -> usize
     ensures { result ≡ list_room kind }
 {
@@ -24,19 +35,20 @@ pub fn list_room(kind: u8) -> usize
 }
 
 // How many bytes the listing of a whole feed may take, by its kinds; more than any buffer has where that passes 64 bits.
-// Kept: the loop is that of the feed's room; the reason is beside that one.
+// Kept: the loop goes from record to record, by no index; to share it with `feed_room` would take a closure, and a clause for whatever that gives.
+#[tactic(auto, using(feed_format::proofs::RoomLaws::room_start))]
 pub fn listing_room(input: &[u8]) -> usize
     ensures { result ≡ min (listing_room input.now) 18446744073709551615 }
 {
     let mut room: usize = 0;
     let mut at = 0;
     while at < input.len() {
-        let kind = input[at];
-        if feed_format::kind_of(kind).is_none() {
+        let Some(kind) = feed_format::kind_of(input[at]) else {
             return room.saturating_add(40);
-        }
-        room = room.saturating_add(list_room(kind));
-        at = (at + 1 + feed_format::record_length(kind)).min(input.len());
+        };
+        let n = block_size(kind);
+        room = room.saturating_add(20 * (n * n));
+        at = (at + 1 + kind.body_length()).min(input.len());
     }
     room.saturating_add(40)
 }

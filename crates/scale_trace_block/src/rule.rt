@@ -9,6 +9,8 @@ use crate::Source;
 use feed_format::{List, Mode};
 
 // The rule at an index.
+// Kept: list, mode and size apart, here and in `line_text`: theorems and definitions take them one by one, and a struct of the three would be taken apart in each contract.
+#[tactic(auto, using(crate::proofs::RuleLaws::source_none, crate::proofs::RuleLaws::source_skip, crate::proofs::RuleLaws::source_four, crate::proofs::RuleLaws::source_eight, crate::proofs::RuleLaws::source_dc, crate::proofs::RuleLaws::source_repeat, crate::proofs::RuleLaws::position_is))]
 pub(crate) fn source_of(list: Option<List>, mode: Mode, n: usize, index: usize) -> Source
     requires { T (is_size n) × (index < n * n) }
     ensures { SourceAt (list_in list) mode n index result }
@@ -28,13 +30,13 @@ pub(crate) fn source_of(list: Option<List>, mode: Mode, n: usize, index: usize) 
     if index == 0 {
         return Source::Dc;
     }
-    if n == 16 {
-        return Source::Repeat(index / 16 / 2 * 8 + index % 16 / 2);
-    }
-    Source::Repeat(index / 32 / 4 * 8 + index % 32 / 4)
+    // how many rows and columns an entry stands for
+    let repeats = n / 8;
+    Source::Repeat(index / n / repeats * 8 + index % n / repeats)
 }
 
 // m as scaling has it.
+#[tactic(auto, unfolding(scale_trace_rules::specs::Block::block_factor))]
 pub(crate) fn factor_of(list: Option<List>, mode: Mode, n: usize, index: usize) -> u8
     requires { T (is_size n) × (index < n * n) }
     ensures { result ≡ block_factor (list_in list) mode n index }

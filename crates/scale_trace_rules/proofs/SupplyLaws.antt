@@ -19,11 +19,11 @@ use Rattle.h265.specs.TransformSkip.{skipped_at}
 use Rattle.h265.proofs.RangeLaws.{size_cases}
 use Rattle.feed_format.specs.Format.{list_ignored}
 use Rattle.feed_format.specs.declared.Mode.{Mode}
-use Rattle.feed_format.specs.declared.Mode.TheVariants.{Dct, Dst, Skip}
+use Rattle.feed_format.specs.declared.Mode.TheVariants.{Transform, Skip}
 use Rattle.feed_rules.specs.Block.{list_for, coefficients, residual_by, residual_at}
 use Rattle.scale_trace_rules.specs.Block.{BlockSource, block_source, block_factor}
 use Rattle.scale_trace_rules.specs.Supply.{Transformed, Supplies, LineNamesTheRule, scaled_with, LineHasTheFactor}
-use Rattle.scale_trace_rules.specs.Supply.Transformed.{by_dct, by_dst}
+use Rattle.scale_trace_rules.specs.Supply.Transformed.{by_transform}
 use Rattle.scale_trace_rules.specs.Supply.Supplies.{no_list, skip_above_4, entry_of_4, entry_of_8, dc_number, repeated_entry}
 
 -- ---- what a rule supplies is what the line names
@@ -51,15 +51,11 @@ named : (list : ScalingList) (mode : Mode) (n i : ℕ) (src : BlockSource) (m : 
 unfolding block_source block_factor list_for list_ignored scaling_factor factor_source factor_by entry_of dc_of
 named _ _ _ _ _ _ (no_list mode n i) = (refl, factor-none mode n i)
 named _ _ _ _ _ _ (skip_above_4 es d n i h) = (rw (lt-ltb 4 n (omega arith)), rw (lt-ltb 4 n (omega arith)))
-named _ _ _ _ _ _ (entry_of_4 es d Dct i) = (refl, refl)
-named _ _ _ _ _ _ (entry_of_4 es d Dst i) = (refl, refl)
+named _ _ _ _ _ _ (entry_of_4 es d (Transform kind) i) = (refl, refl)
 named _ _ _ _ _ _ (entry_of_4 es d Skip i) = (refl, refl)
-named _ _ _ _ _ _ (entry_of_8 es d _ i by_dct) = (refl, refl)
-named _ _ _ _ _ _ (entry_of_8 es d _ i by_dst) = (refl, refl)
-named _ _ _ _ _ _ (dc_number es d _ n by_dct h) = (rw (above_4 n (omega arith), above_8 n (omega arith)), rw (above_4 n (omega arith), above_8 n (omega arith)))
-named _ _ _ _ _ _ (dc_number es d _ n by_dst h) = (rw (above_4 n (omega arith), above_8 n (omega arith)), rw (above_4 n (omega arith), above_8 n (omega arith)))
-named _ _ _ _ _ _ (repeated_entry es d _ n i by_dct h k) = (rw (above_4 n (omega arith), above_8 n (omega arith), later i k), rw (above_4 n (omega arith), above_8 n (omega arith), later i k))
-named _ _ _ _ _ _ (repeated_entry es d _ n i by_dst h k) = (rw (above_4 n (omega arith), above_8 n (omega arith), later i k), rw (above_4 n (omega arith), above_8 n (omega arith), later i k))
+named _ _ _ _ _ _ (entry_of_8 es d _ i (by_transform kind)) = (refl, refl)
+named _ _ _ _ _ _ (dc_number es d _ n (by_transform kind) h) = (rw (above_4 n (omega arith), above_8 n (omega arith)), rw (above_4 n (omega arith), above_8 n (omega arith)))
+named _ _ _ _ _ _ (repeated_entry es d _ n i (by_transform kind) h k) = (rw (above_4 n (omega arith), above_8 n (omega arith), later i k), rw (above_4 n (omega arith), above_8 n (omega arith), later i k))
 
 -- ---- what the line names is supplied
 moved : {list : ScalingList} {mode : Mode} {n i : ℕ} {src : BlockSource} {m : ℕ} → Supplies list mode n i src m
@@ -85,8 +81,7 @@ module _ (es : List ℕ) (d : ℕ) where
 
 supplied : (list : ScalingList) (mode : Mode) (n i : ℕ) → T (is_size n) → Supplies list mode n i (block_source list mode n i) (block_factor list mode n i)
 supplied flat mode n i t = moved (no_list mode n i)
-supplied (listed es d) Dct n i t = transformed es d by_dct n i t
-supplied (listed es d) Dst n i t = transformed es d by_dst n i t
+supplied (listed es d) (Transform kind) n i t = transformed es d (by_transform kind) n i t
 supplied (listed es d) Skip n i t = skipped es d n i t
 
 pub line_names_the_rule : LineNamesTheRule

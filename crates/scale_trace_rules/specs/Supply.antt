@@ -1,7 +1,7 @@
 -- The rules that supply m, a constructor for each, and what a line of the listing has to do with them: R-1's "if and only if". Written from
 -- docs/RULES.md, "Scaling" and "The listing of scaling factors", and not from `block_source`, which the listing follows.
 -- proofs/SupplyLaws.antt proves each statement under the name beside it.
---   Transformed mode               the block is transformed: DCT or DST, no transform skip
+--   Transformed mode               the block is transformed, and no transform skip
 --   Supplies list mode n i src m   the rule src supplies m at index i of a block of that mode and size, with that list in force
 --   scaled_with m p n level         one level scaled with m, by the parameters of a feed
 --   FeedUses list p n levels i m   m is the one that the feed scales with: by its coefficients, and in transform skip by its residual
@@ -16,7 +16,8 @@ use Rattle.h265.specs.ScalingFactor.ScalingList.{flat, listed}
 use Rattle.h265.specs.ScalingFactor.FactorSource.{none, four, eight, dc, repeated}
 use Rattle.h265.specs.TransformSkip.{ts_shift, ts_residual}
 use Rattle.feed_format.specs.declared.Mode.{Mode}
-use Rattle.feed_format.specs.declared.Mode.TheVariants.{Dct, Dst, Skip}
+use Rattle.transform_1d.specs.declared.Kind.{Kind}
+use Rattle.feed_format.specs.declared.Mode.TheVariants.{Transform, Skip}
 use Rattle.feed_format.specs.declared.Parameters.{Parameters}
 use Rattle.feed_rules.specs.Block.{list_for, coefficients, residual_at}
 use Rattle.scale_trace_rules.specs.Block.{BlockSource, block_source, block_factor}
@@ -24,8 +25,7 @@ use Rattle.scale_trace_rules.specs.Block.BlockSource.{rule, skip}
 
 -- ---- the rules
 pub data Transformed : Mode → Type 0 where
-  by_dct : Transformed Dct
-  by_dst : Transformed Dst
+  by_transform : (kind : Kind) → Transformed (Transform kind)
 
 pub data Supplies : ScalingList → Mode → ℕ → ℕ → BlockSource → ℕ → Type 0 where
   no_list : (mode : Mode) (n i : ℕ) → Supplies flat mode n i (rule none) 16

@@ -6,11 +6,11 @@
 --   narrow_ends, narrow_shift   of a 16-bit output: the range's ends fit 16 bits, and t > 0
 --   ready_ends, ready_rounds, ready_scalable   the same of either output, and all that scaling relies on
 --   ladder_ready         what holds behind the ladder
---   numbers_is, numbers_given, skip_given   behind it the numbers are the block's, and none is refused
+--   numbers_is, numbers_given, numbers_ok, skip_ok   behind it the numbers are the block's, and none is refused
 --   scaled_counted, scaled_within   by these numbers the coefficients are those of the definition, and small
 --   block_told           what was written and counted is what the definition says
 --   block_refused_lem    a call that is refused hands back that refusal and the output as lent
-use Rattle.std.specs.Prelude.{Ok, Err}
+use Rattle.std.specs.Prelude.{Result, Ok, Err, IsOk}
 use mathlib.Core.Path.{◌≡◌, refl, sym, ap, subst, ◌∙◌}
 use mathlib.Core.Bool.{Bool, true, false, ◌&&◌}
 use mathlib.Core.List.{List, [], ◌∷◌}
@@ -35,7 +35,7 @@ use Rattle.h265.proofs.RangeLaws.{transform_range_least, transform_range_depth, 
 use Rattle.refusal.specs.declared.Refusal.{Refusal}
 use Rattle.refusal.specs.declared.Refusal.TheVariants.{SizeInvalid, DepthInvalid, WidthTooNarrow, ListLengthInvalid, InputTooShort, OutputTooShort}
 use Rattle.refusal.specs.Condition.{size_refused, depth_refused, width_refused, list_refused, block_refused}
-use Rattle.refusal.specs.Outcome.{Outcome, accepted, refused}
+use Rattle.refusal.specs.Outcome.{Outcome, accepted, refused, outcome}
 use Rattle.refusal.proofs.RefusalLaws.{number_least}
 use Rattle.refusal.proofs.ConditionLaws.{size_accepted, width_accepted, block_room, list_whole}
 use Rattle.parameters.specs.declared.DequantParams.{DequantParams}
@@ -200,10 +200,15 @@ module _ (narrow : Bool) (n : ℕ) (q : ℤ) (b : ℕ) (x : Bool) (entries level
   pub numbers_given : (e : Refusal) → not_refused ≡ block_answer narrow n b x entries levels places → refused no_dequant e ≡ dequant_params n q b x → ⊥
   numbers_given e h k = omega (arith, number_least e, ap (λ (o : Outcome DequantParams). o.number) (k ∙ dequant_is h))
 
-  pub skip_given : (e : Refusal) → not_refused ≡ block_answer narrow n b x entries levels places → refused no_transform_skip e ≡ transform_skip_params n q b x → ⊥
-  skip_given e h k =
+  pub numbers_ok : (r : Result DequantParams Refusal) → not_refused ≡ block_answer narrow n b x entries levels places → outcome no_dequant r ≡ dequant_params n q b x → IsOk r
+  numbers_ok (Ok p) h k = refl
+  numbers_ok (Err e) h k = absurd (numbers_given e h k)
+
+  pub skip_ok : (r : Result TransformSkipParams Refusal) → not_refused ≡ block_answer narrow n b x entries levels places → outcome no_transform_skip r ≡ transform_skip_params n q b x → IsOk r
+  skip_ok (Ok p) h k = refl
+  skip_ok (Err e) h k =
       let s = (ladder_ready h).passed in
-      omega (arith, number_least e, ap (λ (o : Outcome TransformSkipParams). o.number) (k ∙ params_is narrow n q b x entries levels places s.0 s.1.0))
+      absurd (let f : ⊥ = omega (arith, number_least e, ap (λ (o : Outcome TransformSkipParams). o.number) (k ∙ params_is narrow n q b x entries levels places s.0 s.1.0)) in f)
 
 pub ready_scalable : (narrow : Bool) {n : ℕ} {q : ℤ} {b : ℕ} {x : Bool} {entries levels places : ℕ} {p : TransformSkipParams}
     → Ready narrow n q b x entries levels places p → Scalable (output_width narrow) p.dequant

@@ -42,7 +42,7 @@ pub fn transform_skip<R: Residual>(
 {
     refuse::block_refused(R::NARROW, n, precision, list.len(), levels.len(), out.len())?;
     let limited = scale(levels, n, qp_prime, precision, list, out);
-    let by = parameters::transform_skip_params(n, qp_prime, precision)?;
+    let by = parameters::transform_skip_params(n, qp_prime, precision).unwrap();
     each::skip_block(n * n, by, out);
     Ok(limited)
 }

@@ -21,7 +21,7 @@ use refusal::Precision;
 use scaling_values::{FlatParams, flat, listed, long, skip};
 
 // The coefficients of a block without a list, and how many were limited.
-// Kept: a loop of its own beside `scale_entries`, since without a list there is no entry to read; one loop for both would read entries of 16, or ask at every index.
+// Kept: a loop of its own beside `scale_entries`: `FlatParams` takes no m, so that one loop for both would take a closure of index and level; with its clauses it is longer than this loop.
 fn scale_flat<R: Residual>(levels: &[i32], count: usize, by: FlatParams, out: &mut [R]) -> u16
     requires short { Short by }
     requires room { Room count (length levels.now) (length out.old) }
@@ -63,6 +63,7 @@ fn scale_entries<P: ByEntry, R: Residual>(
 }
 
 // The coefficients of a block with a list, and how many were limited. At sizes 4 and 8 the entry at an index is its m.
+// Kept: entries and DC apart, here and below: `ScalingList` has the case of no list, which is behind the caller here, and a pair of its own would be taken apart by `spread` alone.
 fn scale_by<P: ByEntry, R: Residual>(
     levels: &[i32],
     n: usize,
@@ -99,7 +100,7 @@ fn scale_listed<R: Residual>(
     requires whole_list { WholeList (length list.now) n }
     ensures { Counted (listed_at by (listed list.now dc) n levels.now) (listed_limited_at by (listed list.now dc) n levels.now) (n * n) (map R.reads out.old) (map R.reads out.new) result }
 {
-    if by.clip_max == 32767 {
+    if by.clip_max == i16::MAX as i64 {
         return scale_by(levels, n, listed::listed_params(by), list, dc, out);
     }
     scale_by(levels, n, long::long_params(by), list, dc, out)
@@ -117,10 +118,8 @@ pub(crate) fn flat_block<R: Residual>(
     requires { not_refused ≡ block_answer R.NARROW n precision.bit_depth precision.extended 64 (length levels.now) (length out.old) }
     ensures { Counted (scaled_at flat n precision.bit_depth precision.extended qp_prime.0 levels.now) (limited_at flat n precision.bit_depth precision.extended qp_prime.0 levels.now) (n * n) (map R.reads out.old) (map R.reads out.new) result }
 {
-    match parameters::dequant_params(n, qp_prime, precision) {
-        Ok(by) => scale_flat(levels, n * n, flat::flat_params(by), out),
-        Err(_) => 0,
-    }
+    let by = parameters::dequant_params(n, qp_prime, precision).unwrap();
+    scale_flat(levels, n * n, flat::flat_params(by), out)
 }
 
 // A block with a list that is not refused. It works its numbers out beside the loops, so that they stay in registers.
@@ -136,10 +135,8 @@ pub(crate) fn listed_block<R: Residual>(
     requires { not_refused ≡ block_answer R.NARROW n precision.bit_depth precision.extended (length list.now) (length levels.now) (length out.old) }
     ensures { Counted (scaled_at (listed list.now dc) n precision.bit_depth precision.extended qp_prime.0 levels.now) (limited_at (listed list.now dc) n precision.bit_depth precision.extended qp_prime.0 levels.now) (n * n) (map R.reads out.old) (map R.reads out.new) result }
 {
-    match parameters::dequant_params(n, qp_prime, precision) {
-        Ok(by) => scale_listed(levels, n, by, list, dc, out),
-        Err(_) => 0,
-    }
+    let by = parameters::dequant_params(n, qp_prime, precision).unwrap();
+    scale_listed(levels, n, by, list, dc, out)
 }
 
 // Coefficients turned into residuals, where they stand.

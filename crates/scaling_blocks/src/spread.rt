@@ -3,16 +3,12 @@ ghost use Rattle.std.specs.Prelude.{◌≡◌, ◌+◌, ◌*◌, ◌<◌, ◌≤
 ghost use Rattle.h265.specs.ScalingFactor.{scaling_factor};
 ghost use Rattle.h265.specs.ScalingFactor.ScalingList.{listed};
 ghost use Rattle.scaling_values.specs.Factor.{WholeList};
-ghost use Rattle.scaling_values.specs.Work.{spread_at, Rows, Fills};
-ghost use Rattle.scaling_blocks.specs.Spread.{Copied};
-
-use crate::repeats;
+ghost use Rattle.scaling_values.specs.Work.{spread_at, Fills};
+ghost use Rattle.scaling_blocks.specs.Spread.{Laid, Copied};
 
 // A row by the list.
 fn spread_row(list: &[u8], row: usize, n: usize, repeats: u32, entries: &mut [u8])
-    requires n_in_bounds { n * n ≤ length entries.old }
-    requires list_len { length list.now ≡ 64 }
-    requires rows { Rows n repeats }
+    requires laid { Laid (length list.now) n repeats (length entries.old) }
     requires row_lt_n { row < n }
     ensures { Fills (spread_at list.now n) (row * n) (row * n + n) entries.old entries.new }
 {
@@ -23,7 +19,8 @@ fn spread_row(list: &[u8], row: usize, n: usize, repeats: u32, entries: &mut [u8
     }
 }
 
-// A row that has the entries of the row above it, copied: the compiler copies several at once, which it does not by the list.
+// A row that has the entries of the row above it, copied.
+// Kept: two parts and `copy_from_slice`, since `copy_within` moves one entry at a time.
 fn copy_row(row: usize, n: usize, entries: &mut [u8])
     requires n_in_bounds { n * n ≤ length entries.old }
     requires le_row { (1 ≤ row) × (row < n) }
@@ -31,17 +28,13 @@ fn copy_row(row: usize, n: usize, entries: &mut [u8])
     ensures { Copied n row n entries.old entries.new }
 {
     let at = row * n;
-    let above = at - n;
-    for c in 0..n {
-        entries[at + c] = entries[above + c];
-    }
+    let (above, below) = entries.split_at_mut(at);
+    below[..n].copy_from_slice(&above[at - n..]);
 }
 
 // One row after those above it: the first of the rows that share their entries is laid out by the list.
 fn next_row(list: &[u8], row: usize, n: usize, repeats: u32, entries: &mut [u8])
-    requires n_in_bounds { n * n ≤ length entries.old }
-    requires list_len { length list.now ≡ 64 }
-    requires rows { Rows n repeats }
+    requires laid { Laid (length list.now) n repeats (length entries.old) }
     requires row_lt_n { row < n }
     ensures { Fills (spread_at list.now n) (row * n) (row * n + n) entries.old entries.new }
 {
@@ -54,9 +47,7 @@ fn next_row(list: &[u8], row: usize, n: usize, repeats: u32, entries: &mut [u8])
 
 // Its rows.
 fn spread_rows(list: &[u8], n: usize, repeats: u32, entries: &mut [u8])
-    requires n_in_bounds { n * n ≤ length entries.old }
-    requires list_len { length list.now ≡ 64 }
-    requires rows { Rows n repeats }
+    requires { Laid (length list.now) n repeats (length entries.old) }
     ensures { Fills (spread_at list.now n) 0 (n * n) entries.old entries.new }
 {
     for row in 0..n {
@@ -71,6 +62,6 @@ pub(crate) fn spread(list: &[u8], n: usize, dc: u8, entries: &mut [u8])
     requires le_n { 16 ≤ n }
     ensures { Fills (scaling_factor (listed list.now dc) n) 0 (n * n) entries.old entries.new }
 {
-    spread_rows(list, n, repeats::repeats_of(n), entries);
+    spread_rows(list, n, n.ilog2() - 3, entries);
     entries[0] = dc;
 }

@@ -1,20 +1,19 @@
 -- One list: coded in full, or taken over.
---   positions_four, -eight   the positions of a size
 --   all_below, below_both     that numbers lie below one, as a test, and its parts
---   four_inside, eight_inside   they lie among 64 entries
+--   positions_inside         the positions of a size lie among 64 entries
 --   coded_got, coded_stop    entries that are read, with a DC that is known
 --   coded_plain, coded_dc, coded_dc_stop   a list without and with a DC of its own
 --   referred_default, referred-held   the list that a reference means
 --   taken_got, taken_stop    a list that is taken over, by its reference
 --   list_taken, list_coded, list_ended   a list by its flag
 use mathlib.Core.Path.{◌≡◌, sym, ap, ◌∙◌}
-use mathlib.Core.Bool.{Bool, true, false, ◌&&◌}
+use mathlib.Core.Bool.{Bool, true, false, cond, ◌&&◌}
 use mathlib.Core.List.{List, [], ◌∷◌}
 use Prim.Native.Nat.{ℕ, zero, suc, ◌+◌, ◌-◌, ◌*◌, ◌≤◌, ◌<◌}
 use native.Mathlib.Nat.{not-suc-le-zero}
 use native.Mathlib.Omega.{arith}
 use borrow.Author.Tests.{eq-eqb, ne_eqb, lt-ltb, le-ltb}
-use lib.Dec.{T, ltb, lit≤, ltb→lt}
+use lib.Dec.{T, eqb, ltb, lit≤, ltb→lt}
 use lib.ListN.{length, get_or}
 use Rattle.std.specs.Prelude.{Ok, Err}
 use Rattle.integers.specs.Lists.{tabulate}
@@ -28,14 +27,6 @@ use Rattle.scaling_lists_taken.specs.Held.{held_at, held}
 use Rattle.scaling_lists.specs.Work.{Positions}
 
 -- ---- positions
-pub positions_four : (s : ℕ) → s ≡ 0 → up_right 4 ≡ positions s
-unfolding positions
-positions_four s e = rw (eq-eqb s 0 e)
-
-pub positions_eight : (s : ℕ) → (s ≡ 0 → ⊥) → up_right 8 ≡ positions s
-unfolding positions
-positions_eight s e = rw (ne_eqb s 0 e)
-
 abbrev pub all_below : ℕ → List ℕ → Bool
 all_below n [] = true
 all_below n (p ∷ ps) = ltb p n && all_below n ps
@@ -49,13 +40,21 @@ below_at n [] a i h = absurd (not-suc-le-zero h)
 below_at n (p ∷ ps) a zero h = ltb→lt p n (below_both (ltb p n) (all_below n ps) a).0
 below_at n (p ∷ ps) a (suc i) h = below_at n ps (below_both (ltb p n) (all_below n ps) a).1 i (omega arith)
 
-pub four_inside : Positions (up_right 4) 64
+four_inside : Positions (up_right 4) 64
 unfolding inside diagonal diagonals up_right
 four_inside = record { few = lit≤ tt; below = below_at 64 (up_right 4) tt }
 
-pub eight_inside : Positions (up_right 8) 64
+eight_inside : Positions (up_right 8) 64
 unfolding inside diagonal diagonals up_right
 eight_inside = record { few = lit≤ tt; below = below_at 64 (up_right 8) tt }
+
+pub positions_inside : (s : ℕ) → Positions (positions s) 64
+unfolding positions
+positions_inside s = by_size (eqb s 0)
+  where
+    by_size : (four : Bool) → Positions (cond four (up_right 4) (up_right 8)) 64
+    by_size true = four_inside
+    by_size false = eight_inside
 
 -- ---- a list that is coded in full
 module _ (bytes : List ℕ) (s dc next at : ℕ) where

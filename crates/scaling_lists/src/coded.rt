@@ -1,10 +1,11 @@
 // A list coded in full.
 ghost use Rattle.std.specs.Prelude.{◌≡◌, ◌+◌, ◌*◌, ◌≤◌, length, IfOk};
-ghost use Rattle.scaling_lists_codes.specs.Syntax.{positions, blank, entries_from, coded_entries, coded_list};
+ghost use Rattle.scaling_lists_codes.specs.Syntax.{blank, entries_from, coded_entries, coded_list};
 ghost use Rattle.scaling_lists.specs.Work.{Positions, read_as, listed};
 
 use refusal::Refusal;
 
+// Kept: the entries go into a lent buffer and DC into the answer, here and below: one value of both would copy the 64 entries at every step back.
 // The entries of a coded list, a delta for each position; the answer is the offset behind them.
 fn entries_from(
     bytes: &[u8],
@@ -27,24 +28,7 @@ fn entries_from(
     Ok(at)
 }
 
-// The same in the order of the size's positions.
-fn scanned(
-    bytes: &[u8],
-    size_id: usize,
-    next: u8,
-    at: usize,
-    entries: &mut [u8],
-) -> Result<usize, Refusal>
-    requires { (entries.old ≡ blank) × (at ≤ 2305843009213693952) }
-    ensures { (read_as entries.new result ≡ entries_from bytes.now (positions size_id) next at blank) × IfOk result (λ behind. behind ≤ at + 4160) }
-{
-    if size_id == 0 {
-        return entries_from(bytes, &diagonal::up_right_4(), next, at, entries);
-    }
-    entries_from(bytes, &diagonal::up_right_8(), next, at, entries)
-}
-
-// The same as a list, with a DC that is known.
+// The same in the order of a size, as a list with a DC that is known.
 fn coded_entries(
     bytes: &[u8],
     size_id: usize,
@@ -56,7 +40,8 @@ fn coded_entries(
     requires { (entries.old ≡ blank) × (at ≤ 2305843009213693952) }
     ensures { (listed entries.new result ≡ coded_entries bytes.now size_id dc next at) × IfOk result (λ r. r.1 ≤ at + 4160) }
 {
-    let behind = scanned(bytes, size_id, next, at, entries)?;
+    let scan = scaling_lists_codes::positions(size_id);
+    let behind = entries_from(bytes, scan, next, at, entries)?;
     Ok((dc, behind))
 }
 

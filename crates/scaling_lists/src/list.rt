@@ -21,9 +21,7 @@ fn read_list(
     requires { (j < 20) × (entries.old ≡ blank) × (at ≤ 1048576) }
     ensures { (listed entries.new result ≡ list_code (lent_lists defaults.entry) bytes.now (lists_held j held.now) at) × IfOk result (λ r. r.1 ≤ at + 4226) }
 {
-    if !bits::is_there(bytes, at) {
-        return Err(Refusal::BitsEnded(at));
-    }
+    refusal::check(!bits::is_there(bytes, at), Refusal::BitsEnded(at))?;
     if bits::bit(bytes, at) == 0 {
         return taken::taken_over(bytes, at + 1, j, defaults, held, entries);
     }

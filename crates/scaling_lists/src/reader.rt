@@ -23,6 +23,7 @@ fn read_all(bytes: &[u8], defaults: DefaultLists, held: &mut Lists) -> Result<us
 
 // Reads scaling list data from the first bit of `bytes` on: list j of the 20 goes to `lists` from index 64 × j on, its entries in row
 // order, and its DC to `dcs` at index j. A refused call changes neither.
+#[tactic(auto, unfolding(crate::specs::Answers::lists_read, crate::specs::Answers::room_refused))]
 pub fn read_scaling_lists(
     bytes: &[u8],
     default_4x4: &[u8],
@@ -34,9 +35,8 @@ pub fn read_scaling_lists(
     ensures { Reads result lists.new dcs.new (lists_read (defaults default_4x4.now default_intra.now default_inter.now) bytes.now lists.old dcs.old) }
 {
     let defaults = DefaultLists::new(default_4x4, default_intra, default_inter)?;
-    if lists.len() < 1280 || dcs.len() < 20 {
-        return Err(Refusal::OutputTooShort);
-    }
+    refusal::check(lists.len() < 1280, Refusal::OutputTooShort)?;
+    refusal::check(dcs.len() < 20, Refusal::OutputTooShort)?;
     let mut held = Lists {
         entries: [0; 1280],
         dcs: [0; 20],

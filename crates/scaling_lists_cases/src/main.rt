@@ -150,7 +150,7 @@ fn replay_all(rt: &impl Print, file: &mut impl Read) {
 }
 
 // The file that an argument names.
-// Kept: as in the other program on files; a shared one would need a closure with Files, Print and Eprint.
+// Kept: `feed_cases` has this too; one for both would take the replay as a closure, for one `open`, a title and an error line.
 fn replay_file<R: Files + Print + Eprint>(rt: &R, path: &str) {
     match fs::open(rt, path) {
         Ok(mut file) => {

@@ -3,7 +3,7 @@
 
 ghost use Rattle.std.specs.Prelude.{◌≡◌, false, ◌+◌, ◌/◌, ◌≤◌, IfOk};
 ghost use Rattle.bits.specs.ExpGolomb.{signed_number};
-ghost use Rattle.scaling_lists_codes.specs.Syntax.{outside_of, added, number_at, delta_of, delta_code, dc_of, dc_code, matrix_step, reference_of, reference_code};
+ghost use Rattle.scaling_lists_codes.specs.Syntax.{outside_of, added, number_at, delta_of, delta_code, dc_of, dc_code, matrix_step, reference_of, reference_code, positions};
 
 use bits::CodeError;
 use refusal::Refusal;
@@ -20,6 +20,7 @@ fn number_at(bytes: &[u8], at: usize, too_long: Refusal) -> Result<(u64, usize),
     }
 }
 
+// Kept: se(v) is compared and added by the half of its number, here and below: an i64 does not hold the value of every u64 number, and would ask for a bound.
 // Whether se(v) of a number is below -low or above high.
 fn outside_of(low: u64, high: u64, number: u64) -> bool
     ensures { result ≡ outside_of low high (signed_number number) }
@@ -49,13 +50,9 @@ fn sum_of(n: u64, number: u64) -> u64
 fn delta_of(number: u64, behind: usize, next: u8, at: usize) -> Result<(u8, usize), Refusal>
     ensures { (result ≡ delta_of next at number behind) × IfOk result (λ r. r.1 ≡ behind) }
 {
-    if outside_of(128, 127, number) {
-        return Err(Refusal::ListValueInvalid(at));
-    }
+    refusal::check(outside_of(128, 127, number), Refusal::ListValueInvalid(at))?;
     let entry = sum_of(next as u64 + 256, number) % 256;
-    if entry == 0 {
-        return Err(Refusal::ListValueInvalid(at));
-    }
+    refusal::check(entry == 0, Refusal::ListValueInvalid(at))?;
     Ok((entry as u8, behind))
 }
 
@@ -72,9 +69,7 @@ pub fn delta_code(bytes: &[u8], next: u8, at: usize) -> Result<(u8, usize), Refu
 fn dc_of(number: u64, behind: usize, at: usize) -> Result<(u8, usize), Refusal>
     ensures { (result ≡ dc_of at number behind) × IfOk result (λ r. r.1 ≡ behind) }
 {
-    if outside_of(7, 247, number) {
-        return Err(Refusal::ListValueInvalid(at));
-    }
+    refusal::check(outside_of(7, 247, number), Refusal::ListValueInvalid(at))?;
     Ok((sum_of(8, number) as u8, behind))
 }
 
@@ -94,6 +89,17 @@ pub fn matrix_step(size_id: usize) -> usize
     if size_id == 3 { 3 } else { 1 }
 }
 
+// Where the entries of a size go, in coding order.
+#[tactic(auto, unfolding(crate::specs::Syntax::positions))]
+pub fn positions(size_id: usize) -> &'static [u8]
+    ensures { result.now ≡ positions size_id }
+{
+    if size_id == 0 {
+        return diagonal::up_right_4();
+    }
+    diagonal::up_right_8()
+}
+
 // The reference, by the number of its code; `most` is the farthest that there is.
 fn reference_of(
     number: u64,
@@ -106,9 +112,7 @@ fn reference_of(
     ensures { (result ≡ reference_of size_id matrix_id at number behind) × IfOk result (λ r. (r.1 ≡ behind) × (r.0 ≤ matrix_id / matrix_step size_id)) }
 {
     let most = matrix_id / matrix_step(size_id);
-    if (most as u64) < number {
-        return Err(Refusal::ReferenceMissing(at));
-    }
+    refusal::check((most as u64) < number, Refusal::ReferenceMissing(at))?;
     Ok((number as u8, behind))
 }
 

@@ -1,6 +1,7 @@
 -- Lists put into bits.
 --   code_below, code_above    the code of a difference
 --   deltas_more, deltas_done  the turns of the loop over the entries of a list in full
+--   deltas_whole              the entries at the positions of a size
 --   full_dc, full_plain       a list in full, with a DC of its own and without one
 --   is_default, list_default, list_back, list_full   list j by its form
 --   lists_more                one list more
@@ -18,6 +19,7 @@ use Rattle.text.specs.Text.{Wrote, WroteUpTo}
 use Rattle.text.proofs.WroteLaws.{Left, left_more, left_done, wrote_one, wrote_more}
 use Rattle.bits_written.specs.Codes.{unsigned_bits, code_number, signed_bits}
 use Rattle.scaling_lists_codes.specs.Syntax.{FactorList, Defaults, size_id, matrix_id, positions}
+use Rattle.scaling_lists.proofs.ListLaws.{positions_inside}
 use Rattle.scaling_lists_written.specs.Same.{has_dc, same_list, list_at}
 use Rattle.scaling_lists_written.specs.Written.{difference, delta_from, delta_bits, full_bits, default_list, earlier, nearest, form_of, form_bits, list_bits, written_up_to}
 
@@ -51,6 +53,10 @@ module _ {l t m : List ℕ} {i j : ℕ} (scan es : List ℕ) (p next : ℕ) (g :
   deltas_done h = left_done (rw (drop_of_length-le scan h) at g)
 
 -- ---- a list in full
+pub deltas_whole : {b n : List ℕ} {i r : ℕ} {scan : List ℕ} (s next : ℕ) (es : List ℕ) → scan ≡ positions s
+    → WroteUpTo b i (delta_bits scan next es) n r (i + 17 * length scan) → WroteUpTo b i (delta_bits (positions s) next es) n r (i + 1088)
+deltas_whole s next es e w = record { wrote = rw e at w.wrote; bound = omega (arith, w.bound, ap length e, (positions_inside s).few) }
+
 module _ {b n : List ℕ} {i r : ℕ} (s : ℕ) (l : FactorList) where
   pub full_dc : {m : List ℕ} {k : ℕ} → has_dc s ≡ true → WroteUpTo b i (signed_bits (difference l.dc 8)) m k (i + 17)
       → WroteUpTo m k (delta_bits (positions s) l.dc l.entries) n r (k + 1088) → WroteUpTo b i (full_bits s l) n r (i + 1105)

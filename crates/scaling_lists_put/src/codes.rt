@@ -2,7 +2,7 @@
 ghost use Rattle.std.specs.Prelude.{◌≡◌, ◌+◌, ◌*◌, ◌≤◌, length};
 ghost use Rattle.text.specs.Text.{WroteUpTo};
 ghost use Rattle.bits_written.specs.Codes.{code_number, signed_bits};
-ghost use Rattle.scaling_lists_codes.specs.Syntax.{size_id, positions};
+ghost use Rattle.scaling_lists_codes.specs.Syntax.{size_id};
 ghost use Rattle.scaling_lists.specs.Work.{Positions};
 ghost use Rattle.scaling_lists_written.specs.Written.{difference, delta_from, delta_bits, full_bits};
 ghost use Rattle.scaling_lists_put.specs.Lists.{factor_list};
@@ -10,6 +10,7 @@ ghost use Rattle.scaling_lists_put.specs.Lists.{factor_list};
 use crate::same;
 use crate::set::HeldList;
 
+// Kept: below and above 0 a difference has another code, so that `abs_diff` would leave both tests standing.
 // The number of ue(v) that stands for a - b in se(v).
 fn code_number(a: u64, b: u64) -> u64
     requires { (a ≤ 255) × (b ≤ 255) }
@@ -52,25 +53,15 @@ fn put_entries(entries: &[u8], scan: &[u8], first: u8, bits: &mut [u8], start: u
     at
 }
 
-// The entries of a list in the order of the size of list j.
-fn put_scanned(entries: &[u8], j: usize, next: u8, bits: &mut [u8], at: usize) -> usize
-    requires { (length entries.now ≡ 64) × (at + 1088 ≤ length bits.old) }
-    ensures { WroteUpTo bits.old at (delta_bits (positions (size_id j)) next entries.now) bits.new result (at + 1088) }
-{
-    if j / 6 == 0 {
-        return put_entries(entries, &diagonal::up_right_4(), next, bits, at);
-    }
-    put_entries(entries, &diagonal::up_right_8(), next, bits, at)
-}
-
 // A list in full, to the size of list j; from 16×16 on DC comes first, and the first entry is a delta from it.
 pub(crate) fn put_full(list: HeldList, j: usize, bits: &mut [u8], at: usize) -> usize
     requires { at + 1105 ≤ length bits.old }
     ensures { WroteUpTo bits.old at (full_bits (size_id j) (factor_list list.entry)) bits.new result (at + 1105) }
 {
+    let scan = scaling_lists_codes::positions(j / 6);
     if same::has_dc(j) {
         let behind = put_difference(list.dc as u64, 8, bits, at);
-        return put_scanned(list.entries, j, list.dc, bits, behind);
+        return put_entries(list.entries, scan, list.dc, bits, behind);
     }
-    put_scanned(list.entries, j, 8, bits, at)
+    put_entries(list.entries, scan, 8, bits, at)
 }

@@ -10,13 +10,15 @@ use refusal::Refusal;
 
 impl<'a> ListSet<'a> {
     // Row 5: the buffers do not hold 20 lists and 20 DC numbers.
+    #[tactic(auto, unfolding(crate::specs::Lists::set_refused))]
     pub fn new(lists: &'a [u8], dcs: &'a [u8]) -> Result<ListSet<'a>, Refusal>
         ensures { let refused = set_refused (length lists.now) (length dcs.now) in
             MatchResult result (λ s. (set_lists s ≡ held 20 lists.now dcs.now) × (refused ≡ false)) (λ e. (e ≡ Refusal.ListLengthInvalid) × (refused ≡ true)) }
     {
-        if lists.len() < 1280 || dcs.len() < 20 {
-            return Err(Refusal::ListLengthInvalid);
-        }
+        refusal::check(
+            lists.len() < 1280 || dcs.len() < 20,
+            Refusal::ListLengthInvalid,
+        )?;
         Ok(ListSet { lists, dcs })
     }
 

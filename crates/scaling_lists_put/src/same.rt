@@ -23,11 +23,11 @@ pub fn has_dc(j: usize) -> bool
     1 < j / 6
 }
 
-// Kept: equality to a size is no derived one: entries that the size does not use, and DC where it has none, do not count.
+// Kept: no derived equality, here and below: entries that a size does not use, and DC where it has none, do not count.
 fn same_dc(j: usize, a: u8, b: u8) -> bool
     ensures { result ≡ cond (has_dc (size_id j)) (eqb a b) true }
 {
-    if has_dc(j) { a == b } else { true }
+    !has_dc(j) || a == b
 }
 
 // Whether two lists are the same to the size of list j.
@@ -35,10 +35,7 @@ fn same_list(a: HeldList, b: HeldList, j: usize) -> bool
     ensures { result ≡ same_list (size_id j) (factor_list a.entry) (factor_list b.entry) }
 {
     let n = used_count(j);
-    if a.entries[..n] == b.entries[..n] {
-        return same_dc(j, a.dc, b.dc);
-    }
-    false
+    a.entries[..n] == b.entries[..n] && same_dc(j, a.dc, b.dc)
 }
 
 // Whether list j is the same as its default with DC 16.

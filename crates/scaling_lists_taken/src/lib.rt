@@ -12,8 +12,11 @@ mod lent;
 pub use lent::DefaultLists;
 use refusal::Refusal;
 
+// Kept: a list's number j stays a plain number, here and in the crates above, and j < 20 a clause: loops count it, and size and matrix are j / 6 and j % 6.
+
 impl<'a> DefaultLists<'a> {
     // Row 5: a default has not 64 entries.
+    #[tactic(auto, unfolding(crate::specs::Held::defaults_refused))]
     pub fn new(
         four: &'a [u8],
         intra: &'a [u8],
@@ -22,9 +25,9 @@ impl<'a> DefaultLists<'a> {
         ensures { let lent = defaults four.now intra.now inter.now in
             MatchResult result (λ d. (lent_lists d ≡ lent) × (defaults_refused lent ≡ false)) (λ e. (e ≡ Refusal.ListLengthInvalid) × (defaults_refused lent ≡ true)) }
     {
-        if four.len() != 64 || intra.len() != 64 || inter.len() != 64 {
-            return Err(Refusal::ListLengthInvalid);
-        }
+        refusal::check_list(four.len())?;
+        refusal::check_list(intra.len())?;
+        refusal::check_list(inter.len())?;
         Ok(DefaultLists { four, intra, inter })
     }
 

@@ -10,11 +10,7 @@ use scaling_lists_put::{HeldList, ListSet};
 fn nonzero_dc(j: usize, dc: u8) -> bool
     ensures { result ≡ cond (has_dc (size_id j)) (not (eqb dc 0)) true }
 {
-    if scaling_lists_put::has_dc(j) {
-        dc != 0
-    } else {
-        true
-    }
+    !scaling_lists_put::has_dc(j) || dc != 0
 }
 
 // Whether a list can be written to the size of list j.
@@ -22,10 +18,7 @@ fn nonzero_list(list: HeldList, j: usize) -> bool
     ensures { result ≡ nonzero (size_id j) (factor_list list.entry) }
 {
     let n = scaling_lists_put::used_count(j);
-    if list.entries[..n].contains(&0) {
-        return false;
-    }
-    nonzero_dc(j, list.dc)
+    !list.entries[..n].contains(&0) && nonzero_dc(j, list.dc)
 }
 
 pub(crate) fn values_refused(set: ListSet) -> bool

@@ -18,9 +18,7 @@ fn write_within(set: ListSet, defaults: DefaultLists, out: &mut [u8]) -> Result<
     let mut bits = [0u8; 22120];
     let count = scaling_lists_put::put_lists(set, defaults, &mut bits);
     let bytes = count.div_ceil(8);
-    if out.len() < bytes {
-        return Err(Refusal::OutputTooShort);
-    }
+    refusal::check(out.len() < bytes, Refusal::OutputTooShort)?;
     bits_written::put_bytes(&bits, &mut out[..bytes]);
     Ok(count)
 }
@@ -28,6 +26,7 @@ fn write_within(set: ListSet, defaults: DefaultLists, out: &mut [u8]) -> Result<
 // Writes the 20 lists as scaling list data from the first bit of `out` on: list j stands in `lists` from index 64 × j on, its entries in
 // row order, and its DC in `dcs` at index j, as the reader leaves them. The rest of the last byte is 0, and the bytes behind it stay. A
 // refused call changes nothing.
+#[tactic(auto, unfolding(crate::specs::Answers::lists_written))]
 pub fn write_scaling_lists(
     lists: &[u8],
     dcs: &[u8],
@@ -40,8 +39,6 @@ pub fn write_scaling_lists(
 {
     let defaults = DefaultLists::new(default_4x4, default_intra, default_inter)?;
     let set = ListSet::new(lists, dcs)?;
-    if values::values_refused(set) {
-        return Err(Refusal::ListValueInvalid(0));
-    }
+    refusal::check(values::values_refused(set), Refusal::ListValueInvalid(0))?;
     write_within(set, defaults, out)
 }

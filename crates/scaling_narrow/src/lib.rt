@@ -10,6 +10,8 @@ use refusal::{Precision, Refusal};
 use scaling_blocks::blocks;
 use scaling_values::ScalingList;
 
+// Kept: a function for each width, with a list and without one, and entries and DC apart: C has each under the name that the ported Rust gives it.
+
 // The coefficients of a block without a list, and how many were limited.
 pub fn dequantize_into_scalar_i16(
     levels: &[i32],

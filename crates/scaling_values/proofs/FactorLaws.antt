@@ -5,7 +5,9 @@
 --   factor_small                   both in one
 --   factor_first, factor_later     the same as the last two, by the size alone
 --   square_least                   n² is at least 256 where n is 16 or more
---   position_16, position_32       the position that the code works out
+--   size_rest, log2_large          what is neither 4 nor 8 is 16 or more, and its logarithm 4 or more
+--   size_log                       the logarithm of a size is the definition's
+--   position_is                    the position that the code works out
 --   position_inside                a position in the list is below 64
 use mathlib.Core.Path.{◌≡◌, refl}
 use mathlib.Core.List.{List}
@@ -19,12 +21,31 @@ use Rattle.h265.specs.Range.{is_size, log2_size}
 use Rattle.h265.specs.ScalingFactor.{repeated_position, factor_source, entry_of, dc_of, factor_by, scaling_factor}
 use Rattle.h265.specs.ScalingFactor.ScalingList.{listed}
 use Rattle.h265.proofs.RangeLaws.{size_cases}
+use Rattle.parameters.proofs.ParametersLaws.{power_exact}
 
 -- ---- sizes
 -- what is above 8
 pub size_large : (n : ℕ) → T (is_size n) → 8 < n → 16 ≤ n
 size_large n t h =
     size_cases (λ m. 8 < m → 16 ≤ m) (λ k. omega arith) (λ k. omega arith) (λ k. omega arith) (λ k. omega arith) n t h
+
+-- what is neither 4 nor 8
+pub size_rest : (n : ℕ) → T (is_size n) → (n ≡ 4 → ⊥) → (n ≡ 8 → ⊥) → 16 ≤ n
+size_rest n t =
+    size_cases (λ m. (m ≡ 4 → ⊥) → (m ≡ 8 → ⊥) → 16 ≤ m)
+    (λ a b. absurd (a refl)) (λ a b. absurd (b refl)) (λ a b. omega arith) (λ a b. omega arith) n t
+
+pub log2_large : (n : ℕ) → T (is_size n) → 16 ≤ n → 4 ≤ log2_size n
+unfolding log2_size
+log2_large n t h =
+    size_cases (λ m. 16 ≤ m → 4 ≤ log2_size m) (λ k. omega arith) (λ k. omega arith) (λ k. omega arith) (λ k. omega arith) n t h
+
+pub size_log : (n r : ℕ) → T (is_size n) → 2 ^ r ≤ n → n < 2 * 2 ^ r → (r ≡ log2_size n) × (n ≡ 2 ^ r)
+unfolding log2_size
+size_log n r t lo hi =
+    size_cases (λ m. 2 ^ r ≤ m → m < 2 * 2 ^ r → (r ≡ log2_size m) × (m ≡ 2 ^ r))
+    (λ a b. let e : r ≡ 2 = power_exact r 2 a b in (e, rw e refl)) (λ a b. let e : r ≡ 3 = power_exact r 3 a b in (e, rw e refl))
+    (λ a b. let e : r ≡ 4 = power_exact r 4 a b in (e, rw e refl)) (λ a b. let e : r ≡ 5 = power_exact r 5 a b in (e, rw e refl)) n t lo hi
 
 -- ---- m
 module _ (es : List ℕ) (d n i : ℕ) where
@@ -62,13 +83,9 @@ factor_first es d n h =
 pub square_least : (n : ℕ) → 16 ≤ n → 256 ≤ n * n
 square_least n h = mul-le-mul h h
 
-pub position_16 : (i : ℕ) → i / 2 ^ 4 / 2 ^ (4 - 3) * 8 + i % 2 ^ 4 / 2 ^ (4 - 3) ≡ repeated_position 16 i
-unfolding repeated_position log2_size
-position_16 i = refl
-
-pub position_32 : (i : ℕ) → i / 2 ^ 5 / 2 ^ (5 - 3) * 8 + i % 2 ^ 5 / 2 ^ (5 - 3) ≡ repeated_position 32 i
-unfolding repeated_position log2_size
-position_32 i = refl
+pub position_is : (n i r : ℕ) → r ≡ log2_size n → n ≡ 2 ^ r → i / 2 ^ r / 2 ^ (r - 3) * 8 + i % 2 ^ r / 2 ^ (r - 3) ≡ repeated_position n i
+unfolding repeated_position
+position_is n i r e d = rw (← e, d)
 
 pub position_inside : (n i : ℕ) → T (is_size n) → i < n * n → 16 ≤ n → repeated_position n i < 64
 unfolding repeated_position log2_size

@@ -1,14 +1,13 @@
 -- Laws of one residual of transform skip.
---   flip_eq, shift_eq               the size of t, by its sign
 --   ts_residual-left, -right         the residual as the code works it out, for t < 0 and for t ≥ 0
 --   ts_add_within                    the rounding is at most 2^5
 --   ts_residual_fits                 for t > 0 the residual fits where the coefficient does, at every width
 use mathlib.Core.Path.{◌≡◌, refl, sym, ap, subst, ◌∙◌}
 use Prim.Native.Nat.{ℕ, zero, suc, ◌+◌, ◌-◌, ◌*◌, ◌^◌, ◌≤◌, ◌<◌}
-use native.Mathlib.Nat.{mul-le-mul_left, mul_comm, suc-mul, zero-add, pow-succ'}
+use native.Mathlib.Nat.{mul-le-mul_left, mul_comm, suc-mul, pow-succ'}
 use native.Mathlib.Omega.{arith}
 use lib.Pow.{pow_mono, pow_pos}
-use lib.IntN.{ℤ, pos, negsuc, nat_abs, ◌+ℤ◌, ◌-ℤ◌, ◌*ℤ◌, +ℤ_idr}
+use lib.IntN.{ℤ, pos, negsuc, nat_abs, ◌+ℤ◌, ◌*ℤ◌, +ℤ_idr}
 use lib.Signed.{shr_z, ◌≤ℤ◌, ◌<ℤ◌}
 use mir.Syntax.{Width}
 use mir.Val.{SFits}
@@ -21,14 +20,6 @@ use Rattle.integers.proofs.BoundLaws.{within_pos}
 use Rattle.integers.proofs.ShiftLaws.{shift_right_zero}
 use Rattle.h265.specs.TransformSkip.{ts_residual}
 use Rattle.parameters.specs.Parameters.{ts_add}
-
-pub flip_eq : (t : ℤ) → t <ℤ pos 0 → pos 0 -ℤ t ≡ pos (nat_abs t)
-flip_eq (pos n) h = absurd (let e : ⊥ = omega (arith, lt_in h) in e)
-flip_eq (negsuc n) h = ap pos (zero-add (suc n))
-
-pub shift_eq : (t : ℤ) → pos 0 ≤ℤ t → t ≡ pos (nat_abs t)
-shift_eq (pos n) h = refl
-shift_eq (negsuc n) h = absurd (let e : ⊥ = omega (arith, le_in h) in e)
 
 pub ts_residual-left : (t c : ℤ) → t <ℤ pos 0 → c *ℤ pow2 (nat_abs t) ≡ ts_residual t c
 unfolding ts_residual

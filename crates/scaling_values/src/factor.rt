@@ -31,10 +31,7 @@ pub fn listed_at(list: &[u8], dc: u8, n: usize, index: usize) -> u8
     if index == 0 {
         return dc;
     }
-    if n == 16 {
-        return list[repeated_position(index, 4)];
-    }
-    list[repeated_position(index, 5)]
+    list[repeated_position(index, n.ilog2())]
 }
 
 // m at an index of a block.

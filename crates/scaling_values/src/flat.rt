@@ -13,10 +13,7 @@ fn top_level(base: u32, add: u32, most: u32, shift: u32) -> u32
     ensures { TopOf base add shift most result }
 {
     let enough = (((most + 1) << shift) - 1 - add) / base;
-    if most < enough {
-        return most;
-    }
-    enough
+    enough.min(most)
 }
 
 // The size of the least one.
@@ -25,15 +22,11 @@ fn low_level(base: u32, add: u32, most: u32, shift: u32) -> u32
     ensures { LowOf base add shift most result }
 {
     let enough = (((most + 1) << shift) + add) / base;
-    if most < enough {
-        return most + 1;
-    }
-    enough
+    enough.min(most + 1)
 }
 
 // The numbers of a block: the 4 bits of m = 16 are shifted out of factor and rounding.
-// Kept: `Manageable`, here and below, was tried as a ghost field of `DequantParams`; the check refuses it as an import cycle, since the functions in
-// the struct's file have clauses that speak of the struct.
+// Kept: `Manageable` is a clause here and in `level`, `listed` and `long`: as a ghost field of `DequantParams` it is an import cycle, since functions in the struct's file have clauses that speak of the struct.
 pub fn flat_params(by: DequantParams) -> FlatParams
     requires manageable { Manageable by }
     requires regular { Regular by }
@@ -46,7 +39,7 @@ pub fn flat_params(by: DequantParams) -> FlatParams
     let largest = top_level(base as u32, add as u32, most, shift);
     let least = low_level(base as u32, add as u32, most, shift);
     let top = largest as i32;
-    let low = 0 - (least as i32);
+    let low = -(least as i32);
     let under = level::scaled_listed(low - 1, 16, by);
     let over = level::scaled_listed(top + 1, 16, by);
     FlatParams {

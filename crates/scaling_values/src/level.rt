@@ -1,20 +1,11 @@
 // One level by the numbers of its block. Every product stays in 64 bits: a level is limited to 2^22 in size before it is scaled, and no factor reaches 2^35.
-ghost use Rattle.std.specs.Prelude.{◌≡◌, ◌||◌, ◌≤ℤ◌};
+ghost use Rattle.std.specs.Prelude.{◌≡◌, ◌||◌};
 ghost use Rattle.std.specs.Int.Signed.{lt_z};
-ghost use Rattle.integers.specs.Clip.{clip3};
 ghost use Rattle.integers.specs.Within.{Within};
 ghost use Rattle.scaling_values.specs.Level.{Manageable, ScaledBy, ListedBy};
 
 use crate::ScaledLevel;
 use parameters::DequantParams;
-
-// x limited to lo .. hi, by one end after the other: `clamp` tests x twice.
-fn limited(lo: i64, hi: i64, x: i64) -> i64
-    requires { lo ≤ℤ hi }
-    ensures { result ≡ clip3 lo hi x }
-{
-    lo.max(x).min(hi)
-}
 
 // Whether a limit changed x.
 fn moved(x: i64, limited: i64) -> bool
@@ -30,9 +21,9 @@ fn scaled(level: i32, factor: i64, by: DequantParams) -> ScaledLevel
     ensures { ScaledBy by factor level result }
 {
     let given = level as i64;
-    let near = limited(by.clip_min, by.clip_max, given);
+    let near = given.clamp(by.clip_min, by.clip_max);
     let shifted = integers::shift_right(near * factor + by.add, by.shift);
-    let value = limited(by.clip_min, by.clip_max, shifted);
+    let value = shifted.clamp(by.clip_min, by.clip_max);
     ScaledLevel {
         value: value as i32,
         level_limited: moved(given, near),

@@ -10,6 +10,11 @@ ghost use Rattle.scaling_values.specs.Listed.{compact_result, scale_by, lowered_
 use crate::{FlatLevel, ListedParams, range};
 use parameters::DequantParams;
 
+// The ends of the range where R = 15.
+const LEAST: i32 = i16::MIN as i32;
+
+const MOST: i32 = i16::MAX as i32;
+
 // What m is multiplied by.
 pub(crate) fn scale_of(by: DequantParams) -> u32
     requires manageable { Manageable by }
@@ -38,8 +43,8 @@ fn lowered(base: i32, down: u32) -> ListedParams
         add: 1i32 << (down - 1),
         down,
         up: 0,
-        low: -32768,
-        top: 32767,
+        low: LEAST,
+        top: MOST,
     }
 }
 
@@ -53,8 +58,8 @@ fn raised(base: i32, up: u32) -> ListedParams
         add: 0,
         down: 0,
         up,
-        low: (-32768) >> up,
-        top: 32767 >> up,
+        low: LEAST >> up,
+        top: MOST >> up,
     }
 }
 
@@ -65,7 +70,7 @@ pub fn listed_params(by: DequantParams) -> ListedParams
     ensures { ListedFor by result }
 {
     let scale = scale_of(by);
-    let zeros = u32::trailing_zeros(scale);
+    let zeros = scale.trailing_zeros();
     let base = odd_of(scale, zeros);
     if zeros < by.shift {
         return lowered(base, by.shift - zeros);
@@ -78,11 +83,12 @@ fn compact_result(level: i32, m: u8, by: ListedParams) -> i32
     requires { Compact by }
     ensures { result ≡ compact_result by m level }
 {
-    let near = range::limited_level(level, -32768, 32767);
+    let near = level.clamp(LEAST, MOST);
     (near * ((m as i32) * by.base) + by.add) >> by.down
 }
 
 // A level with the m of a list.
+// Kept: apart from `scaled_long` as `ListedParams` from `LongParams`: one product, where that puts two together.
 pub fn scaled_compact(level: i32, m: u8, by: ListedParams) -> FlatLevel
     requires { Compact by }
     ensures { CompactScaled by m level result }
@@ -90,18 +96,18 @@ pub fn scaled_compact(level: i32, m: u8, by: ListedParams) -> FlatLevel
     let shifted = compact_result(level, m, by);
     if shifted < by.low {
         return FlatLevel {
-            value: -32768,
+            value: LEAST,
             limited: 1,
         };
     }
     if by.top < shifted {
         return FlatLevel {
-            value: 32767,
+            value: MOST,
             limited: 1,
         };
     }
     FlatLevel {
         value: shifted << by.up,
-        limited: range::outside(level, -32768, 32767),
+        limited: range::outside(level, LEAST, MOST),
     }
 }

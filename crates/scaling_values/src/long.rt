@@ -50,7 +50,7 @@ pub fn scaled_long(level: i32, m: u8, by: LongParams) -> FlatLevel
     requires { Long by }
     ensures { LongScaled by m level result }
 {
-    let near = range::limited_level(level, by.least, by.most);
+    let near = level.clamp(by.least, by.most);
     let made = product(near, (m as i32) * by.base, by.add);
     if made.over < by.low {
         return FlatLevel {
@@ -81,9 +81,9 @@ fn long_of(base: i32, add: i32, down: u32, up: u32, end: u32, most: u32) -> Long
         add,
         down,
         up,
-        low: 0 - (end as i32),
+        low: -(end as i32),
         top: (end - 1) as i32,
-        least: 0 - ((most + 1) as i32),
+        least: -((most + 1) as i32),
         most: most as i32,
     }
 }
@@ -95,7 +95,7 @@ pub fn long_params(by: DequantParams) -> LongParams
     ensures { LongFor by result }
 {
     let scale = listed::scale_of(by);
-    let zeros = u32::trailing_zeros(scale);
+    let zeros = scale.trailing_zeros();
     let base = listed::odd_of(scale, zeros);
     let most = by.clip_max as u32;
     if zeros < by.shift {

@@ -5,18 +5,14 @@
 --   PassNeeds           what a pass over lines of n points asks: it reads columns of x and writes rows of d
 --   column_value       the intermediate at row m and column c, from a line over column c
 --   row_value          the residual at row m and column j, from a line over row m
---   BothNeeds           what both stages ask of a block's first q rows, of which columns from q on are not read
---   BothGives         what they give: residuals as rows of one list, or limited to 16 bits of another
-use Rattle.std.specs.Prelude.{◌≡◌, Bool, true, false, List, ℕ, ◌+◌, ◌*◌, ◌^◌, ◌<◌, ◌≤◌, ℤ, pos, get_or, length}
+use Rattle.std.specs.Prelude.{List, ℕ, ◌+◌, ◌*◌, ◌^◌, ◌<◌, ◌≤◌, ℤ, pos, get_or, length}
 use Rattle.std.specs.Int.{w16}
 use Rattle.std.proofs.Common.{SFits}
 use Rattle.integers.specs.Shift.{round_shift}
 use Rattle.integers.specs.Within.{Within}
-use Rattle.h265.specs.Matrix.{trans_matrix}
 use Rattle.h265.specs.Range.{clip_coeff}
 use Rattle.h265.specs.Transform.{block_at, columns_read, intermediate, stage_two}
 use Rattle.transform_1d.specs.Lanes.{line_sum, SmallEntries}
-use Rattle.transform_1d.specs.Rows.{Filled}
 
 unfoldable pub shifted_residual : (ℕ → ℕ → ℤ) → ℕ → ℕ → ℕ → List ℤ → ℕ → ℕ → ℤ
 shifted_residual t n s nx xs m j = stage_two t n s (intermediate t n 15 (columns_read nx (block_at n xs))) m j
@@ -45,15 +41,3 @@ column_value t x n groups c m = clip_coeff 15 (round_shift (line_sum t x c n gro
 
 abbrev pub row_value : List ℤ → List ℤ → ℕ → ℕ → ℕ → ℕ → ℕ → ℤ
 row_value t x n groups s m j = round_shift (line_sum t x m n groups j) s
-
-pub record BothNeeds (q n s nx : ℕ) (xs : List ℤ) (wide : Bool) (out_length thin_length : ℕ) : Type 0 where
-  pub long : length xs ≡ q * n
-  pub least : 0 < s
-  pub most : s ≤ 12
-  pub columns : nx ≤ q
-  pub room : wide ≡ true → n * n ≤ out_length
-  pub thin_room : wide ≡ false → n * n ≤ thin_length
-
-pub record BothGives (n s nx : ℕ) (xs : List ℤ) (wide : Bool) (out out₂ thin thin₂ : List ℤ) : Type 0 where
-  pub rows : wide ≡ true → Filled n n (shifted_residual (trans_matrix n) n s nx xs) n out out₂
-  pub thin_rows : wide ≡ false → Filled n n (λ m j. clip_coeff 15 (shifted_residual (trans_matrix n) n s nx xs m j)) n thin thin₂

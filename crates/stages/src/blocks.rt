@@ -9,11 +9,11 @@ ghost use Rattle.transform_1d.specs.Lanes.{lanes};
 ghost use Rattle.transform_1d.specs.MatrixOf.{matrix_of};
 ghost use Rattle.stages.specs.Passes.{shifted_residual, BlockNeeds};
 
-use crate::finish::{clipped, fill, rounded};
+use crate::finish::clipped;
 use crate::passes::{columns_4, rows_4};
 use crate::sample::Sample;
 use crate::scan::narrow;
-use tiles::{Stage, half};
+use tiles::{Stage, fill, half, rounded};
 use tiles_quarter::rest_zero;
 use transform_1d::{Kind, lanes_4, lanes_dst};
 
@@ -39,8 +39,8 @@ pub fn block_4<V: Sample>(kind: Kind, coeff: &[V], nx: usize, s: u32, out: &mut 
     let mut a = [0i16; 16];
     let mut d = [0i16; 16];
     narrow(coeff, &mut a[..]);
-    columns_4(&t[..], &a[..], nx, 1, &mut d[..]);
-    rows_4(&t[..], &d[..], 1, s, out);
+    columns_4(&t[..], &a[..], nx, &mut d[..]);
+    rows_4(&t[..], &d[..], s, out);
 }
 
 // The DCT of a block of which the first S.ROWS rows and columns are used: A coefficients.
@@ -65,13 +65,11 @@ pub fn block_dct<V: Sample, W: Stage, Q: Stage, const A: usize, const B: usize>(
     requires { BlockNeeds W.POINTS s nx (map V.value coeff.now) (length out.old) × (V.least_shift ≤ s) × (W.ROWS ≡ W.POINTS) × (Q.POINTS ≡ W.POINTS) × (A ≡ W.ROWS * W.POINTS) × (B ≡ Q.ROWS * Q.POINTS) }
     ensures { map V.value out.new ≡ overwrite (W.POINTS * W.POINTS) (row_order W.POINTS (shifted_residual (trans_matrix W.POINTS) W.POINTS s nx (map V.value coeff.now))) (map V.value out.old) }
 {
-    if nx <= Q::ROWS {
-        if rest_zero(coeff, B, A) {
-            block::<V, Q, B>(coeff, nx, s, out);
-            return;
-        }
+    if nx <= Q::ROWS && rest_zero(coeff, B, A) {
+        block::<V, Q, B>(coeff, nx, s, out);
+    } else {
+        block::<V, W, A>(coeff, nx, s, out);
     }
-    block::<V, W, A>(coeff, nx, s, out);
 }
 
 // A DCT's block whose only coefficient is the first: row 0 of every DCT's matrix is 64, so that all outputs are equal.

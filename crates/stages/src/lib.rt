@@ -16,7 +16,7 @@ use crate::scan::first_row_alone;
 use tiles::{Whole8, Whole16};
 use tiles_32::Whole32;
 use tiles_quarter::{Quarter8, Quarter16, Quarter32};
-use transform_1d::Kind;
+use transform_1d::{Kind, stage_two_shift};
 
 pub mod sample; // the two widths of coefficients and residuals
 mod scan; // coefficients as they are read
@@ -25,6 +25,8 @@ mod passes; // one stage of a block of size 4
 mod blocks; // both stages of a block
 
 // The DCT of a block of any size.
+// Kept: `V.least_shift ≤ s` beside `BlockNeeds`, here and in blocks.rt: it is asked of the width, and all else of the block.
+// Kept: a `match` on the size: its arms name the types and const arguments of a size, which no value carries.
 fn dct_sized<V: Sample>(coeff: &[V], n: usize, nx: usize, s: u32, out: &mut [V])
     requires { T (is_size n) × BlockNeeds n s nx (map V.value coeff.now) (length out.old) × (V.least_shift ≤ s) }
     ensures { map V.value out.new ≡ overwrite (n * n) (row_order n (shifted_residual (trans_matrix n) n s nx (map V.value coeff.now))) (map V.value out.old) }
@@ -50,6 +52,7 @@ fn dct_plain<V: Sample>(coeff: &[V], n: usize, nx: usize, s: u32, out: &mut [V])
 }
 
 // The residual of a block at depths at which it fits: in 16 bits at 8 and 9.
+// Kept: kind, size and depth apart: the shift and the stages each take some of them, and a struct would be taken apart here.
 pub fn residual_plain<V: Sample>(
     kind: Kind,
     n: usize,
@@ -61,7 +64,7 @@ pub fn residual_plain<V: Sample>(
     requires { PlainNeeds kind n bit_depth nx (map V.value coeff.now) (length out.old) × (V.least_shift ≤ 20 - bit_depth) }
     ensures { map V.value out.new ≡ overwrite (n * n) (row_order n (residual (matrix_of kind n) n bit_depth 15 nx (map V.value coeff.now))) (map V.value out.old) }
 {
-    let s = 20 - (bit_depth as u32);
+    let s = stage_two_shift(bit_depth, 15);
     match kind {
         Kind::Dct => dct_plain(coeff, n, nx, s, out),
         Kind::Dst => blocks::block_4(kind, coeff, nx, s, out),

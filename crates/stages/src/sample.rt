@@ -1,4 +1,5 @@
 // The two widths of coefficients and residuals, and what differs between them.
+// Kept: `number` in place of `Into<i32>`: what that gives would be one more law of the trait, for the one clause that `number` has.
 ghost use Rattle.std.specs.Prelude.{◌≡◌, ℕ, ◌≤◌, ℤ};
 ghost use Rattle.integers.specs.Shift.{round_shift};
 ghost use Rattle.integers.specs.Within.{Within};

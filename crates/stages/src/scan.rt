@@ -7,6 +7,7 @@ ghost use Rattle.transform_1d.specs.Rows.{Placed};
 use crate::sample::Sample;
 
 // `true` only where the first column is zero below its first row; `false` says nothing.
+// Kept: `(1..n).all(..)` was tried, and the proof of what it returns did not close.
 pub fn first_row_alone<V: Sample>(coeff: &[V], n: usize) -> bool
     requires { (n * n ≤ length coeff.now) × (0 < n) × (n ≤ 32) }
     ensures { result ≡ true → RowsUsed (map V.value coeff.now) n 1 1 }

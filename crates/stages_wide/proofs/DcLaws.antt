@@ -5,17 +5,22 @@
 use mathlib.Core.Path.{◌≡◌, sym, ap, ◌∙◌}
 use mathlib.Core.List.{List}
 use Prim.Native.Nat.{ℕ, ◌+◌, ◌*◌, ◌/◌, ◌%◌, ◌≤◌, ◌<◌}
-use native.Mathlib.Nat.{add-zero, zero-mul, zero-add, mul-le-mul, div-add-mod', mod-lt, div-lt_iff_lt-mul}
+use native.Mathlib.Nat.{add-zero, zero-mul, mul-le-mul, div-add-mod', mod-lt, div-lt_iff_lt-mul}
+use native.Mathlib.Decide.{dec_lt}
 use native.Mathlib.Omega.{arith}
 use lib.Arith.{digits_lt}
 use lib.IntN.{ℤ, pos, ◌*ℤ◌}
+use lib.ListN.{length, get_or}
+use Rattle.std.specs.Prelude.{map}
+use Rattle.std.proofs.lemmas.List.{map-id}
+use Rattle.integers.specs.Lists.{overwrite}
+use Rattle.integers.proofs.ListsLaws.{overwrite-length, overwrite-get_or, overwrite-get_or-past}
 use Rattle.integers.specs.Shift.{round_shift}
 use Rattle.h265.specs.Matrix.{trans_matrix}
 use Rattle.h265.specs.Range.{clip_coeff}
 use Rattle.h265.specs.Transform.{block_at, columns_read, stage_one_sum, stage_one_value, intermediate, stage_two_sum, stage_two}
 use Rattle.h265.proofs.TransformLaws.{columns_read_in}
-use Rattle.transform_1d.specs.Rows.{Placed, Filled}
-use Rattle.wide_parts.proofs.SplitLaws.{placed_run}
+use Rattle.transform_1d.specs.Rows.{Filled}
 use Rattle.h265.proofs.RangeLaws.{clip_coeff_zero}
 use Rattle.stages.proofs.PlainLaws.{line_first}
 use Rattle.stages_wide.specs.Wide.{limited_block}
@@ -54,10 +59,21 @@ module _ (n r s : ℕ) (coeff : List ℤ) (h : 0 < n) (u : RowsUsed coeff n 1 1)
       (line_first n (λ c. intermediate (trans_matrix n) n r read m c) j h (λ c a b. intermediate-past (trans_matrix n) n r 1 (limited_block r n coeff) m c a)
       ∙ ap (λ (z : ℤ). pos 64 *ℤ z) (inter_first m))
 
-  pub filled_dc : {v : ℤ} {xs ys : List ℤ} → v ≡ dc_value coeff r s → Placed 0 (n * n) (λ i. v) xs ys → Filled n n (both_stages (trans_matrix n) n s r 1 coeff) n xs ys
-  filled_dc {v} {xs} {ys} e p =
+  pub filled_dc : {v : ℤ} {xs ys : List ℤ} → v ≡ dc_value coeff r s → n * n ≤ length xs → map (λ (x : ℤ). x) ys ≡ overwrite (n * n) (λ i. v) (map (λ (x : ℤ). x) xs)
+      → Filled n n (both_stages (trans_matrix n) n s r 1 coeff) n xs ys
+  filled_dc {v} {xs} {ys} e long f =
+      let p : ys ≡ overwrite (n * n) (λ i. v) xs = sym (map-id ys) ∙ f ∙ ap (overwrite (n * n) (λ i. v)) (map-id xs) in
+      let past : (i : ℕ) → n * n ≤ i → get_or ys i (pos 0) ≡ get_or xs i (pos 0) = λ i l. ap (λ (zs : List ℤ). get_or zs i (pos 0)) p ∙ overwrite-get_or-past (n * n) (λ i. v) xs i (pos 0) l in
       record {
-        long = p.long;
-        done = λ m j a b. placed_run p (m * n + j) (digits_lt {q = m} {m = n} {r = j} {c = n} a b) ∙ e ∙ sym (dc_residual m j);
-        kept = λ i k. p.kept i (λ j a b. k (j / n) (j % n) ((div-lt_iff_lt-mul h).1 a) (mod-lt j h) (b ∙ zero-add j ∙ sym (div-add-mod' j n)));
+        long = ap length p ∙ overwrite-length (n * n) (λ i. v) xs long;
+        done = λ m j a b.
+            ap (λ (zs : List ℤ). get_or zs (m * n + j) (pos 0)) p
+            ∙ overwrite-get_or (n * n) (λ i. v) xs (m * n + j) (pos 0) (digits_lt {q = m} {m = n} {r = j} {c = n} a b)
+            ∙ e
+            ∙ sym (dc_residual m j);
+        kept = λ i k.
+            elim (dec_lt i (n * n)) [
+              | yes a ↦ absurd (k (i / n) (i % n) ((div-lt_iff_lt-mul h).1 a) (mod-lt i h) (sym (div-add-mod' i n)))
+              | no d ↦ past i (omega arith)
+            ];
       }

@@ -3,12 +3,10 @@
 --   put-rows      the rows of stage one, limited and put as columns, are the intermediate
 --   put_one_lem       so is one column
 --   moved_32      a column that is moved as it is, as numbers
-use mathlib.Core.Path.{◌≡◌, sym, ap, ◌∙◌, subst}
-use mathlib.Core.Bool.{true, false}
+use mathlib.Core.Path.{ap, ◌∙◌, subst}
 use mathlib.Core.List.{List}
 use Prim.Native.Nat.{ℕ, ◌+◌, ◌*◌}
 use native.Mathlib.Nat.{zero-add}
-use lib.Dec.{T}
 use lib.IntN.{ℤ, pos}
 use lib.ListN.{get_or}
 use Rattle.std.specs.Prelude.{map}

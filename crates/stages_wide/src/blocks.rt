@@ -2,29 +2,20 @@
 ghost use Rattle.std.specs.Prelude.{◌≡◌, ◌+◌, ◌*◌, ◌<◌, ◌≤◌, T, length};
 ghost use Rattle.h265.specs.Matrix.{trans_matrix};
 ghost use Rattle.h265.specs.Range.{is_size};
-ghost use Rattle.transform_1d.specs.Rows.{Placed, Filled};
+ghost use Rattle.transform_1d.specs.Rows.{Filled};
 ghost use Rattle.coefficients.specs.Rows.{RowsUsed};
 ghost use Rattle.stages_wide.specs.Parts.{StagesNeeds, both_stages};
 
-use crate::parts::{limited, rounded};
+use crate::parts::limited;
 use crate::products::both_4;
 use crate::sizes::stages;
 use coefficients::rows_used;
-use tiles::{Whole8, Whole16};
+use tiles::{Whole8, Whole16, fill, rounded};
 use tiles_32::Whole32;
 use tiles_quarter::{Quarter8, Quarter16, Quarter32};
 use transform_1d::Kind;
 
-// v in the first w places.
-fn fill(v: i32, w: usize, out: &mut [i32])
-    requires { w ≤ length out.old }
-    ensures { Placed 0 w (λ i. v) out.old out.new }
-{
-    for i in 0..w {
-        out[i] = v;
-    }
-}
-
+// Kept: no twins of the functions of these names in `stages`: their stages are others, and every value is limited as it is read.
 // A DCT's block whose only coefficient is the first: row 0 of every DCT's matrix is 64, so that all outputs are equal.
 fn dc_fill(n: usize, shift: u32, range: u32, coeff: &[i32], out: &mut [i32])
     requires { T (is_size n) × StagesNeeds n shift range 1 (length coeff.now) (length out.old) × RowsUsed coeff.now n 1 1 }
@@ -36,6 +27,7 @@ fn dc_fill(n: usize, shift: u32, range: u32, coeff: &[i32], out: &mut [i32])
 }
 
 // Both stages of the n-point DCT.
+// Kept: a `match` on the size, as in lib.rt.
 fn dct_sized(n: usize, shift: u32, range: u32, nx: usize, coeff: &[i32], out: &mut [i32])
     requires { T (is_size n) × StagesNeeds n shift range nx (length coeff.now) (length out.old) }
     ensures { Filled n n (both_stages (trans_matrix n) n shift range nx coeff.now) n out.old out.new }
@@ -53,11 +45,9 @@ pub fn stages_dct(n: usize, shift: u32, range: u32, nx: usize, coeff: &[i32], ou
     requires { T (is_size n) × StagesNeeds n shift range nx (length coeff.now) (length out.old) }
     ensures { Filled n n (both_stages (trans_matrix n) n shift range nx coeff.now) n out.old out.new }
 {
-    if nx == 1 {
-        if rows_used(coeff, n, 1, 0) <= 1 {
-            dc_fill(n, shift, range, coeff, out);
-            return;
-        }
+    if nx == 1 && rows_used(coeff, n, 1, 0) <= 1 {
+        dc_fill(n, shift, range, coeff, out);
+    } else {
+        dct_sized(n, shift, range, nx, coeff, out);
     }
-    dct_sized(n, shift, range, nx, coeff, out);
 }

@@ -3,7 +3,7 @@
 // Internal: no refusal; callers meet each `requires`.
 #![tactic(auto)]
 
-mod parts; // values limited to the range, and sums rounded
+mod parts; // values limited to the range
 mod products; // lines of 4 points in 32-bit products
 mod moves; // blocks turned over, columns taken and put
 mod sizes; // stages of a block, a function for each size
@@ -19,8 +19,10 @@ use crate::blocks::stages_dct;
 use crate::products::both_4;
 use tiles::{Whole8, Whole16};
 use tiles_32::Whole32;
-use transform_1d::Kind;
+use transform_1d::{Kind, stage_two_shift};
 
+// Kept: a `match` on the size in each of the three that follow: its arms name the types and const arguments of a size, which no value carries.
+// Kept: kind, size, depth and range apart, here and below: each function takes some of them, and would take a struct apart at its `match`.
 // One column of the intermediate, every coefficient limited as it is read.
 pub fn intermediate_column(
     kind: Kind,
@@ -59,7 +61,7 @@ pub fn residual_of(kind: Kind, n: usize, bit_depth: u8, range: u32, inter: &[i32
     requires { WideNeeds kind n range (length inter.now) (length out.old) × DepthNeeds bit_depth range }
     ensures { out.new ≡ overwrite (n * n) (row_order n (stage_two (matrix_of kind n) n (stage_two_shift bit_depth range) (limited_block range n inter.now))) out.old }
 {
-    let shift = range + 5 - (bit_depth as u32);
+    let shift = stage_two_shift(bit_depth, range);
     match n {
         4 => sizes::rows_4(kind, inter, range, shift, out),
         8 => sizes::rows::<Whole8, 64, 8>(inter, range, shift, out),
@@ -100,7 +102,7 @@ pub fn residual_wide(
     requires { WideNeeds kind n range (length coeff.now) (length out.old) × DepthNeeds bit_depth range × CoeffsInRange range n nx coeff.now }
     ensures { out.new ≡ overwrite (n * n) (row_order n (residual (matrix_of kind n) n bit_depth range nx coeff.now)) out.old }
 {
-    let shift = range + 5 - (bit_depth as u32);
+    let shift = stage_two_shift(bit_depth, range);
     match kind {
         Kind::Dst => both_4(Kind::Dst, shift, range, nx, coeff, out),
         Kind::Dct => stages_dct(n, shift, range, nx, coeff, out),

@@ -4,13 +4,14 @@ ghost use Rattle.std.specs.Int.{w16};
 ghost use Rattle.std.proofs.Common.{SFits};
 ghost use Rattle.transform_1d.specs.Rows.{Placed, Filled};
 ghost use Rattle.wide_parts.specs.Split.{Narrow};
-ghost use Rattle.stages_wide.specs.Parts.{limited_at, ColumnPlaced, NarrowColumn};
+ghost use Rattle.stages_wide.specs.Parts.{limited_at, ColumnOf, ColumnPlaced, NarrowColumn};
 
 use crate::parts::limited;
 use tiles::Output;
 use wide_parts::is_wide;
 
 // What a block is moved into: values as they are, or in 16 bits where they fit them.
+// Kept: beside `Output::of`, which limits a sum to 16 bits: a value that is moved stays as it is, and that it fits is asked.
 pub trait Moved: Output {
     // Whether it is 16 bits wide.
     ghost short: { Bool };
@@ -40,7 +41,7 @@ impl Moved for i16 {
 
 // One column of a block, as row c of g.
 fn turn_column<V: Moved>(s: &[i32], n: usize, c: usize, g: &mut [V])
-    requires { (n ≤ 32) × (c < n) × (n * n ≤ length s.now) × (n * n ≤ length g.old) × (V.short ≡ true → Narrow (n * n) s.now) }
+    requires { ColumnOf n c (length s.now) × (n * n ≤ length g.old) × (V.short ≡ true → Narrow (n * n) s.now) }
     ensures { Placed (c * n) n (λ k. get_or s.now (k * n + c) (pos 0)) (map V.value g.old) (map V.value g.new) }
 {
     for k in 0..n {
@@ -59,8 +60,9 @@ pub fn turn<V: Moved>(s: &[i32], n: usize, g: &mut [V])
 }
 
 // Whether the values of one column all fit 16 bits.
+// Kept: a loop with no early end, of which the compiler tests several values at a time; `all`, compiled, tests one at a time.
 pub fn column_narrow(s: &[i32], n: usize, column: usize) -> bool
-    requires { (n ≤ 32) × (column < n) × (n * n ≤ length s.now) }
+    requires { ColumnOf n column (length s.now) }
     ensures { result ≡ true → NarrowColumn n column n s.now }
 {
     let mut fits = true;
@@ -75,7 +77,7 @@ pub fn column_narrow(s: &[i32], n: usize, column: usize) -> bool
 // Kept: a function for each direction: a run along a row and one down a column are said by two relations, `Placed` and `ColumnPlaced`.
 // One column of a block, as the first column of g.
 pub fn take_column<V: Moved>(s: &[i32], n: usize, column: usize, g: &mut [V])
-    requires { (n ≤ 32) × (column < n) × (n * n ≤ length s.now) × (n * n ≤ length g.old) × (V.short ≡ true → NarrowColumn n column n s.now) }
+    requires { ColumnOf n column (length s.now) × (n * n ≤ length g.old) × (V.short ≡ true → NarrowColumn n column n s.now) }
     ensures { ColumnPlaced n 0 (λ k. get_or s.now (k * n + column) (pos 0)) n (map V.value g.old) (map V.value g.new) }
 {
     for k in 0..n {
@@ -85,7 +87,7 @@ pub fn take_column<V: Moved>(s: &[i32], n: usize, column: usize, g: &mut [V])
 
 // The values of one column, limited.
 pub fn limited_column(s: &[i32], n: usize, range: u32, column: usize, x: &mut [i32])
-    requires { (range ≤ 22) × (n ≤ 32) × (column < n) × (n * n ≤ length s.now) × (n ≤ length x.old) }
+    requires { (range ≤ 22) × ColumnOf n column (length s.now) × (n ≤ length x.old) }
     ensures { Placed 0 n (λ k. limited_at range s.now (k * n + column)) x.old x.new }
 {
     for k in 0..n {
@@ -95,7 +97,7 @@ pub fn limited_column(s: &[i32], n: usize, range: u32, column: usize, x: &mut [i
 
 // n values of r from place base on, limited, down one column.
 pub fn put_column(r: &[i32], base: usize, n: usize, range: u32, inter: &mut [i32], column: usize)
-    requires { (range ≤ 22) × (n ≤ 32) × (column < n) × (base + n ≤ length r.now) × (n * n ≤ length inter.old) }
+    requires { (range ≤ 22) × ColumnOf n column (length inter.old) × (base + n ≤ length r.now) }
     ensures { ColumnPlaced n column (λ m. limited_at range r.now (base + m)) n inter.old inter.new }
 {
     for m in 0..n {

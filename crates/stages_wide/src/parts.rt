@@ -1,16 +1,15 @@
-// Values limited to the range, and sums rounded.
-ghost use Rattle.std.specs.Prelude.{◌≡◌, ◌*◌, ◌<◌, ◌≤◌, ◌^◌};
-ghost use Rattle.integers.specs.Shift.{round_shift};
-ghost use Rattle.integers.specs.Within.{Within};
+// Values limited to the range.
+// Kept: the range as a number with its bound, here and in moves.rt: it comes as a number through every crate, and a type would be taken apart here.
+ghost use Rattle.std.specs.Prelude.{◌≡◌, ◌≤◌};
 ghost use Rattle.h265.specs.Range.{coeff_min, coeff_max, clip_coeff};
 
-// Kept: an end of the range and the other one: nothing is compared.
+// Kept: a function for each end of the range: one is a power of two with its sign changed, the other that power less one.
 // The least value of the range.
 fn least(range: u32) -> i32
     requires { range ≤ 22 }
     ensures { result ≡ coeff_min range }
 {
-    0 - (1i32 << range)
+    -(1i32 << range)
 }
 
 // The largest value of the range.
@@ -27,13 +26,4 @@ pub fn limited(x: i32, range: u32) -> i32
     ensures { result ≡ clip_coeff range x }
 {
     x.clamp(least(range), most(range))
-}
-
-// A rounded sum.
-pub fn rounded(x: i32, shift: u32) -> i32
-    requires { Within (480 * 2 ^ 22) x × (4 ≤ shift) × (shift ≤ 12) }
-    ensures { result ≡ round_shift x shift }
-{
-    let half = 1i32 << (shift - 1);
-    (x + half) >> shift
 }

@@ -6,11 +6,13 @@ ghost use Rattle.transform_1d.specs.Rows.{Placed, Filled};
 ghost use Rattle.stages_wide.specs.Parts.{limited_at, StagesNeeds, both_stages};
 ghost use Rattle.stages_wide.specs.Products.{limited_up_to, matrix_value, RoundNeeds, ProductsNeeds, LimitedNeeds};
 
-use crate::parts::{limited, rounded};
+use crate::parts::limited;
 use lines_wide::line_4;
+use tiles::rounded;
 use transform_1d::Kind;
 
 // The first w values, limited.
+// Kept: w beside the buffers, here and below, as in `wide_parts`: what is lent is longer than what is read or written.
 fn limit(s: &[i32], w: usize, range: u32, x: &mut [i32])
     requires { (range ≤ 22) × (w ≤ length s.now) × (w ≤ length x.old) }
     ensures { Placed 0 w (limited_at range s.now) x.old x.new }
@@ -21,6 +23,7 @@ fn limit(s: &[i32], w: usize, range: u32, x: &mut [i32])
 }
 
 // w sums, rounded, from place at on.
+// Kept: no twin of `put_rounded` in `stages`, whose sums stand in two halves that are added first.
 pub fn put_rounded(z: &[i32], w: usize, shift: u32, out: &mut [i32], at: usize)
     requires { RoundNeeds w z.now shift × (at + w ≤ length out.old) }
     ensures { Placed at w (λ j. round_shift (get_or z.now j (pos 0)) shift) out.old out.new }

@@ -6,8 +6,9 @@ ghost use Rattle.h265.specs.Transform.{intermediate, stage_two};
 ghost use Rattle.transform_1d.specs.MatrixOf.{matrix_of};
 ghost use Rattle.transform_1d.specs.Rows.{Filled};
 ghost use Rattle.coefficients.specs.Rows.{RowsUsed};
+ghost use Rattle.tiles_wide.specs.Pass.{PassSizes};
 ghost use Rattle.stages_wide.specs.Wide.{limited_block};
-ghost use Rattle.stages_wide.specs.Parts.{ColumnPlaced, SizeNeeds, StagesNeeds, both_stages};
+ghost use Rattle.stages_wide.specs.Parts.{ColumnPlaced, SizeNeeds, WholeStage, StagesNeeds, both_stages};
 
 use crate::moves::{column_narrow, limited_column, put_column, put_columns, take_column, turn};
 use crate::products::{put_rounded, stage_4};
@@ -60,7 +61,7 @@ fn both<S: Stage, const A: usize, const G: usize>(
     coeff: &[i32],
     out: &mut [i32],
 )
-    requires { StagesNeeds S.POINTS shift range nx (length coeff.now) (length out.old) × (A ≡ S.ROWS * S.POINTS) × (G ≡ S.POINTS * S.POINTS) × (nx ≤ S.ROWS) × RowsUsed coeff.now S.POINTS nx S.ROWS }
+    requires { StagesNeeds S.POINTS shift range nx (length coeff.now) (length out.old) × PassSizes S.ROWS S.POINTS A G × (nx ≤ S.ROWS) × RowsUsed coeff.now S.POINTS nx S.ROWS }
     ensures { Filled S.POINTS S.POINTS (both_stages (trans_matrix S.POINTS) S.POINTS shift range nx coeff.now) S.POINTS out.old out.new }
 {
     let mut g = [0i32; A];
@@ -79,13 +80,11 @@ pub fn stages<W: Stage, Q: Stage, const A: usize, const B: usize>(
     requires { StagesNeeds W.POINTS shift range nx (length coeff.now) (length out.old) × (W.ROWS ≡ W.POINTS) × (Q.POINTS ≡ W.POINTS) × (A ≡ W.POINTS * W.POINTS) × (B ≡ Q.ROWS * Q.POINTS) }
     ensures { Filled W.POINTS W.POINTS (both_stages (trans_matrix W.POINTS) W.POINTS shift range nx coeff.now) W.POINTS out.old out.new }
 {
-    if nx <= Q::ROWS {
-        if rest_zero(coeff, B, A) {
-            both::<Q, B, A>(shift, range, nx, coeff, out);
-            return;
-        }
+    if nx <= Q::ROWS && rest_zero(coeff, B, A) {
+        both::<Q, B, A>(shift, range, nx, coeff, out);
+    } else {
+        both::<W, A, A>(shift, range, nx, coeff, out);
     }
-    both::<W, A, A>(shift, range, nx, coeff, out);
 }
 
 // Stage two over an intermediate in row order, in two parts where its values take more than 16 bits.
@@ -95,7 +94,7 @@ fn wide_rows<S: Stage, const A: usize, const N: usize>(
     shift: u32,
     out: &mut [i32],
 )
-    requires { SizeNeeds N range shift (length inter.now) (length out.old) × (S.ROWS ≡ N) × (S.POINTS ≡ N) × (A ≡ N * N) }
+    requires { SizeNeeds N range shift (length inter.now) (length out.old) × WholeStage S.ROWS S.POINTS N A }
     ensures { Filled N N (stage_two (trans_matrix N) N shift (limited_block range N inter.now)) N out.old out.new }
 {
     let mut g = [0i32; A];
@@ -110,7 +109,7 @@ pub fn rows<S: Stage, const A: usize, const N: usize>(
     shift: u32,
     out: &mut [i32],
 )
-    requires { SizeNeeds N range shift (length inter.now) (length out.old) × (S.ROWS ≡ N) × (S.POINTS ≡ N) × (A ≡ N * N) }
+    requires { SizeNeeds N range shift (length inter.now) (length out.old) × WholeStage S.ROWS S.POINTS N A }
     ensures { Filled N N (stage_two (trans_matrix N) N shift (limited_block range N inter.now)) N out.old out.new }
 {
     if all_narrow(inter, A) {
@@ -128,7 +127,7 @@ pub fn columns<S: Stage, const A: usize, const N: usize>(
     range: u32,
     inter: &mut [i32],
 )
-    requires { SizeNeeds N range 7 (length coeff.now) (length inter.old) × (S.ROWS ≡ N) × (S.POINTS ≡ N) × (A ≡ N * N) }
+    requires { SizeNeeds N range 7 (length coeff.now) (length inter.old) × WholeStage S.ROWS S.POINTS N A }
     ensures { Filled N N (intermediate (trans_matrix N) N range (limited_block range N coeff.now)) N inter.old inter.new }
 {
     let mut g = [0i32; A];
@@ -157,7 +156,7 @@ fn wide_column<S: Stage, const A: usize, const N: usize>(
     column: usize,
     inter: &mut [i32],
 )
-    requires { SizeNeeds N range 7 (length coeff.now) (length inter.old) × (S.ROWS ≡ N) × (S.POINTS ≡ N) × (A ≡ N * N) × (column < N) }
+    requires { SizeNeeds N range 7 (length coeff.now) (length inter.old) × WholeStage S.ROWS S.POINTS N A × (column < N) }
     ensures { ColumnPlaced N column (λ m. intermediate (trans_matrix N) N range (limited_block range N coeff.now) m column) N inter.old inter.new }
 {
     let mut x = [0i32; A];
@@ -174,7 +173,7 @@ pub fn column<S: Stage, const A: usize, const N: usize>(
     column: usize,
     inter: &mut [i32],
 )
-    requires { SizeNeeds N range 7 (length coeff.now) (length inter.old) × (S.ROWS ≡ N) × (S.POINTS ≡ N) × (A ≡ N * N) × (column < N) }
+    requires { SizeNeeds N range 7 (length coeff.now) (length inter.old) × WholeStage S.ROWS S.POINTS N A × (column < N) }
     ensures { ColumnPlaced N column (λ m. intermediate (trans_matrix N) N range (limited_block range N coeff.now) m column) N inter.old inter.new }
 {
     if column_narrow(coeff, N, column) {

@@ -1,9 +1,9 @@
 -- Laws of rows and blocks of numbers: the turns of the loops that write them.
---   row_at, row-length                    the part of a block that a row is
+--   row-length                            how many numbers a row of a block has
 --   row_more, row_done                    one number more of a row; the whole row
 --   rows_start, rows_more, block_done     the invariant of a block's rows
 --   next_row, row_fits, rows_all          places of rows in a block
-use mathlib.Core.Path.{◌≡◌, refl, sym, ap, ◌∙◌}
+use mathlib.Core.Path.{◌≡◌, refl, ap}
 use mathlib.Core.Bool.{cond}
 use mathlib.Core.List.{List, [], ◌∷◌, ◌++◌}
 use Prim.Native.Nat.{ℕ, zero, suc, ◌+◌, ◌-◌, ◌*◌, ◌≤◌, ◌<◌}
@@ -14,7 +14,7 @@ use borrow.Author.Tests.{lt-ltb, le-ltb}
 use lib.Dec.{ltb, leb-suc-suc}
 use lib.IntN.{ℤ, pos}
 use lib.ListN.{length, take, drop, set, get_or, length-drop, drop_of_length-le}
-use lib.Seq.{drop-cons, drop-drop, length-take-le, get_or-take, get_or-drop}
+use lib.Seq.{drop-cons, drop-drop, length-take-le}
 use mir.Syntax.{w32}
 use mir.Val.{SFits, to_z, of_z}
 use Rattle.integers.proofs.MachineLaws.{round_trip}
@@ -24,9 +24,6 @@ use Rattle.text.proofs.WroteLaws.{Left, wrote_one, left_start, left_more, left_d
 -- ---- a row
 pub row-length : (zs : List ℤ) (from n : ℕ) → from + n ≤ length zs → length (take n (drop from zs)) ≡ n
 row-length zs from n h = length-take-le n (drop from zs) (rw length-drop (omega arith))
-
-pub row_at : (zs : List ℤ) (from n i : ℕ) → i < n → get_or zs (from + i) (pos 0) ≡ get_or (take n (drop from zs)) i (pos 0)
-row_at zs from n i h = sym (get_or-take n (drop from zs) i (pos 0) h ∙ get_or-drop from zs i (pos 0))
 
 separator-drop : (zs : List ℤ) (i : ℕ) → separator (drop i zs) ≡ cond (ltb i (length zs)) space line_end
 separator-drop [] zero = refl

@@ -2,8 +2,11 @@
 // for which 12 bytes a number are enough.
 #![tactic(auto)]
 
-ghost use Rattle.std.specs.Prelude.{◌≡◌, cond, ◌+◌, ◌*◌, ◌≤◌, ◌<◌, ltb, length, take, drop};
+ghost use Rattle.std.specs.Prelude.{◌≡◌, cond, ◌+◌, ◌*◌, ◌≤◌, ◌<◌, ltb, length};
 ghost use Rattle.text.specs.Text.{unsigned_text, signed_text, row_text, block_text, space, line_end, Wrote, WroteUpTo};
+
+// Kept: a buffer and the place where its text ends stand apart, here and in the crates above: a struct of both would have to promise for the buffer that it stays the same one
+// (its ghost_name), a clause more for each.
 
 // Bytes as they are.
 pub fn put_bytes(bytes: &[u8], out: &mut [u8], at: usize) -> usize
@@ -21,11 +24,11 @@ pub fn put_unsigned(n: u64, out: &mut [u8], at: usize) -> usize
     ensures { Wrote out.old at (unsigned_text n) out.new result }
 {
     if n < 10 {
-        out[at] = 48 + n as u8;
+        out[at] = b'0' + n as u8;
         return at + 1;
     }
     let end = put_unsigned(n / 10, out, at);
-    out[end] = 48 + (n % 10) as u8;
+    out[end] = b'0' + (n % 10) as u8;
     end + 1
 }
 
@@ -49,16 +52,15 @@ fn separator(i: usize, n: usize) -> u8
     if i + 1 < n { b' ' } else { b'\n' }
 }
 
-// The n numbers from an index on, as a row.
-pub fn put_row(values: &[i32], from: usize, n: usize, out: &mut [u8], at: usize) -> usize
-    requires n_in_bounds { from + n ≤ length values.now }
-    requires n_in_bounds_2 { at + 12 * n ≤ length out.old }
-    ensures { WroteUpTo out.old at (row_text (take n (drop from values.now))) out.new result (at + 12 * n) }
+// A row of numbers.
+pub fn put_row(row: &[i32], out: &mut [u8], at: usize) -> usize
+    requires { at + 12 * length row.now ≤ length out.old }
+    ensures { WroteUpTo out.old at (row_text row.now) out.new result (at + 12 * length row.now) }
 {
     let mut end = at;
-    for i in 0..n {
-        end = put_signed(values[from + i], out, end);
-        out[end] = separator(i, n);
+    for (i, z) in row.iter().enumerate() {
+        end = put_signed(*z, out, end);
+        out[end] = separator(i, row.len());
         end += 1;
     }
     end
@@ -72,7 +74,7 @@ pub fn put_block(values: &[i32], n: usize, out: &mut [u8], at: usize) -> usize
 {
     let mut end = at;
     for row in 0..n {
-        end = put_row(values, row * n, n, out, end);
+        end = put_row(&values[row * n..row * n + n], out, end);
     }
     end
 }

@@ -5,7 +5,8 @@
 #![tactic(auto)]
 
 ghost use Rattle.std.specs.Prelude.{◌≡◌, true, ℕ, ◌+◌, ◌*◌, ◌-◌, ◌/◌, ◌%◌, ◌<◌, ◌≤◌, ◌^◌, ℤ, pos, ◌+ℤ◌, length, get_or, map};
-ghost use Rattle.integers.specs.Shift.{pow2, shift_right};
+ghost use Rattle.integers.specs.Lists.{overwrite};
+ghost use Rattle.integers.specs.Shift.{pow2, shift_right, round_shift};
 ghost use Rattle.integers.specs.Within.{Within};
 ghost use Rattle.h265.specs.Range.{clip_coeff};
 ghost use Rattle.transform_1d.specs.Rows.{Placed};
@@ -16,6 +17,7 @@ ghost use Rattle.tiles.specs.Tile.{Head, Rows, LinePut, TileSize, StageSize, Sta
 use std::cmp::min;
 
 // What a stage writes: a sum in 32 bits, or limited to 16.
+// Kept: `of` and `is_zero` beside `From` and `==`: `of` may limit, which is no conversion, and what `==` says of a type would be one more law here.
 pub trait Output: Copy {
     // The number that an element holds.
     ghost value: { Self → ℤ };
@@ -87,6 +89,7 @@ impl Rounding {
 }
 
 // What rounding adds before a shift by s.
+// Kept: s as a number with its bounds, here and in `stages`: a shift is worked out or written at each call, and a type of it would be made there.
 pub fn half(s: u32) -> i32
     requires { (0 < s) × (s ≤ 12) }
     ensures { (result ≡ pow2 (s - 1)) × Within (2 ^ 11) result }
@@ -95,12 +98,31 @@ pub fn half(s: u32) -> i32
     h as i32
 }
 
+// (x + 2^(s-1)) >> s: a sum, rounded.
+pub fn rounded(x: i32, s: u32) -> i32
+    requires { Within (480 * 2 ^ 22) x × (0 < s) × (s ≤ 12) }
+    ensures { result ≡ round_shift x s }
+{
+    (x + half(s)) >> s
+}
+
 // x limited to 16 bits.
 #[inline(always)]
 pub fn limited(x: i32) -> i16
     ensures { result ≡ clip_coeff 15 x }
 {
-    x.clamp(-32768, 32767) as i16
+    x.clamp(i16::MIN as i32, i16::MAX as i32) as i16
+}
+
+// v in the first w places.
+// Kept: std's `fill` is said by what T's clone may give, so that `Output` would need a law of clone, and a proof of it for each type.
+pub fn fill<T: Output>(v: T, w: usize, out: &mut [T])
+    requires { w ≤ length out.old }
+    ensures { map T.value out.new ≡ overwrite w (λ i. T.value v) (map T.value out.old) }
+{
+    for i in 0..w {
+        out[i] = v;
+    }
 }
 
 // The first values of column c.
@@ -231,6 +253,8 @@ pub trait Stage {
 
     ghost ROWS: { ℕ };
 
+    // Kept: half and s as two numbers: the calls differ in both (`half(s)` and s, half of another shift, 64 and 7, 0 and 0), and a type of both would be made at
+    // each of them.
     fn stage<T: Output>(a: &[i16], count: usize, half: i32, s: u32, out: &mut [T])
         requires { StageNeeds ROWS POINTS a.now count half s (length out.old) }
         ensures { StageGives POINTS a.now count half s T.made (map T.value out.old) (map T.value out.new) };
@@ -238,7 +262,7 @@ pub trait Stage {
     ghost size: { StageSize ROWS POINTS };
 }
 
-// Kept: an impl for each size. A and V of `stage_of` are products of Q and N, which Rust takes for no const argument.
+// Kept: an impl for each size. `stage_of` takes A = Q × N and V = 4 × N beside Q and N, and no const argument may be a product of const parameters.
 pub struct Whole8;
 
 impl Line<8, 8> for Whole8 {

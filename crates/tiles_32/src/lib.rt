@@ -6,6 +6,7 @@ ghost use Rattle.std.proofs.Common.{rules};
 
 use tiles::{Line, Output, Stage, stage_of};
 
+// Kept: an impl for each size, as in `tiles`.
 pub struct Whole32;
 
 impl Line<32, 32> for Whole32 {

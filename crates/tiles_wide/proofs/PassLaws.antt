@@ -16,7 +16,6 @@ use native.Mathlib.Nat.{div-div-eq-div-mul, div-add-mod', mod-lt, div-lt_iff_lt-
 use native.Mathlib.Decide.{dec_lt}
 use native.Mathlib.Omega.{arith}
 use lib.Arith.{digits_lt}
-use lib.Dec.{T}
 use lib.IntN.{ℤ, pos, negsuc, ◌+ℤ◌, ◌*ℤ◌}
 use lib.ListN.{length, get_or, replicate, get_or-eq_default}
 use lib.Pow.{pow_pos, pow-add}
@@ -26,19 +25,18 @@ use Rattle.integers.specs.Shift.{pow2, shift_right}
 use Rattle.integers.specs.Sum.{sum}
 use Rattle.integers.specs.Within.{Within}
 use Rattle.integers.proofs.LinearLaws.{split, ring, diff_ext}
-use Rattle.integers.proofs.OrderLaws.{shr_shift, ≤ℤ_trans}
+use Rattle.integers.proofs.OrderLaws.{shr_shift}
 use Rattle.integers.proofs.ShiftLaws.{shift_right_zero, shift_right_within}
 use Rattle.integers.proofs.BoundLaws.{within_add, within_le, within_eq, within_pos}
 use Rattle.integers.proofs.SumLaws.{sum_cong, sum_add, sum_scale}
 use Rattle.integers.proofs.ListsLaws.{tabulate-length, tabulate-get_or}
 use Rattle.h265.specs.Matrix.{trans_matrix, abs_sum}
-use Rattle.h265.specs.Range.{clip_coeff, is_size}
+use Rattle.h265.specs.Range.{clip_coeff}
 use Rattle.h265.specs.Transform.{transform_line, block_at}
 use Rattle.h265.proofs.TransformLaws.{transform_line_cong}
 use Rattle.transform_1d.specs.Rows.{Placed, Filled}
 use Rattle.transform_1d.proofs.RowsLaws.{filled_cong, zeros-get_or}
 use Rattle.transform_1d.proofs.MatrixLaws.{transform_line_within}
-use Rattle.h265.proofs.RangeLaws.{size_cases}
 use Rattle.tiles.specs.Tile.{line_value}
 use Rattle.wide_parts.specs.Split.{high_of, low_of, Narrow, JoinNeeds}
 use Rattle.tiles_wide.specs.Pass.{limited_list, PassGives}

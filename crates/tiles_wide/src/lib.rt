@@ -3,8 +3,8 @@
 // Internal: no refusal; callers meet each `requires`.
 #![tactic(auto)]
 
-ghost use Rattle.std.specs.Prelude.{◌≡◌, ◌+◌, ◌*◌, ◌<◌, ◌≤◌, length};
-ghost use Rattle.tiles_wide.specs.Pass.{PassNeeds, PassGives};
+ghost use Rattle.std.specs.Prelude.{length};
+ghost use Rattle.tiles_wide.specs.Pass.{PassSizes, PassNeeds, PassGives};
 
 use tiles::{Stage, half};
 use wide_parts::{all_narrow, join, narrow, split};
@@ -17,7 +17,7 @@ fn parts<S: Stage, const A: usize, const G: usize>(
     shift: u32,
     out: &mut [i32],
 )
-    requires { PassNeeds S.ROWS S.POINTS range count shift (length s.now) (length out.old) × (A ≡ S.ROWS * S.POINTS) × (G ≡ S.POINTS * S.POINTS) }
+    requires { PassNeeds S.ROWS S.POINTS range count shift (length s.now) (length out.old) × PassSizes S.ROWS S.POINTS A G }
     ensures { PassGives S.ROWS S.POINTS range count shift s.now out.old out.new }
 {
     let mut h = [0i16; A];
@@ -37,7 +37,7 @@ pub fn pass<S: Stage, const A: usize, const G: usize>(
     shift: u32,
     out: &mut [i32],
 )
-    requires { PassNeeds S.ROWS S.POINTS range count shift (length s.now) (length out.old) × (A ≡ S.ROWS * S.POINTS) × (G ≡ S.POINTS * S.POINTS) }
+    requires { PassNeeds S.ROWS S.POINTS range count shift (length s.now) (length out.old) × PassSizes S.ROWS S.POINTS A G }
     ensures { PassGives S.ROWS S.POINTS range count shift s.now out.old out.new }
 {
     if all_narrow(s, A) {

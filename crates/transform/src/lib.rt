@@ -6,11 +6,10 @@ ghost use Rattle.refusal.specs.Written.{Writes};
 ghost use Rattle.transform_1d.specs.declared.Kind.TheVariants.{Dct, Dst};
 ghost use Rattle.transform_blocks.specs.Blocks.{bits16, bits32, plain_range, extended_range, inverted};
 
-use refusal::Refusal;
+use refusal::{Precision, Refusal};
 use transform_1d::Kind;
-use transform_blocks::precision;
 
-// Kept: six entry points, under the Rust's names, which C has.
+// Kept: six entry points, under the names of the ported Rust, which C has.
 // The inverse DCT of a block, plain range.
 pub fn inv_transform_into_scalar(
     coeff: &[i32],
@@ -21,7 +20,8 @@ pub fn inv_transform_into_scalar(
 ) -> Result<(), Refusal>
     ensures { Writes result out.new (inverted bits32 Dct n bit_depth plain_range nx coeff.now out.old) }
 {
-    transform_blocks::invert_32(Kind::Dct, n, precision(bit_depth, false), nx, coeff, out)
+    let plain = Precision::new(bit_depth, false);
+    transform_blocks::invert_32(Kind::Dct, n, plain, nx, coeff, out)
 }
 
 // The inverse DCT of a block, extended precision.
@@ -34,7 +34,8 @@ pub fn inv_transform_into_scalar_extended(
 ) -> Result<(), Refusal>
     ensures { Writes result out.new (inverted bits32 Dct n bit_depth extended_range nx coeff.now out.old) }
 {
-    transform_blocks::invert_32(Kind::Dct, n, precision(bit_depth, true), nx, coeff, out)
+    let extended = Precision::new(bit_depth, true);
+    transform_blocks::invert_32(Kind::Dct, n, extended, nx, coeff, out)
 }
 
 // The inverse DCT of a block, 16 bits wide.
@@ -58,7 +59,8 @@ pub fn inv_transform_dst_into_scalar(
 ) -> Result<(), Refusal>
     ensures { Writes result out.new (inverted bits32 Dst 4 bit_depth plain_range 4 coeff.now out.old) }
 {
-    transform_blocks::invert_32(Kind::Dst, 4, precision(bit_depth, false), 4, coeff, out)
+    let plain = Precision::new(bit_depth, false);
+    transform_blocks::invert_32(Kind::Dst, 4, plain, 4, coeff, out)
 }
 
 // The inverse 4×4 DST, extended precision.
@@ -69,7 +71,8 @@ pub fn inv_transform_dst_into_scalar_extended(
 ) -> Result<(), Refusal>
     ensures { Writes result out.new (inverted bits32 Dst 4 bit_depth extended_range 4 coeff.now out.old) }
 {
-    transform_blocks::invert_32(Kind::Dst, 4, precision(bit_depth, true), 4, coeff, out)
+    let extended = Precision::new(bit_depth, true);
+    transform_blocks::invert_32(Kind::Dst, 4, extended, 4, coeff, out)
 }
 
 // The inverse 4×4 DST, 16 bits wide.

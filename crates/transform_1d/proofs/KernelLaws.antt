@@ -2,7 +2,7 @@
 --   row_pair_even, -odd        what four rows add to a sum of even rows, and of odd rows
 --   added_suc                 one lane more
 --   room_mono                 a larger bound
---   half_sums_zero, -suc, -all no group; one group more; all groups
+--   half_sums_zero, -suc, -four no group; one group more; one group
 --   half_sums_output           the sum, or the difference, of both halves is the line
 use mathlib.Core.Path.{◌≡◌, refl, sym, ap, ap₂, ◌∙◌, subst}
 use mathlib.Core.List.{List}
@@ -27,16 +27,18 @@ use Rattle.transform_1d.specs.Lanes.{lane_place, mirrored, lane_matrix, line_sum
 use Rattle.transform_1d.specs.Kernel.{pair_most, row_pair, half_term, half_sum, SumsRoom, Added, HalfSums}
 
 -- ---- four rows
-module _ (t : List ℤ) (at : ℕ) (a b d f : ℤ) (j : ℕ) (l : j < 16) where
-  pub row_pair_even : get_or t (at + 2 * j + 1) (pos 0) *ℤ d +ℤ get_or t (at + 2 * j) (pos 0) *ℤ a ≡ row_pair t at a b d f j
+module _ (t : List ℤ) (a b d f : ℤ) (j : ℕ) (l : j < 16) where
+  pub row_pair_even : get_or t (2 * j + 1) (pos 0) *ℤ d +ℤ get_or t (2 * j) (pos 0) *ℤ a ≡ row_pair t 0 a b d f j
   unfolding row_pair
-  row_pair_even = rw (lt-ltb j 16 l)
+  row_pair_even =
+      let e : 2 * j ≡ 0 + 2 * j = omega arith in
+      rw (lt-ltb j 16 l) (ap₂ (λ (u v : ℕ). get_or t u (pos 0) *ℤ d +ℤ get_or t v (pos 0) *ℤ a) (let o : 2 * j + 1 ≡ 0 + 2 * j + 1 = omega arith in o) e)
 
-  pub row_pair_odd : get_or t (at + 2 * j + 33) (pos 0) *ℤ f +ℤ get_or t (at + 2 * j + 32) (pos 0) *ℤ b ≡ row_pair t at a b d f (16 + j)
+  pub row_pair_odd : get_or t (2 * j + 33) (pos 0) *ℤ f +ℤ get_or t (2 * j + 32) (pos 0) *ℤ b ≡ row_pair t 0 a b d f (16 + j)
   unfolding row_pair
   row_pair_odd =
-      let e : at + 2 * j + 33 ≡ at + 2 * (16 + j) + 1 = omega arith in
-      let o : at + 2 * j + 32 ≡ at + 2 * (16 + j) = omega arith in
+      let e : 2 * j + 33 ≡ 0 + 2 * (16 + j) + 1 = omega arith in
+      let o : 2 * j + 32 ≡ 0 + 2 * (16 + j) = omega arith in
       rw (le-ltb (16 + j) 16 (omega arith), e, o)
 
 module _ {g : ℕ → ℤ} {z₀ z : List ℤ} {j : ℕ} (s : Added g z₀ j z) (lj : j < 16) {v u : ℤ}
@@ -88,9 +90,6 @@ module _ (t s : List ℤ) (base stride : ℕ) where
         is = λ p l. get_or-replicate 32 p (pos 0) (pos 0) l ∙ sym (sum_zero (half_term t s base stride p));
         room = record { long = refl; at = λ p l. rw (get_or-replicate 32 p (pos 0) (pos 0) l) (record { within = omega arith }) };
       }
-
-  pub half_sums_all : {q k : ℕ} {z : List ℤ} → q ≡ k → HalfSums t s base stride q z → HalfSums t s base stride k z
-  half_sums_all {z = z} e x = subst (λ (i : ℕ). HalfSums t s base stride i z) e x
 
   -- the two terms that a group adds to sum p
   pair_terms : (q p : ℕ) → p < 32 → (x y : ℤ) → x ≡ get_or s (base + 4 * q * stride + p / 16 * stride) (pos 0)
@@ -146,6 +145,15 @@ module _ (t s : List ℤ) (base stride : ℕ) where
             | yes y ↦ rw (lt-ltb p 16 y) (ap (λ (j : ℕ). get_or s j (pos 0)) (e (omega arith)))
             | no d ↦ rw (le-ltb p 16 (omega arith)) (ap (λ (j : ℕ). get_or s j (pos 0)) (f (omega arith)))
           ]
+
+-- four rows, which are all of a line of 4 points
+pub half_sums_four : {t s : List ℤ} {base : ℕ} {y : List ℤ}
+    → Added (row_pair t 0 (get_or s base (pos 0)) (get_or s (base + 4) (pos 0)) (get_or s (base + 8) (pos 0)) (get_or s (base + 12) (pos 0))) (replicate 32 (pos 0)) 16 y
+    → HalfSums t s base 4 1 y
+half_sums_four {t} {s} {base} {y} a =
+    let e : base ≡ base + 4 * 0 * 4 = omega arith in
+    half_sums_suc t s base 4 0 (half_sums_zero t s base 4)
+    (subst (λ (k : ℕ). Added (row_pair t 0 (get_or s k (pos 0)) (get_or s (k + 4) (pos 0)) (get_or s (k + 8) (pos 0)) (get_or s (k + 12) (pos 0))) (replicate 32 (pos 0)) 16 y) e a)
 
 -- ---- both halves
 mirrored_even : (i : ℕ) (x : ℤ) → mirrored (2 * i) x ≡ x

@@ -5,29 +5,24 @@
 --   trans_matrix_within       entries of the DCT's matrices are at most 90 in size
 --   dst_matrix_within         entries of the DST's matrix are at most 90 in size
 --   Laid, laid               all that a block needs of a layout: its length, its small entries, the matrix it reads back as
---   line_needs_group            a line meets what each of its groups asks
---   line_needs_mono             a line for more points asks no more
-use mathlib.Core.Path.{◌≡◌, refl, sym, ap, ap₂, ◌∙◌}
+use mathlib.Core.Path.{◌≡◌, refl, sym, ap, ◌∙◌}
 use mathlib.Core.List.{List, [], ◌∷◌}
 use mathlib.Core.Bool.{Bool, true, false, cond, ◌&&◌}
 use Prim.Native.Nat.{ℕ, zero, suc, ◌+◌, ◌*◌, ◌-◌, ◌/◌, ◌%◌, ◌≤◌, ◌<◌}
-use native.Mathlib.Nat.{le_trans, add-mul, div-add-mod', not-suc-le-zero, le_of_suc-le-suc}
+use native.Mathlib.Nat.{not-suc-le-zero, le_of_suc-le-suc}
 use native.Mathlib.Decide.{dec_lt}
 use native.Mathlib.Omega.{arith}
 use borrow.Author.Tests.{lt-ltb}
 use lib.Dec.{T, ltb, leb, leb→le}
 use lib.IntN.{ℤ, pos, neg_ℤ}
 use lib.ListN.{length, get_or}
-use lib.Seq.{ext_get_or}
 use mir.Facts.{and_yes}
 use Rattle.integers.specs.Lists.{tabulate}
 use Rattle.integers.specs.Within.{Within}
 use Rattle.integers.proofs.BoundLaws.{within_neg, within_pos, within_eq, table_within}
 use Rattle.integers.proofs.ListsLaws.{tabulate-length, tabulate-get_or}
 use Rattle.h265.specs.Matrix.{folding_values, folding, folded_entry, folded_angle, trans_matrix32, trans_matrix, dst_entries, dst_matrix}
-use Rattle.transform_1d.specs.Lanes.{lane_row, lane_column, lane_entry, lanes, lane_place, mirrored, lane_matrix, SmallEntries, LineNeeds}
-use Rattle.transform_1d.specs.Kernel.{GroupNeeds}
-use Rattle.transform_1d.specs.Rows.{Filled}
+use Rattle.transform_1d.specs.Lanes.{lane_row, lane_column, lane_entry, lanes, lane_place, mirrored, lane_matrix, SmallEntries}
 use Rattle.transform_1d.proofs.KernelLaws.{lane_matrix_low, lane_matrix_high}
 
 pub lanes-length : (t : ℕ → ℕ → ℤ) (n : ℕ) → length (lanes t n) ≡ 16 * n
@@ -73,49 +68,6 @@ lane_matrix-lanes t n f m h k j hk hj =
           ∙ sym (h k (31 - j) hk (omega arith) (omega arith) (omega arith))
           ∙ ap (t k) (let e : 31 - (31 - j) ≡ j = omega arith in e)
     ]
-
-pub line_needs_group : {t s : List ℤ} {base stride groups : ℕ} → LineNeeds 32 t s base stride groups → (q : ℕ) → q < groups → GroupNeeds t s base stride q
-line_needs_group {stride = stride} a q h =
-    record {
-      few = omega (arith, a.few);
-      table = omega (arith, a.table);
-      small = a.small;
-      reads = omega (arith, a.reads (4 * q + 3) (omega arith), add-mul (4 * q) 3 stride);
-    }
-
-pub line_needs_mono : {n m : ℕ} {t s : List ℤ} {base stride groups : ℕ} → n ≤ m → LineNeeds n t s base stride groups → LineNeeds m t s base stride groups
-line_needs_mono h a = record { few = le_trans a.few h; table = a.table; small = a.small; reads = a.reads }
-
--- ---- the 32-point layout, filled from the matrix row by row of pairs
-abbrev pub pair_entry : List ℤ → ℕ → ℕ → ℤ
-pair_entry t a c = get_or t (128 * (a / 2) + 32 * (a % 2) + 64 * (c % 2) + c / 2) (pos 0)
-
-pub filled-lanes : {t r₀ r : List ℤ} → t ≡ tabulate 1024 (λ i. trans_matrix32 (i / 32) (i % 32)) → length r₀ ≡ 512
-    → Filled 32 32 (pair_entry t) 16 r₀ r → r ≡ lanes (trans_matrix 32) 32
-unfolding lanes lane_entry trans_matrix
-filled-lanes {t} {r₀} {r} e l f =
-    ext_get_or (pos 0) r (lanes (trans_matrix 32) 32) (f.long ∙ l ∙ sym (lanes-length (trans_matrix 32) 32))
-    (λ i h. at i (omega (arith, f.long)))
-  where
-    entry_of : (k : ℕ) → k < 1024 → get_or t k (pos 0) ≡ trans_matrix32 (k / 32) (k % 32)
-    entry_of k h = ap (λ (x : List ℤ). get_or x k (pos 0)) e ∙ tabulate-get_or 1024 (λ i. trans_matrix32 (i / 32) (i % 32)) k (pos 0) h
-
-    row-digits : (q o e j : ℕ) → j < 32 → (128 * q + 32 * o + 64 * e + j) / 32 ≡ 4 * q + 2 * e + o
-    row-digits q o e j h = omega arith
-
-    column-digits : (q o e j : ℕ) → j < 32 → (128 * q + 32 * o + 64 * e + j) % 32 ≡ j
-    column-digits q o e j h = omega arith
-
-    row_is : (i : ℕ) → 4 * (i / 32 / 2) + 2 * (i % 32 % 2) + i / 32 % 2 ≡ lane_row i * (32 / 32)
-    row_is i = let a : i % 32 % 2 ≡ i % 2 = omega arith in let b : i / 32 / 2 ≡ i / 64 = omega arith in omega arith
-
-    at : (i : ℕ) → i < 512 → get_or r i (pos 0) ≡ get_or (lanes (trans_matrix 32) 32) i (pos 0)
-    at i h =
-        ap (λ (k : ℕ). get_or r k (pos 0)) (sym (div-add-mod' i 32))
-        ∙ f.done (i / 32) (i % 32) (omega arith) (omega arith)
-        ∙ entry_of (128 * (i / 32 / 2) + 32 * (i / 32 % 2) + 64 * (i % 32 % 2) + i % 32 / 2) (omega arith)
-        ∙ ap₂ trans_matrix32 (row-digits (i / 32 / 2) (i / 32 % 2) (i % 32 % 2) (i % 32 / 2) (omega arith) ∙ row_is i) (column-digits (i / 32 / 2) (i / 32 % 2) (i % 32 % 2) (i % 32 / 2) (omega arith))
-        ∙ sym (tabulate-get_or 512 (lane_entry (trans_matrix 32) 32) i (pos 0) h ∙ rw (lt-ltb (lane_column i) 32 (omega arith)))
 
 -- ---- entries at most 90 in size
 abbrev all_at_most : ℕ → List ℕ → Bool

@@ -4,3 +4,4 @@ pub mod KernelLaws
 pub mod LanesLaws
 pub mod MatrixLaws
 pub mod KindLaws
+pub mod PlaceLaws

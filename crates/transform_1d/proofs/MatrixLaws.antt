@@ -3,23 +3,21 @@
 --   transform_line_cong       lines over matrices and data that agree
 --   transMatrix-absSum, dst_matrix-abs_sum   247, 479, 940, 1862 for n = 4, 8, 16, 32, and 242
 --   size_abs_sum   1862 for every size
---   trans_matrix_mirror_32   the right half of a matrix mirrors the left
---   Laid, laid, laid_32      all that a block needs of a layout: length, small entries, the matrix that it reads back as
+--   Laid, laid               all that a block needs of a layout: length, small entries, the matrix that it reads back as
 use mathlib.Core.Path.{◌≡◌, refl, sym, ap, ap₂, subst}
 use mathlib.Core.List.{List}
-use mathlib.Core.Bool.{Bool, ◌&&◌}
-use Prim.Native.Nat.{ℕ, zero, suc, ◌+◌, ◌*◌, ◌-◌, ◌/◌, ◌≤◌, ◌<◌}
+use mathlib.Core.Bool.{Bool}
+use Prim.Native.Nat.{ℕ, zero, suc, ◌+◌, ◌*◌, ◌/◌, ◌≤◌, ◌<◌}
 use native.Mathlib.Nat.{add-mul, mul-le-mul, mul-le-mul_right, le_trans, le_refl}
 use native.Mathlib.Omega.{arith}
 use lib.Dec.{T}
 use lib.IntN.{ℤ, pos, nat_abs, ◌+ℤ◌, ◌*ℤ◌}
 use lib.ListN.{length}
 use lib.Signed.{le_z, ◌≤ℤ◌}
-use mir.Facts.{and_yes}
 use Rattle.integers.specs.Sum.{sum}
 use Rattle.integers.specs.Within.{Within}
 use Rattle.integers.proofs.LinearLaws.{le_in}
-use Rattle.integers.proofs.OrderLaws.{≤ℤ_antisym, ≤ℤ_trans}
+use Rattle.integers.proofs.OrderLaws.{≤ℤ_trans}
 use Rattle.integers.proofs.MachineLaws.{abs_add, abs_mul}
 use Rattle.integers.proofs.SumLaws.{sum_cong}
 use Rattle.h265.specs.Matrix.{folding_values, folding, folded_entry, folded_angle, trans_matrix32, trans_matrix, dst_entries, dst_matrix, abs_sum}
@@ -27,8 +25,8 @@ use Rattle.h265.specs.Range.{is_size}
 use Rattle.h265.specs.Transform.{transform_line}
 use Rattle.h265.proofs.RangeLaws.{size_cases}
 use Rattle.integers.proofs.TestLaws.{all_below, all_below_at}
-use Rattle.transform_1d.specs.Lanes.{lanes, mirrored, lane_matrix, SmallEntries}
-use Rattle.transform_1d.proofs.LanesLaws.{lanes-length, lane_matrix-lanes, lanes_small, trans_matrix_within}
+use Rattle.transform_1d.specs.Lanes.{lanes, lane_matrix, SmallEntries}
+use Rattle.transform_1d.proofs.LanesLaws.{lanes-length, lane_matrix-lanes, lanes_small}
 
 pub transform_line_cong : (t u : ℕ → ℕ → ℤ) (n : ℕ) (x y : ℕ → ℤ) (m : ℕ)
     → ((k : ℕ) → k < n → t k m ≡ u k m) → ((k : ℕ) → k < n → x k ≡ y k) → transform_line t n x m ≡ transform_line u n y m
@@ -104,23 +102,6 @@ pub dst_matrix-abs_sum : (m : ℕ) → m < 4 → abs_sum dst_matrix 4 m ≤ℤ p
 unfolding all_below abs_sum sum dst_matrix dst_entries
 dst_matrix-abs_sum = abs_sum_of dst_matrix 4 242 tt
 
-module _ (n : ℕ) where
-  abbrev mirrors : ℕ → ℕ → Bool
-  mirrors k j =
-      le_z (trans_matrix n k (n - 1 - j)) (mirrored k (trans_matrix n k j)) && le_z (mirrored k (trans_matrix n k j)) (trans_matrix n k (n - 1 - j))
-
-  mirror_of : T (all_below n (λ k. all_below (n / 2) (mirrors k)))
-      → (k j : ℕ) → k < n → j < n / 2 → trans_matrix n k (n - 1 - j) ≡ mirrored k (trans_matrix n k j)
-  mirror_of h k j hk hj =
-      let x : ℤ = trans_matrix n k (n - 1 - j) in
-      let y : ℤ = mirrored k (trans_matrix n k j) in
-      let b = and_yes (le_z x y) (le_z y x) (all_below_at (n / 2) (mirrors k) (all_below_at n (λ k. all_below (n / 2) (mirrors k)) h k hk) j hj) in
-      ≤ℤ_antisym {x = x} {y = y} (record { le = b.0 }) (record { le = b.1 })
-
-pub trans_matrix_mirror_32 : (k j : ℕ) → k < 32 → j < 16 → trans_matrix 32 k (31 - j) ≡ mirrored k (trans_matrix 32 k j)
-unfolding all_below mirrored trans_matrix trans_matrix32 folded_entry folded_angle folding folding_values
-trans_matrix_mirror_32 = mirror_of 32 tt
-
 -- ---- a layout as a block uses it
 pub record Laid (t : ℕ → ℕ → ℤ) (n : ℕ) (xs : List ℤ) : Type 0 where
   pub some : 0 < n
@@ -130,14 +111,14 @@ pub record Laid (t : ℕ → ℕ → ℤ) (n : ℕ) (xs : List ℤ) : Type 0 whe
   pub small : SmallEntries xs
   pub reads : (k j : ℕ) → k < n → j < n → lane_matrix xs k j ≡ t k j
 
-laid_mirrored : (t : ℕ → ℕ → ℤ) (n : ℕ) {xs : List ℤ} → xs ≡ lanes t n → ((k m : ℕ) → Within 90 (t k m)) → 0 < n → n ≡ 4 * (n / 4) → n ≤ 32
-    → ((k j : ℕ) → k < n → 31 - j < n → j < 16 → 16 < n → t k (31 - j) ≡ mirrored k (t k j)) → Laid t n xs
-laid_mirrored t n {xs} e w s f m h =
-    subst (λ (l : List ℤ). Laid t n l) (sym e)
-    record { some = s; fours = f; most = m; long = omega (arith, lanes-length t n); small = lanes_small t n w; reads = lane_matrix-lanes t n f m h }
-
 pub laid : (t : ℕ → ℕ → ℤ) (n : ℕ) {xs : List ℤ} → xs ≡ lanes t n → ((k m : ℕ) → Within 90 (t k m)) → 0 < n → n ≡ 4 * (n / 4) → n ≤ 16 → Laid t n xs
-laid t n e w s f m = laid_mirrored t n e w s f (omega arith) (λ k j a b c d. absurd (let x : ⊥ = omega arith in x))
-
-pub laid_32 : {xs : List ℤ} → xs ≡ lanes (trans_matrix 32) 32 → Laid (trans_matrix 32) 32 xs
-laid_32 e = laid_mirrored (trans_matrix 32) 32 e (trans_matrix_within 32) (omega arith) refl (omega arith) (λ k j a b c d. trans_matrix_mirror_32 k j a c)
+laid t n e w s f m =
+    subst (λ (l : List ℤ). Laid t n l) (sym e)
+    record {
+      some = s;
+      fours = f;
+      most = omega (arith, m);
+      long = omega (arith, lanes-length t n);
+      small = lanes_small t n w;
+      reads = lane_matrix-lanes t n f (omega arith) (λ k j a b c d. absurd (let x : ⊥ = omega arith in x));
+    }

@@ -4,11 +4,9 @@
 --   SumsRoom b z                 z is 32 sums, none above b in size
 --   Added g z₀ j z           z is z₀ with g added in the first j lanes of both halves
 --   HalfSums                 z is the sums over q groups
---   GroupNeeds                 what group q of a line asks
 use Rattle.std.specs.Prelude.{◌≡◌, cond, List, ℕ, ◌+◌, ◌*◌, ◌/◌, ◌%◌, ◌<◌, ◌≤◌, ltb, ℤ, pos, nat_abs, ◌+ℤ◌, ◌*ℤ◌, get_or, length}
 use Rattle.integers.specs.Sum.{sum}
 use Rattle.integers.specs.Within.{Within}
-use Rattle.transform_1d.specs.Lanes.{SmallEntries}
 
 -- the largest size of two products of an entry and 16 bits: 2 × 90 × 2^15
 abbrev pub pair_most : ℕ
@@ -38,9 +36,3 @@ pub record Added (g : ℕ → ℤ) (z₀ : List ℤ) (j : ℕ) (z : List ℤ) : 
 pub record HalfSums (t s : List ℤ) (base stride q : ℕ) (z : List ℤ) : Type 0 where
   pub is : (p : ℕ) → p < 32 → get_or z p (pos 0) ≡ half_sum t s base stride q p
   pub room : SumsRoom (q * pair_most) z
-
-pub record GroupNeeds (t s : List ℤ) (base stride q : ℕ) : Type 0 where
-  pub few : q < 8
-  pub table : 64 * q + 64 ≤ length t
-  pub small : SmallEntries t
-  pub reads : base + 4 * q * stride + 3 * stride < length s

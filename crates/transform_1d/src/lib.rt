@@ -1,15 +1,15 @@
-// One-dimensional inverse transforms on 16-bit data: the 32-point matrix, the layouts that the kernel reads, and the lines.
-// Internal: no depth, no limit, no refusal but row 4's test; callers meet each `requires`.
+// One-dimensional inverse transforms on 16-bit data: the 32-point matrix, the layouts that the kernel reads, and the lines of 4 points.
+// Internal: no limit, no refusal but row 4's test; callers meet each `requires`.
 #![tactic(auto)]
 
 ghost use Rattle.std.specs.Prelude.{◌≡◌, ℕ, ◌+◌, ◌*◌, ◌/◌, ◌%◌, ◌<◌, ◌≤◌, ◌^◌, pos, nat_abs, ◌+ℤ◌, ◌*ℤ◌, length, get_or};
 ghost use Rattle.integers.specs.Lists.{tabulate};
 ghost use Rattle.integers.specs.Within.{Within};
 ghost use Rattle.h265.specs.Matrix.{trans_matrix32, trans_matrix, dst_matrix};
+ghost use Rattle.h265.specs.Transform.{stage_two_shift};
 ghost use Rattle.transform_1d.specs.Kinds.{dst_refused};
 ghost use Rattle.transform_1d.specs.Lanes.{lanes, SmallEntries, LineNeeds, LineSums};
-ghost use Rattle.transform_1d.specs.Kernel.{pair_most, row_pair, SumsRoom, Added, HalfSums, GroupNeeds};
-ghost use Rattle.transform_1d.specs.Rows.{Placed};
+ghost use Rattle.transform_1d.specs.Kernel.{pair_most, row_pair, SumsRoom, Added};
 
 // The kind of a transform: a DCT of 4 to 32 points, or the 4-point DST.
 #[derive(Clone, Copy, Debug, PartialEq, Eq)]
@@ -26,6 +26,15 @@ pub fn dst_refused(kind: Kind, n: usize) -> bool
         Kind::Dct => false,
         Kind::Dst => n != 4,
     }
+}
+
+// The shift of stage two, by the depth and the range of coefficients.
+#[tactic(auto, unfolding(h265::specs::Transform::stage_two_shift))]
+pub fn stage_two_shift(bit_depth: u8, range: u32) -> u32
+    requires { (bit_depth ≤ range + 5) × (range ≤ 22) }
+    ensures { result ≡ stage_two_shift bit_depth range }
+{
+    range + 5 - (bit_depth as u32)
 }
 
 // Row k of the 32-point matrix in line k.
@@ -73,26 +82,6 @@ const LANES_4: [i16; 64] = [
 ];
 
 #[rattlefmt::skip]
-const LANES_8: [i16; 128] = [
-     64,  83,  64,  36,  64, -36,  64, -83,  64, -83,  64, -36,  64,  36,  64,  83,   0,   0,   0,   0,   0,   0,   0,   0,   0,   0,   0,   0,   0,   0,   0,   0,
-     89,  75,  75, -18,  50, -89,  18, -50, -18,  50, -50,  89, -75,  18, -89, -75,   0,   0,   0,   0,   0,   0,   0,   0,   0,   0,   0,   0,   0,   0,   0,   0,
-     64,  36, -64, -83, -64,  83,  64, -36,  64, -36, -64,  83, -64, -83,  64,  36,   0,   0,   0,   0,   0,   0,   0,   0,   0,   0,   0,   0,   0,   0,   0,   0,
-     50,  18, -89, -50,  18,  75,  75, -89, -75,  89, -18, -75,  89,  50, -50, -18,   0,   0,   0,   0,   0,   0,   0,   0,   0,   0,   0,   0,   0,   0,   0,   0,
-];
-
-#[rattlefmt::skip]
-const LANES_16: [i16; 256] = [
-     64,  89,  64,  75,  64,  50,  64,  18,  64, -18,  64, -50,  64, -75,  64, -89,  64, -89,  64, -75,  64, -50,  64, -18,  64,  18,  64,  50,  64,  75,  64,  89,
-     90,  87,  87,  57,  80,   9,  70, -43,  57, -80,  43, -90,  25, -70,   9, -25,  -9,  25, -25,  70, -43,  90, -57,  80, -70,  43, -80,  -9, -87, -57, -90, -87,
-     83,  75,  36, -18, -36, -89, -83, -50, -83,  50, -36,  89,  36,  18,  83, -75,  83, -75,  36,  18, -36,  89, -83,  50, -83, -50, -36, -89,  36, -18,  83,  75,
-     80,  70,   9, -43, -70, -87, -87,   9, -25,  90,  57,  25,  90, -80,  43, -57, -43,  57, -90,  80, -57, -25,  25, -90,  87,  -9,  70,  87,  -9,  43, -80, -70,
-     64,  50, -64, -89, -64,  18,  64,  75,  64, -75, -64, -18, -64,  89,  64, -50,  64, -50, -64,  89, -64, -18,  64, -75,  64,  75, -64,  18, -64, -89,  64,  50,
-     57,  43, -80, -90, -25,  57,  90,  25,  -9, -87, -87,  70,  43,   9,  70, -80, -70,  80, -43,  -9,  87, -70,   9,  87, -90, -25,  25, -57,  80,  90, -57, -43,
-     36,  18, -83, -50,  83,  75, -36, -89, -36,  89,  83, -75, -83,  50,  36, -18,  36, -18, -83,  50,  83, -75, -36,  89, -36, -89,  83,  75, -83, -50,  36,  18,
-     25,   9, -70, -25,  90,  43, -80, -57,  43,  70,   9, -80, -57,  87,  87, -90, -87,  90,  57, -87,  -9,  80, -43, -70,  80,  57, -90, -43,  70,  25, -25,  -9,
-];
-
-#[rattlefmt::skip]
 const LANES_DST: [i16; 64] = [
      29,  84,  55, -29,  74, -74,  84,  55,   0,   0,   0,   0,   0,   0,   0,   0,   0,   0,   0,   0,   0,   0,   0,   0,   0,   0,   0,   0,   0,   0,   0,   0,
      74,  55,  74, -84,   0,  74, -74, -29,   0,   0,   0,   0,   0,   0,   0,   0,   0,   0,   0,   0,   0,   0,   0,   0,   0,   0,   0,   0,   0,   0,   0,   0,
@@ -106,25 +95,11 @@ pub fn trans_matrix() -> [i16; 1024]
 }
 
 // The layout of the 4-point DCT.
-// Kept: a function for each layout. Their lengths differ, so that one over the size would copy each out of a slice that its `match` picks.
+// Kept: a function for each layout: the whole of it is its constant, and `edit_tables` and `contributions` read the DST's alone.
 pub fn lanes_4() -> [i16; 64]
     ensures { result ≡ lanes (trans_matrix 4) 4 }
 {
     LANES_4
-}
-
-// The layout of the 8-point DCT.
-pub fn lanes_8() -> [i16; 128]
-    ensures { result ≡ lanes (trans_matrix 8) 8 }
-{
-    LANES_8
-}
-
-// The layout of the 16-point DCT.
-pub fn lanes_16() -> [i16; 256]
-    ensures { result ≡ lanes (trans_matrix 16) 16 }
-{
-    LANES_16
 }
 
 // The layout of the 4-point DST.
@@ -134,32 +109,8 @@ pub fn lanes_dst() -> [i16; 64]
     LANES_DST
 }
 
-// Sixteen pairs of neighbours: entries from `from` on, each beside the one 64 places, that is two rows, after it.
-fn lay_pairs(t: &[i16], from: usize, r: &mut [i16], at: usize)
-    requires { (from + 80 ≤ length t.now) × (at + 32 ≤ length r.old) }
-    ensures { Placed at 32 (λ i. get_or t.now (from + 64 * (i % 2) + i / 2) (pos 0)) r.old r.new }
-{
-    for j in 0..16 {
-        let x = t[from + j];
-        let y = t[from + 64 + j];
-        r[at + 2 * j] = x;
-        r[at + 2 * j + 1] = y;
-    }
-}
-
-// The layout of the 32-point DCT, laid out from the matrix.
-pub fn lanes_32() -> [i16; 512]
-    ensures { result ≡ lanes (trans_matrix 32) 32 }
-{
-    let t = trans_matrix();
-    let mut r = [0i16; 512];
-    for i in 0..16 {
-        lay_pairs(&t[..], 128 * (i / 2) + 32 * (i % 2), &mut r[..], i * 32);
-    }
-    r
-}
-
 // Two products.
+// Kept: beside `pair` of `lines`, whose entries are twice as large and whose bound follows: neither crate builds on the other, and would do so for one line.
 fn pair(u: i16, x: i16, v: i16, y: i16) -> i32
     requires { Within 90 u × Within 90 v }
     ensures { (result ≡ u *ℤ x +ℤ v *ℤ y) × Within pair_most result }
@@ -167,14 +118,14 @@ fn pair(u: i16, x: i16, v: i16, y: i16) -> i32
     (u as i32) * (x as i32) + (v as i32) * (y as i32)
 }
 
-// Four rows more in each of sixteen lanes: the even rows in z[0..16], the odd rows in z[16..32].
+// Four rows in each of sixteen lanes: the even rows in z[0..16], the odd rows in z[16..32].
 // The products come before the sums are read, and the odd place first: else the compiler leaves its 16-bit multiply-add.
-fn add_rows(z: &mut [i32; 32], t: &[i16], at: usize, a: i16, b: i16, d: i16, f: i16)
-    requires { (at + 64 ≤ length t.now) × SmallEntries t.now × SumsRoom (2 ^ 26) z.old }
-    ensures { Added (row_pair t.now at a b d f) z.old 16 z.new }
+fn add_rows(z: &mut [i32; 32], t: &[i16], a: i16, b: i16, d: i16, f: i16)
+    requires { (64 ≤ length t.now) × SmallEntries t.now × SumsRoom (2 ^ 26) z.old }
+    ensures { Added (row_pair t.now 0 a b d f) z.old 16 z.new }
 {
     for j in 0..16 {
-        let i = at + 2 * j;
+        let i = 2 * j;
         let p = pair(t[i + 1], d, t[i], a);
         let r = pair(t[i + 33], f, t[i + 32], b);
         let e = z[j] + p;
@@ -184,40 +135,12 @@ fn add_rows(z: &mut [i32; 32], t: &[i16], at: usize, a: i16, b: i16, d: i16, f: 
     }
 }
 
-// One group of four rows more.
-// Kept: where a line stands in s, as numbers. Each call makes them anew, and what is asked of them is one record (`LineNeeds`).
-fn add_group(z: &mut [i32; 32], t: &[i16], s: &[i16], base: usize, stride: usize, q: usize)
-    requires { GroupNeeds t.now s.now base stride q × HalfSums t.now s.now base stride q z.old }
-    ensures { HalfSums t.now s.now base stride (q + 1) z.new }
-{
-    let k = base + 4 * q * stride;
-    add_rows(
-        z,
-        t,
-        64 * q,
-        s[k],
-        s[k + stride],
-        s[k + 2 * stride],
-        s[k + 3 * stride],
-    );
-}
-
-// The kernel: sixteen lanes, with even and odd rows in separate sums, over four rows a group.
-fn lane_sums(t: &[i16], s: &[i16], base: usize, stride: usize, groups: usize) -> [i32; 32]
-    requires { LineNeeds 32 t.now s.now base stride groups }
-    ensures { HalfSums t.now s.now base stride groups result }
+// The 4-point line over s[base], s[base + 4], ..; with the DST's layout, the DST's.
+pub fn idct_raw_4(t: &[i16], s: &[i16], base: usize) -> [i32; 32]
+    requires { LineNeeds 4 t.now s.now base 4 1 }
+    ensures { LineSums t.now s.now base 4 1 result }
 {
     let mut z = [0i32; 32];
-    for q in 0..groups {
-        add_group(&mut z, t, s, base, stride, q);
-    }
+    add_rows(&mut z, t, s[base], s[base + 4], s[base + 8], s[base + 12]);
     z
-}
-
-// The 4-point line; with the DST's layout, the DST's.
-pub fn idct_raw_4(t: &[i16], s: &[i16], base: usize, stride: usize, groups: usize) -> [i32; 32]
-    requires { LineNeeds 4 t.now s.now base stride groups }
-    ensures { LineSums t.now s.now base stride groups result }
-{
-    lane_sums(t, s, base, stride, groups)
 }

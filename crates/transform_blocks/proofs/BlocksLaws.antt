@@ -10,7 +10,7 @@
 use Rattle.std.specs.Prelude.{Ok, Err, map}
 use Rattle.std.proofs.lemmas.List.{map-id}
 use mathlib.Core.Path.{◌≡◌, refl, sym, ap, ap₂, ◌∙◌, subst}
-use mathlib.Core.Bool.{Bool, false, ◌&&◌, cond}
+use mathlib.Core.Bool.{Bool, true, false, ◌&&◌, cond}
 use mathlib.Core.List.{List, [], ◌∷◌}
 use Prim.Native.Nat.{ℕ, ◌*◌, ◌%◌, min, ◌≤◌, ◌<◌}
 use native.Mathlib.Decide.{dec_lt}
@@ -82,10 +82,10 @@ module _ (narrow : Bool) (kind : Kind) (n b : ℕ) (x : Bool) (nx : ℕ) (coeff 
       let p = (first_accepted tt tt tt (rungs narrow n b x (length coeff) (length out)) h).0 in
       record { size = p.0; depth = p.1.0; width = p.1.1.0; input = p.1.1.1.0; output = p.1.1.1.1.0 }
 
-  pub inverted_outside : (first : ℕ) → Checked narrow n b x (length coeff) (length out) → first_outside (transform_range b x) n nx coeff ≡ first → first < n * n
-      → inverted narrow kind n b x nx coeff out ≡ left out (refusal_at (transform_range b x) n coeff first)
+  pub inverted_outside : Checked narrow n b x (length coeff) (length out) → ltb (first_outside (transform_range b x) n nx coeff) (n * n) ≡ true
+      → inverted narrow kind n b x nx coeff out ≡ left out (refusal_at (transform_range b x) n coeff (first_outside (transform_range b x) n nx coeff))
   unfolding inverted
-  inverted_outside first c e h = rw (c.size, c.depth, c.width, c.input, c.output, e, lt-ltb first (n * n) h)
+  inverted_outside c h = rw (c.size, c.depth, c.width, c.input, c.output, h)
 
   pub inverted_done : Checked narrow n b x (length coeff) (length out) → n * n ≤ first_outside (transform_range b x) n nx coeff
       → inverted narrow kind n b x nx coeff out ≡ wrote (overwrite (n * n) (row_order n (residual (matrix_of kind n) n b (transform_range b x) nx coeff)) out)

@@ -13,16 +13,6 @@ ghost use Rattle.transform_blocks.specs.Blocks.{block_ladder, inverted, OfKind, 
 use refusal::{Precision, Refusal};
 use transform_1d::Kind;
 
-// Depth and flag as one value.
-pub fn precision(bit_depth: u8, extended: bool) -> Precision
-    ensures { (result.bit_depth ≡ bit_depth) × (result.extended ≡ extended) }
-{
-    Precision {
-        bit_depth,
-        extended,
-    }
-}
-
 // The refusals of both widths, lowest number first, by the lengths of the buffers. Row 3 is of 16-bit output alone.
 // Kept: a flag for row 3, which stands in the middle of the order: two functions would each repeat what is before it and after it.
 fn block_refusal(
@@ -34,22 +24,14 @@ fn block_refusal(
 ) -> Result<(), Refusal>
     ensures { answer result ≡ block_ladder (refused tt) (accepted tt) narrow n precision.bit_depth precision.extended coeff out }
 {
-    if refusal::size_refused(n) {
-        return Err(Refusal::SizeInvalid);
-    }
-    if refusal::depth_refused(precision.bit_depth) {
-        return Err(Refusal::DepthInvalid);
-    }
-    if narrow && refusal::width_refused(precision) {
-        return Err(Refusal::WidthTooNarrow);
-    }
-    if coeff < n * n {
-        return Err(Refusal::InputTooShort);
-    }
-    if out < n * n {
-        return Err(Refusal::OutputTooShort);
-    }
-    Ok(())
+    refusal::check_size(n)?;
+    refusal::check_depth(precision.bit_depth)?;
+    refusal::check(
+        narrow && refusal::width_refused(precision),
+        Refusal::WidthTooNarrow,
+    )?;
+    refusal::check_room(n, coeff, Refusal::InputTooShort)?;
+    refusal::check_room(n, out, Refusal::OutputTooShort)
 }
 
 // Reads each element: of a slice of signed numbers, only what is read is known to fit its type. The loop does nothing, and the compiler leaves it out.
@@ -75,13 +57,20 @@ pub fn invert_16(
     requires { OfKind kind n }
     ensures { Writes result out.new (inverted bits16 kind n bit_depth plain_range nx coeff.now out.old) }
 {
-    block_refusal(true, n, precision(bit_depth, false), coeff.len(), out.len())?;
+    block_refusal(
+        true,
+        n,
+        Precision::new(bit_depth, false),
+        coeff.len(),
+        out.len(),
+    )?;
     elements_fit(coeff, n * n);
     stages::residual_plain(kind, n, bit_depth, nx.min(n), coeff, out);
     Ok(())
 }
 
 // Both stages in the range given; the plain range has its own, on 16-bit data.
+// Kept: kind, size, depth and range apart, as in `stages_wide`: the refusals, the range and the stages each take some of them.
 fn invert_in(
     kind: Kind,
     n: usize,
@@ -116,10 +105,7 @@ pub fn invert_32(
     block_refusal(false, n, precision, coeff.len(), out.len())?;
     let range = coefficients::transform_range(precision);
     let columns = nx.min(n);
-    let first = coefficients::first_outside(coeff, n, columns, range);
-    if first < n * n {
-        return Err(coefficients::refusal_at(coeff, n, first, range));
-    }
+    coefficients::check_inside(coeff, n, columns, range)?;
     invert_in(kind, n, precision.bit_depth, range, columns, coeff, out);
     Ok(())
 }

@@ -13,14 +13,14 @@ ghost use Rattle.transform_1d.specs.Rows.{Placed};
 ghost use Rattle.wide_parts.specs.Split.{high_of, low_of, Narrow, JoinNeeds};
 
 // Whether x takes more than 16 bits.
-// Kept: std's `i16::try_from` goes by a flag and 64 bits for each value, where `narrow_run` tests several at a time.
 pub fn is_wide(x: i32) -> bool
     ensures { result ≡ false → SFits w16 x }
 {
-    x < -32768 || 32767 < x
+    i16::try_from(x).is_err()
 }
 
-// Whether the first w values all fit 16 bits. No early end: so the compiler tests several at a time.
+// Whether the first w values all fit 16 bits.
+// Kept: a loop with no early end, here and in `stages_wide`, of which the compiler tests several at a time; `all`, compiled, tests one at a time.
 // Kept: w beside the slices, here and below. What is lent is longer than what is read, and a part of a slice that is handed on costs the
 // compiler its vectors (crate `stages`).
 fn narrow_run(s: &[i32], w: usize) -> bool
@@ -48,6 +48,7 @@ pub fn all_narrow(s: &[i32], w: usize) -> bool
 }
 
 // The first w values, in 16 bits.
+// Kept: no twin of `narrow` in `stages`, which limits values of any size: these fit as they stand, and none is limited.
 pub fn narrow(s: &[i32], w: usize, l: &mut [i16])
     requires { (w ≤ length s.now) × (w ≤ length l.old) × Narrow w s.now }
     ensures { Placed 0 w (λ j. get_or s.now j (pos 0)) l.old l.new }
@@ -58,6 +59,7 @@ pub fn narrow(s: &[i32], w: usize, l: &mut [i16])
 }
 
 // The high part of x.
+// Kept: k as a number with its bound in each contract: a type for it would be made once, in `tiles_wide`, and taken apart at every shift.
 fn high(x: i32, k: u32) -> i16
     requires { k ≤ 7 }
     ensures { result ≡ high_of k x }

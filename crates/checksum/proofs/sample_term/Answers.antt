@@ -12,9 +12,6 @@ low_most s = byte_xor _ _ (low_byte s.args.sample) s.requires
 high_most : (s : Start) → bit_xor (s.args.sample / 256) s.args.mask < 256
 high_most s = byte_xor _ _ (high_byte s.args.sample s.ranges.sample.fits) s.requires
 
-pub overflow_add-result : goal.overflow_add-result
-overflow_add-result c = record { fits = omega (arith, low_most (goal.at.overflow_add-result c).Start, high_most (goal.at.overflow_add-result c).Start) }
-
 pub returns-then-bit_depth-gt8 : goal.returns-then-bit_depth-gt8
 unfolding sample_term
 returns-then-bit_depth-gt8 c = (rw (lt-ltb 8 c.args.bit_depth (omega arith)), omega (arith, low_most (goal.at.returns-then-bit_depth-gt8 c).Start, high_most (goal.at.returns-then-bit_depth-gt8 c).Start))

@@ -2,5 +2,5 @@
 use Rattle.coefficients.proofs.OutsideLaws.{AllReach}
 use Rattle.coefficients.proofs.all_inside.Given as goal
 
-abbrev pub invariant-loop-i : goal.invariant-loop-i
-invariant-loop-i l = AllReach l.coeff l.i l.bits
+abbrev pub invariant-loop-x : goal.invariant-loop-x
+invariant-loop-x l = AllReach l.coeff l.x-index l.bits

@@ -1,31 +1,60 @@
--- `coefficients::is_outside` meets its contract: one test is `is_below`, the other is against the upper end of the range.
-use mathlib.Core.Path.{◌≡◌, sym, ◌∙◌}
+-- `coefficients::is_outside` meets its contract: the ends of the range that is searched are those of the definition.
+use mathlib.Core.Path.{◌≡◌, refl}
+use mathlib.Core.Bool.{Bool, true, false, not, ◌&&◌, ◌||◌}
 use Prim.Native.Nat.{◌*◌, ◌%◌, ◌^◌}
 use native.Mathlib.Omega.{arith}
-use lib.IntN.{pos, ◌-ℤ◌}
+use lib.IntN.{ℤ, pos, ◌-ℤ◌}
 use lib.Signed.{lt_z}
 use mir.Syntax.{w32}
 use mir.Val.{to_z}
-use Rattle.integers.proofs.MachineLaws.{round_trip, shl_one}
+use Rattle.std.specs.Ordering.{int_cmp, is_le}
+use Rattle.integers.proofs.MachineLaws.{round_trip, shl_one, lt_z_of_le, lt_z_true}
+use Rattle.integers.proofs.OrderLaws.{<ℤ-≤ℤ}
 use Rattle.h265.specs.Range.{coeff_min, coeff_max, outside_range}
-use Rattle.h265.proofs.RangeLaws.{coeff_max_within, coeff_max_eq}
+use Rattle.h265.proofs.RangeLaws.{coeff_min_within, coeff_max_within, coeff_min_eq, coeff_max_eq}
 use Rattle.coefficients.proofs.OutsideLaws.{range_fits}
 use Rattle.coefficients.proofs.is_outside.Goals as goal
-use Rattle.coefficients.proofs.is_outside.Goals.{After-is_below, Start}
+use Rattle.coefficients.proofs.is_outside.Goals.{Start}
 
-below_is : (c : After-is_below) → c.is_below.result ≡ lt_z c.args.x (coeff_min c.args.range)
-below_is c = rw (round_trip c.ranges.x) at c.is_below.ensures
+le_is : (x y : ℤ) → is_le (int_cmp x y) ≡ not (lt_z y x)
+le_is x y = by_tests (lt_z x y) (lt_z y x) refl refl
+  where
+    by_tests : (a b : Bool) → lt_z x y ≡ a → lt_z y x ≡ b → is_le (int_cmp x y) ≡ not (lt_z y x)
+    by_tests true b e f = rw (e, lt_z_of_le (<ℤ-≤ℤ (lt_z_true e))) refl
+    by_tests false true e f = rw (e, f) refl
+    by_tests false false e f = rw (e, f) refl
 
-pub returns-then-is_below : goal.returns-then-is_below
-unfolding outside_range
-returns-then-is_below c = rw (sym (below_is (goal.at.returns-then-is_below c).After-is_below) ∙ c.if-is_below.true)
+outside_is : (lo hi x : ℤ) → not (is_le (int_cmp lo x) && is_le (int_cmp x hi)) ≡ lt_z x lo || lt_z hi x
+outside_is lo hi x = rw (le_is lo x, le_is x hi) (either (lt_z x lo) (lt_z hi x))
+  where
+    either : (a b : Bool) → not (not a && not b) ≡ a || b
+    either true b = refl
+    either false true = refl
+    either false false = refl
+
+low_is : (c : Start) → pos 0 -ℤ to_z w32 ((1 * 2 ^ c.args.range) % 4294967296) ≡ coeff_min c.args.range
+low_is c = coeff_min_eq _ c.args.range (shl_one w32 c.args.range (omega (arith, c.requires)))
 
 high_is : (c : Start) → to_z w32 ((1 * 2 ^ c.args.range) % 4294967296) -ℤ pos 1 ≡ coeff_max c.args.range
 high_is c = coeff_max_eq _ c.args.range (shl_one w32 c.args.range (omega (arith, c.requires)))
 
-pub overflow_sub-result : goal.overflow_sub-result
-overflow_sub-result c = rw (high_is (goal.at.overflow_sub-result c).Start) (range_fits c.args.range c.requires (coeff_max_within c.args.range))
+pub overflow_sub-end : goal.overflow_sub-end
+overflow_sub-end c = rw (low_is c) (range_fits c.args.range c.requires (coeff_min_within c.args.range))
+
+pub overflow_sub-end-2 : goal.overflow_sub-end-2
+overflow_sub-end-2 c = rw (high_is (goal.at.overflow_sub-end-2 c).Start) (range_fits c.args.range c.requires (coeff_max_within c.args.range))
 
 pub returns : goal.returns
 unfolding outside_range
-returns c = rw (round_trip (overflow_sub-result c), round_trip c.ranges.x, high_is (goal.at.returns c).Start, sym (below_is (goal.at.returns c).After-is_below) ∙ c.if-is_below.false)
+returns c =
+    rw (
+      c.contains.ensures.value,
+      c.new.ensures.start,
+      c.new.ensures.end,
+      c.new.ensures.exhausted,
+      round_trip c.ranges.x,
+      round_trip (overflow_sub-end (goal.at.returns c).Start),
+      low_is (goal.at.returns c).Start,
+      round_trip (overflow_sub-end-2 (goal.at.returns c).Start),
+      high_is (goal.at.returns c).Start,
+    ) (outside_is (coeff_min c.args.range) (coeff_max c.args.range) c.args.x)

@@ -5,7 +5,7 @@ use native.Mathlib.Omega.{arith}
 use lib.Arith.{digits_lt}
 use Rattle.integers.specs.Within.{Within}
 use Rattle.h265.specs.Range.{transform_range}
-use Rattle.h265.specs.Transform.{block_at}
+use Rattle.h265.specs.Transform.{block_at, stage_two_shift}
 use Rattle.h265.proofs.RangeLaws.{transform_range_least, transform_range_most, transform_range_depth}
 use Rattle.edit_tables.specs.Tables.{StageNeeds}
 use Rattle.edit_blocks.proofs.FindLaws.{range_within, stage_ask, one_within, between_within, Prepared, prepared_ask, written_least, written_most}
@@ -29,11 +29,8 @@ coeff_within c k j hk hj =
     let a = c.args in
     range_within (transform_range a.precision.bit_depth a.precision.extended) _ (transform_range_most a.precision.bit_depth a.precision.extended c.requires.depth.1) (c.requires.range (k * a.n + j) (digits_lt hk hj))
 
-pub overflow_add-shift : goal.overflow_add-shift
-overflow_add-shift c = record { fits = omega (arith, range_is c) }
-
-pub overflow_sub-shift : goal.overflow_sub-shift
-overflow_sub-shift c = omega (arith, range_is (goal.at.overflow_sub-shift c).After-transform_range-range, c.requires.depth)
+pub stage_two_shift-shift-requires : goal.stage_two_shift-shift-requires
+stage_two_shift-shift-requires c = (omega (arith, range_is (goal.at.stage_two_shift-shift-requires c).After-transform_range-range, c.requires.depth), (range_is (goal.at.stage_two_shift-shift-requires c).After-transform_range-range).1)
 
 one_ask : (c : After-d-1) → StageNeeds c.args.n c.matrix-t.result c.widened-d.result
 one_ask c =
@@ -89,11 +86,15 @@ prepared c =
       two = y.along_rows-twos.ensures;
     }
 
+shift_within : (c : After-all_indices-arg-2-1) → (1 ≤ c.stage_two_shift-shift.result) × (c.stage_two_shift-shift.result ≤ 12)
+unfolding stage_two_shift
+shift_within c = rw c.stage_two_shift-shift.ensures (omega (arith, range_is (range_at c), c.requires.depth), omega (arith, range_is (range_at c)))
+
 pub all_indices-requires : goal.all_indices-requires
 all_indices-requires c =
     let t = range_at c in
     let s = t in (
-      prepared_ask (prepared c) (omega (arith, range_is t, s.requires.depth), omega (arith, range_is t)) s.requires.targets s.requires.wants,
+      prepared_ask (prepared c) (shift_within c) s.requires.targets s.requires.wants,
       s.requires.leasts,
       s.requires.mosts,
     )
@@ -105,6 +106,6 @@ returns c =
     let t = range_at (goal.at.returns c).After-all_indices-arg-2-1 in
     let s = t in
     let a = s.args in (
-      d.all_indices.ensures.0 ∙ written_least a.precision.bit_depth a.precision.extended t.transform_range-range.ensures (prepared (goal.at.returns c).After-all_indices-arg-2-1) a.target.now a.wanted.now s.requires.coeff a.least.now,
-      d.all_indices.ensures.1 ∙ written_most a.precision.bit_depth a.precision.extended t.transform_range-range.ensures (prepared (goal.at.returns c).After-all_indices-arg-2-1) a.target.now a.wanted.now s.requires.coeff a.most.now,
+      (rw d.stage_two_shift-shift.ensures at d.all_indices.ensures.0) ∙ written_least a.precision.bit_depth a.precision.extended t.transform_range-range.ensures (prepared (goal.at.returns c).After-all_indices-arg-2-1) a.target.now a.wanted.now s.requires.coeff a.least.now,
+      (rw d.stage_two_shift-shift.ensures at d.all_indices.ensures.1) ∙ written_most a.precision.bit_depth a.precision.extended t.transform_range-range.ensures (prepared (goal.at.returns c).After-all_indices-arg-2-1) a.target.now a.wanted.now s.requires.coeff a.most.now,
     )

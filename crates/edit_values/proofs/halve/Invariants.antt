@@ -6,7 +6,7 @@ use Rattle.edit_values.specs.Sample.{past}
 use Rattle.edit_values.proofs.halve.Given as goal
 
 abbrev pub invariant-loop-low : goal.invariant-loop-low
-invariant-loop-low l = (l.from ≤ l.low) × (l.low ≤ l.high) × (l.high ≤ l.to) × ((o : ℕ) → l.from ≤ o → o < l.low → past l.p l.strict o ≡ false) × ((o : ℕ) → l.high ≤ o → o < l.to → past l.p l.strict o ≡ true)
+invariant-loop-low l = (l.fn.span.from ≤ l.low) × (l.low ≤ l.high) × (l.high ≤ l.fn.span.to) × ((o : ℕ) → l.fn.span.from ≤ o → o < l.low → past l.p l.strict o ≡ false) × ((o : ℕ) → l.high ≤ o → o < l.fn.span.to → past l.p l.strict o ≡ true)
 
 abbrev pub decreases-loop-low : goal.decreases-loop-low
 decreases-loop-low l = l.high - l.low

@@ -10,13 +10,6 @@ use native.Mathlib.Omega.{arith}
 use Rattle.edit_values.proofs.sample.Goals as goal
 use Rattle.edit_values.proofs.sample.Goals.{After-stage_one-between}
 
-pub mac-requires-2 : goal.mac-requires-2
-mac-requires-2 c =
-    let d = c in
-    let s = d in
-    rw (round_trip (rest_two_fits s.requires.0), round_trip (entry_two_fits s.requires.0), round_trip (sfits_of d.stage_one-between.type_inv))
-    (s.requires.0.rest_two, s.requires.0.entry_two, within_le (omega arith) d.stage_one-between.ensures.1)
-
 between_is : (c : After-stage_one-between) → let a = c.args in c.stage_one-between.result ≡ stage_one_by a.p a.value
 unfolding stage_one_by
 between_is c =

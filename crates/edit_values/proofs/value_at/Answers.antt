@@ -1,12 +1,10 @@
 -- `edit_values::value_at` meets its contract: a place of at most 2^23 less at most 2^22.
 use mathlib.Core.Path.{◌≡◌, refl}
-use native.Mathlib.Omega.{arith}
 use borrow.Author.Rules.{sfits_of}
 use lib.IntN.{◌-ℤ◌}
 use lib.Pow.{pow_mono}
 use mir.Syntax.{w64}
 use mir.Val.{to_z, of_z}
-use mir.Facts.{to_z_pos}
 use Rattle.integers.specs.Within.{Within}
 use Rattle.integers.proofs.MachineLaws.{round_trip}
 use Rattle.integers.proofs.BoundLaws.{within_add, within_neg, within_pos, within_fits}
@@ -16,9 +14,9 @@ use Rattle.edit_values.proofs.value_at.Goals as goal
 use Rattle.edit_values.proofs.value_at.Goals.{After-pow2}
 
 module _ (c : After-pow2) where
-  sum_is : to_z w64 c.args.place -ℤ to_z w64 (of_z w64 c.pow2.result) ≡ value_at c.args.range c.args.place
+  sum_is : to_z w64 (of_z w64 c.from.result) -ℤ to_z w64 (of_z w64 c.pow2.result) ≡ value_at c.args.range c.args.place
   unfolding value_at coeff_min
-  sum_is = rw (to_z_pos w64 {n = c.args.place} (omega (arith, c.requires.1)), round_trip (sfits_of c.pow2.type_inv), c.pow2.ensures)
+  sum_is = rw (round_trip {w = w64} (sfits_of c.from.type_inv), c.from.ensures, round_trip (sfits_of c.pow2.type_inv), c.pow2.ensures)
 
   value_within : Within 12582912 (value_at c.args.range c.args.place)
   unfolding value_at coeff_min

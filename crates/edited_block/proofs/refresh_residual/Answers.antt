@@ -1,12 +1,11 @@
 -- `edited_block::refresh_residual` meets its contract: the refusals are the ladder's, and what passes them meets what stage two asks.
-use mathlib.Core.Path.{◌≡◌, refl, sym, ap, ◌∙◌}
+use mathlib.Core.Path.{◌≡◌, refl, ap, ◌∙◌}
 use Prim.Native.Nat.{ℕ, ◌*◌}
 use native.Mathlib.Omega.{arith}
 use lib.ListN.{length}
 use Rattle.std.proofs.Common.{rules, Err}
 use Rattle.integers.specs.Lists.{overwrite}
 use Rattle.h265.specs.Transform.{row_order}
-use Rattle.refusal.specs.Outcome.{answer}
 use Rattle.block_rules.specs.Edit.{zero_source, residual_of}
 use Rattle.block_rules.specs.Work.{EditNeeds}
 use Rattle.block_rules.specs.Opening.{Opening, range_of}
@@ -23,14 +22,14 @@ returns-in_err-block_refusal c =
     let s = c in
     let told : c.from_residual.result ≡ Err c.in_err-block_refusal.field-0.0 = search rules in
     rw told
-    (rw (refresh_refused (opening (goal.at.returns-in_err-block_refusal c).Start) s.args.inter.now s.args.residual.now c.in_err-block_refusal.field-0.0 (ap answer (sym c.in_err-block_refusal.was) ∙ c.block_refusal.ensures))
+    (rw (refresh_refused (opening (goal.at.returns-in_err-block_refusal c).Start) s.args.inter.now s.args.residual.now c.in_err-block_refusal.field-0.0 (c.in_err-block_refusal.ensures))
     (record { answered = refl; out = refl }))
 
 -- no condition of the ladder holds
 fits : (c : In_ok-block_refusal) → Fits (opening (goal.at.In_ok-block_refusal c).Start) (staged c.args.inter.now c.args.residual.now)
 fits c =
     let s = c in
-    ladder_passed (opening (goal.at.In_ok-block_refusal c).Start) (staged s.args.inter.now s.args.residual.now) (ap answer (sym c.in_ok-block_refusal.was) ∙ c.block_refusal.ensures)
+    ladder_passed (opening (goal.at.In_ok-block_refusal c).Start) (staged s.args.inter.now s.args.residual.now) (c.in_ok-block_refusal.ensures)
 
 ask : (c : In_ok-block_refusal) → EditNeeds c.args.kind c.args.n c.args.precision.bit_depth (range_of (opening (goal.at.In_ok-block_refusal c).Start)) 1024 (length c.args.inter.now) (length c.args.residual.now)
 ask c =

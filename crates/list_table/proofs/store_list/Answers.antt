@@ -1,26 +1,29 @@
 -- `list_table::store_list` meets its contract: the ladder, and the place of the lowest free number.
-use native.Mathlib.Omega.{arith}
+use mathlib.Core.Path.{◌≡◌}
+use Rattle.std.proofs.Common.{rules, Err}
 use Rattle.list_table.proofs.AnswerLaws.{store_length, store_short, store_stream, store_full, store_done}
 use Rattle.list_table.proofs.store_list.Goals as goal
 
-pub returns-then-list-ne64 : goal.returns-then-list-ne64
-returns-then-list-ne64 c = store_length _ _ _ _ c.if-list-ne64.true
+pub returns-in_err-check_list : goal.returns-in_err-check_list
+returns-in_err-check_list c =
+    let told : c.from_residual.result ≡ Err c.in_err-check_list.field-0.0 = search rules in
+    let e = c.in_err-check_list.ensures {u = tt} in
+    rw told (store_length _ _ _ _ e.0 e.1)
 
-pub returns-then-table-lt1584 : goal.returns-then-table-lt1584
-returns-then-table-lt1584 c = store_short _ _ _ _ c.if-list-ne64.false c.if-table-lt1584.true
+pub returns-in_err-check_table : goal.returns-in_err-check_table
+returns-in_err-check_table c =
+    let told : c.from_residual-in_err-check_table.result ≡ Err c.in_err-check_table.field-0.0 = search rules in
+    let e = c.in_err-check_table.ensures {u = tt} in
+    rw told (store_short _ _ _ _ (c.in_ok-check_list.ensures {u = tt}).0 e.0 e.1)
 
-pub returns-then-stream-gt1 : goal.returns-then-stream-gt1
-returns-then-stream-gt1 c = store_stream _ _ _ _ c.if-list-ne64.false c.if-table-lt1584.false c.if-stream-gt1.true
+pub returns-in_err-check : goal.returns-in_err-check
+returns-in_err-check c =
+    let told : c.from_residual-in_err-check.result ≡ Err c.in_err-check.field-0.0 = search rules in
+    let e = c.in_err-check.ensures {u = tt} in
+    rw told (store_stream _ _ _ _ (c.in_ok-check_list.ensures {u = tt}).0 (c.in_ok-check_table.ensures {u = tt}).0 e.0 e.1)
 
-pub returns-then-number-ge12 : goal.returns-then-number-ge12
-returns-then-number-ge12 c =
-    let e = c in
-    store_full _ _ _ _ e.if-list-ne64.false e.if-table-lt1584.false c.lowest_free-number.result (omega arith) c.lowest_free-number.ensures c.if-number-ge12.true
+pub returns-in_default : goal.returns-in_default
+returns-in_default c = store_full _ _ _ _ (c.in_ok-check_list.ensures {u = tt}).0 (c.in_ok-check_table.ensures {u = tt}).0 (c.in_ok-check.ensures {u = tt}) (c.in_default.ensures {u = tt})
 
 pub returns : goal.returns
-returns c =
-    let p = c in
-    let a = p in
-    let l = a in
-    let e = l in
-    store_done _ _ _ _ e.if-list-ne64.false e.if-table-lt1584.false l.lowest_free-number.result a.start_of.result _ (omega arith) l.lowest_free-number.ensures a.if-number-ge12.false a.start_of.ensures p.put_place.ensures
+returns c = store_done _ _ _ _ (c.in_ok-check_list.ensures {u = tt}).0 (c.in_ok-check_table.ensures {u = tt}).0 (c.in_ok-check.ensures {u = tt}) c.in-Some.number c.start_of.result _ (c.in-Some.ensures {u = tt}) c.start_of.ensures c.put_place.ensures

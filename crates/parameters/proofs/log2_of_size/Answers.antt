@@ -1,28 +1,9 @@
--- `parameters::log2_of_size` meets its contract: three arms name a size, and the fourth size is what is left.
-use mathlib.Core.Path.{◌≡◌, refl}
-use Prim.Native.Nat.{ℕ}
-use lib.Dec.{T}
-use Rattle.h265.specs.Range.{is_size, log2_size}
-use Rattle.h265.proofs.RangeLaws.{size_cases}
+-- `parameters::log2_of_size` meets its contract: the power of two at the logarithm and the one above it stand around the size.
+use native.Mathlib.Nat.{two-pow-succ}
+use native.Mathlib.Omega.{arith}
+use Rattle.parameters.proofs.ParametersLaws.{log2_exact}
 use Rattle.parameters.proofs.log2_of_size.Goals as goal
 
-pub returns-in-4 : goal.returns-in-4
-unfolding log2_size
-returns-in-4 c = rw c.in-4.is
-
-pub returns-in-8 : goal.returns-in-8
-unfolding log2_size
-returns-in-8 c = rw c.in-8.is
-
-pub returns-in-16 : goal.returns-in-16
-unfolding log2_size
-returns-in-16 c = rw c.in-16.is
-
-last : (n : ℕ) → T (is_size n) → (n ≡ 4 → ⊥) → (n ≡ 8 → ⊥) → (n ≡ 16 → ⊥) → ◌≡◌ {A = ℕ} 5 (log2_size n)
-unfolding log2_size
-last n t =
-    size_cases (λ m. (m ≡ 4 → ⊥) → (m ≡ 8 → ⊥) → (m ≡ 16 → ⊥) → ◌≡◌ {A = ℕ} 5 (log2_size m))
-    (λ a b d. absurd (a refl)) (λ a b d. absurd (b refl)) (λ a b d. absurd (d refl)) (λ a b d. refl) n t
-
-pub returns-in_default : goal.returns-in_default
-returns-in_default c = let r = c.in_default.in_default-own.rest in last c.args.n c.requires r.0.0.1 r.0.1 r.1
+pub returns : goal.returns
+returns c =
+    log2_exact c.args.n c.ilog2.result c.requires c.ilog2.ensures.power_le (omega (arith, c.ilog2.ensures.next_power_gt, two-pow-succ c.ilog2.result))

@@ -41,8 +41,7 @@ limited_is c = rw (round_trip c.ranges.qp_prime) at c.limited_qp.ensures
 
 pub scale_of_qp-requires : goal.scale_of_qp-requires
 scale_of_qp-requires c =
-    let a = c in
-    rw (limited_is c) (clip_qp_prime_bound a.args.precision.bit_depth a.args.qp_prime a.requires.shallow)
+    rw (limited_is c) (clip_qp_prime_bound c.args.precision.bit_depth c.args.qp_prime c.requires.shallow)
 
 factor_is : (c : After-scale_of_qp) → pos 16 *ℤ c.scale_of_qp.result ≡ pos (16 * scale_of_qp c.limited_qp.result)
 factor_is c = ap (λ (z : ℤ). pos 16 *ℤ z) c.scale_of_qp.ensures ∙ pos-*ℤ-pos 16 (scale_of_qp c.limited_qp.result)
@@ -52,15 +51,13 @@ end_most c = pow_mono (range_fits (goal.at.limited_qp-requires c).After-transfor
 
 pub overflow_sub-result : goal.overflow_sub-result
 overflow_sub-result c =
-    let p = c in
-    rw (round_trip (sfits_of p.pow2-end.type_inv), coeff_min_eq p.pow2-end.result p.transform_range-range.result p.pow2-end.ensures)
-    (within_fits {b = 4194304} tt (within_le (end_most (goal.at.overflow_sub-result c).After-pow2-end) (coeff_min_within p.transform_range-range.result)))
+    rw (round_trip (sfits_of c.pow2-end.type_inv), coeff_min_eq c.pow2-end.result c.transform_range-range.result c.pow2-end.ensures)
+    (within_fits {b = 4194304} tt (within_le (end_most (goal.at.overflow_sub-result c).After-pow2-end) (coeff_min_within c.transform_range-range.result)))
 
 pub overflow_sub-result-2 : goal.overflow_sub-result-2
 overflow_sub-result-2 c =
-    let p = c in
-    rw (round_trip (sfits_of p.pow2-end.type_inv), coeff_max_eq p.pow2-end.result p.transform_range-range.result p.pow2-end.ensures)
-    (within_fits {b = 4194304} tt (within_le (end_most (goal.at.overflow_sub-result-2 c).After-pow2-end) (coeff_max_within p.transform_range-range.result)))
+    rw (round_trip (sfits_of c.pow2-end.type_inv), coeff_max_eq c.pow2-end.result c.transform_range-range.result c.pow2-end.ensures)
+    (within_fits {b = 4194304} tt (within_le (end_most (goal.at.overflow_sub-result-2 c).After-pow2-end) (coeff_max_within c.transform_range-range.result)))
 
 pub overflow_mul-result : goal.overflow_mul-result
 overflow_mul-result c =
@@ -70,18 +67,17 @@ overflow_mul-result c =
 pub returns : goal.returns
 unfolding dequant_of bd_shift
 returns c =
-    let p = c in
     rw (
       round_trip (overflow_mul-result c),
       round_trip (overflow_sub-result c),
       round_trip (overflow_sub-result-2 c),
       round_trip (sfits_of c.scale_of_qp.type_inv),
-      round_trip (sfits_of p.pow2-half.type_inv),
-      round_trip (sfits_of p.pow2-end.type_inv),
+      round_trip (sfits_of c.pow2-half.type_inv),
+      round_trip (sfits_of c.pow2-end.type_inv),
       factor_is c,
       limited_is (goal.at.returns c).After-limited_qp,
-      coeff_min_eq p.pow2-end.result p.transform_range-range.result p.pow2-end.ensures,
-      coeff_max_eq p.pow2-end.result p.transform_range-range.result p.pow2-end.ensures,
-      p.pow2-half.ensures,
-      p.transform_range-range.ensures,
+      coeff_min_eq c.pow2-end.result c.transform_range-range.result c.pow2-end.ensures,
+      coeff_max_eq c.pow2-end.result c.transform_range-range.result c.pow2-end.ensures,
+      c.pow2-half.ensures,
+      c.transform_range-range.ensures,
     )

@@ -13,12 +13,9 @@ use Rattle.integers.proofs.MachineLaws.{round_trip, sfits_abs, abs_neg}
 use Rattle.integers.proofs.ClipLaws.{clip3_cases, clamp_clips}
 use Rattle.h265.specs.Quantization.{qp_bd_offset, qp_prime}
 use Rattle.h265.proofs.QuantizationLaws.{qp_prime_high, qp_prime_low, qp_prime_mid, qp_prime_bound}
+use Rattle.parameters.proofs.ParametersLaws.{offset_small}
 use Rattle.parameters.proofs.qp_prime_of.Goals as goal
 use Rattle.parameters.proofs.qp_prime_of.Goals.{After-clamp, After-offset_of-offset}
-
-offset_small : (b : ℕ) → b ≤ 16 → qp_bd_offset b ≤ 48
-unfolding qp_bd_offset
-offset_small b h = omega arith
 
 small : (c : After-offset_of-offset) → c.offset_of-offset.result ≤ 48
 small c = rw c.offset_of-offset.ensures (offset_small c.args.bit_depth c.requires.1)

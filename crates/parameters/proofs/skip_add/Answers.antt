@@ -42,15 +42,6 @@ overflow_sub-result c =
 shift_is : (c : Then-t-gt0) → to_z w32 (of_z w32 (to_z w32 (of_z w32 c.args.t) -ℤ pos 1)) ≡ pos (nat_abs c.args.t - 1)
 shift_is c = round_trip (overflow_sub-result c) ∙ rw (round_trip c.ranges.t) (less_one c.args.t (above c))
 
-pub overflow_cast-result : goal.overflow_cast-result
-overflow_cast-result c = rw (shift_is c) (tt, record { fits = omega (arith, c.requires) })
-
-pub overflow_cast-result-then-t-gt0 : goal.overflow_cast-result-then-t-gt0
-overflow_cast-result-then-t-gt0 c = rw (shift_is c) (sfits_abs (omega (arith, c.requires)))
-
-pub overflow_shl-result : goal.overflow_shl-result
-overflow_shl-result c = rw (shift_is c) (omega (arith, c.requires))
-
 pub returns-then-t-gt0 : goal.returns-then-t-gt0
 returns-then-t-gt0 c = rw (shift_is c) (shl_one w32 (nat_abs c.args.t - 1) (omega (arith, c.requires)) ∙ add_above c.args.t (above c))
 

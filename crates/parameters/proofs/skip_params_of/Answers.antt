@@ -18,9 +18,8 @@ use Rattle.parameters.proofs.skip_params_of.Goals.{After-transform_range-range}
 
 range_fits : (c : After-transform_range-range) → (15 ≤ c.transform_range-range.result) × (c.transform_range-range.result ≤ 22)
 range_fits c =
-    let a = c in
     rw c.transform_range-range.ensures
-    (transform_range_least a.args.precision.bit_depth a.args.precision.extended, transform_range_most a.args.precision.bit_depth a.args.precision.extended a.requires.shallow)
+    (transform_range_least c.args.precision.bit_depth c.args.precision.extended, transform_range_most c.args.precision.bit_depth c.args.precision.extended c.requires.shallow)
 
 pub overflow_cast-tr_shift : goal.overflow_cast-tr_shift
 overflow_cast-tr_shift c = sfits_abs (omega (arith, range_fits c))
@@ -29,8 +28,7 @@ overflow_cast-tr_shift c = sfits_abs (omega (arith, range_fits c))
 shift_is : (c : After-transform_range-range) → to_z w32 c.transform_range-range.result -ℤ to_z w32 (c.args.precision.bit_depth + c.args.log2n) ≡ ts_shift c.transform_range-range.result c.args.precision.bit_depth c.args.log2n
 unfolding ts_shift
 shift_is c =
-    let a = c in
-    ap₂ ◌-ℤ◌ (to_z_pos w32 (omega (arith, range_fits c))) (to_z_pos w32 {n = a.args.precision.bit_depth + a.args.log2n} (omega (arith, a.requires)))
+    ap₂ ◌-ℤ◌ (to_z_pos w32 (omega (arith, range_fits c))) (to_z_pos w32 {n = c.args.precision.bit_depth + c.args.log2n} (omega (arith, c.requires)))
 
 shift_small : (r b l : ℕ) → 15 ≤ r → r ≤ 22 → b + l ≤ 21 → nat_abs (ts_shift r b l) ≤ 22
 unfolding ts_shift
@@ -38,8 +36,7 @@ shift_small r b l h k m = (within_out {b = 22} (pos r -ℤ pos (b + l)) (omega (
 
 small : (c : After-transform_range-range) → nat_abs (ts_shift c.transform_range-range.result c.args.precision.bit_depth c.args.log2n) ≤ 22
 small c =
-    let a = c in
-    shift_small c.transform_range-range.result a.args.precision.bit_depth a.args.log2n (range_fits c).0 (range_fits c).1 (omega (arith, a.requires))
+    shift_small c.transform_range-range.result c.args.precision.bit_depth c.args.log2n (range_fits c).0 (range_fits c).1 (omega (arith, c.requires))
 
 fits : (c : After-transform_range-range) → SFits w32 (to_z w32 c.transform_range-range.result -ℤ to_z w32 (c.args.precision.bit_depth + c.args.log2n))
 fits c = rw (shift_is c) (sfits_abs (omega (arith, small c)))
@@ -55,13 +52,12 @@ skip_add-requires c =
 pub returns : goal.returns
 unfolding transform_skip_of
 returns c =
-    let a = c in
     rw (
       round_trip (sfits_of c.skip_add.type_inv),
       c.skip_add.ensures,
       round_trip (fits (goal.at.returns c).After-transform_range-range),
       shift_is (goal.at.returns c).After-transform_range-range,
       c.params_of-dequant.ensures,
-      round_trip a.ranges.qp_prime,
+      round_trip c.ranges.qp_prime,
       c.transform_range-range.ensures,
     )

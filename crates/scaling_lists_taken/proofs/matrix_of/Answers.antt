@@ -3,9 +3,6 @@ use native.Mathlib.Omega.{arith}
 use Rattle.scaling_lists_taken.proofs.NumberLaws.{matrix_id_eq, matrix_id_bound}
 use Rattle.scaling_lists_taken.proofs.matrix_of.Goals as goal
 
-pub overflow_mul-result : goal.overflow_mul-result
-overflow_mul-result c = record { fits = omega (arith, matrix_id_eq c.args.j c.matrix_step.result c.matrix_step.ensures.0, matrix_id_bound c.args.j c.requires) }
-
 pub returns : goal.returns
 returns c =
     let e = matrix_id_eq c.args.j c.matrix_step.result c.matrix_step.ensures.0 in

@@ -13,9 +13,6 @@ inside c =
     let a = c in
     rw (c.matrix_step-step.ensures.0, c.matrix_of.ensures.0) (reference_far a.args.j a.args.delta a.requires.0 a.requires.2)
 
-pub overflow_mul-reference : goal.overflow_mul-reference
-overflow_mul-reference c = record { fits = omega (arith, inside c, c.matrix_of.ensures.1) }
-
 pub overflow_sub-reference : goal.overflow_sub-reference
 overflow_sub-reference c = inside c
 
@@ -24,6 +21,3 @@ returns c =
     let a = c in
     let e = number_eq a.args.j a.args.delta c.matrix_step-step.result c.matrix_of.result c.matrix_step-step.ensures.0 c.matrix_of.ensures.0 in
     (e, rw e (number-before a.args.j a.args.delta a.requires.0 a.requires.2 a.requires.1))
-
-pub overflow_add-result : goal.overflow_add-result
-overflow_add-result c = record { fits = omega (arith, (returns c).1, c.requires.0) }

@@ -1,6 +1,8 @@
 -- `text::put_block` meets its contract: the rows from the present one on are left to write, and each took at most 12 bytes a number.
+use Prim.Native.Nat.{◌*◌}
 use native.Mathlib.Omega.{arith}
-use Rattle.text.proofs.BlockLaws.{next_row, row_fits, rows_all, rows_start, rows_more, block_done}
+use Rattle.std.proofs.Math.Nat.{add-sub_cancel_left}
+use Rattle.text.proofs.BlockLaws.{row-length, next_row, row_fits, rows_all, rows_start, rows_more, block_done}
 use Rattle.text.proofs.put_block.Goals as goal
 
 pub loop-row-init : goal.loop-row-init
@@ -11,14 +13,17 @@ overflow_mul-row c = omega (arith, row_fits c.loop-row.row c.args.n (omega arith
 
 pub put_row-end-requires : goal.put_row-end-requires
 put_row-end-requires c =
-    let q = row_fits c.loop-row.row c.args.n (omega arith) in
-    record { n_in_bounds = omega (arith, q); n_in_bounds_2 = omega (arith, q, c.loop-row.invariant.1.long) }
+    let l = c.loop-row in
+    let n = c.args.n in
+    let q = row_fits l.row n (omega arith) in
+    rw (add-sub_cancel_left (l.row * n) n, row-length c.args.values.now (l.row * n) n (omega (arith, q))) (omega (arith, q, l.invariant.1.long))
 
 pub loop-row-preserved : goal.loop-row-preserved
 loop-row-preserved c =
     let l = c.loop-row in
     let n = c.args.n in
-    let p = c.put_row-end.ensures in
+    let q = row_fits l.row n (omega arith) in
+    let p = rw (add-sub_cancel_left (l.row * n) n, row-length c.args.values.now (l.row * n) n (omega (arith, q))) at c.put_row-end.ensures in
     (omega (arith, next_row l.row n, p.bound), rows_more _ l.row n (omega arith) l.invariant.1 p.wrote)
 
 pub shape_of-out : goal.shape_of-out

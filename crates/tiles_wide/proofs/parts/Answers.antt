@@ -1,10 +1,10 @@
 -- `tiles_wide::parts` meets its contract: the stage's rows over both parts, joined, are those over the limited values.
-use mathlib.Core.Path.{◌≡◌, sym, ◌∙◌}
-use Prim.Native.Nat.{◌-◌, ◌*◌, ◌≤◌, ◌<◌}
+use mathlib.Core.Path.{◌≡◌, ◌∙◌}
+use Prim.Native.Nat.{◌-◌, ◌*◌, ◌≤◌}
 use native.Mathlib.Nat.{mul-le-mul_right}
 use native.Mathlib.Omega.{arith}
 use borrow.Author.Rules.{sfits_of}
-use lib.IntN.{ℤ, pos}
+use lib.IntN.{pos}
 use lib.ListN.{length, replicate}
 use mir.Syntax.{w32}
 use mir.Facts.{to_z-of_z}
@@ -24,7 +24,7 @@ join-requires g c =
     let s = c.split.ensures in
     let k = c.args.range - 15 in
     let r = within_eq (to_z-of_z {w = w32} (sfits_of c.half.type_inv)) c.half.ensures.1 in
-    let e : length (replicate g.row.G (pos 0)) ≡ n * n = length-replicate g.row.G (pos 0) ∙ p.2 in
+    let e : length (replicate g.row.G (pos 0)) ≡ n * n = length-replicate g.row.G (pos 0) ∙ p.1.turned in
     let room : c.args.count * n ≤ length (replicate g.row.G (pos 0)) = omega (arith, e, mul-le-mul_right n p.0.few) in (
       rw c.POINTS.ensures
           (join_ask {n = n} k _ _ (omega (arith, size_bound n z)) (size_abs_sum n z) r (highs_within {w = g.row.A} k c.args.s.now s.placed s.placed_2)
@@ -39,6 +39,6 @@ returns g c =
     let p = c.requires in
     let s = c.split.ensures in
     let h = to_z-of_z {w = w32} (sfits_of c.half.type_inv) ∙ c.half.ensures.0 in
-    pass_gives p.1
+    pass_gives p.1.values
     (joined_rows _ (omega (arith, size_bound n z)) (filled_same c.stage.ensures) (filled_same c.stage-2.ensures) (rw c.POINTS.ensures at c.join.ensures)
     (λ i m u v. parts-rows n c.args.range c.args.shift {w = g.row.A} c.args.s.now p.0.range_least p.0.parts h s.placed s.placed_2 i m))

@@ -11,5 +11,5 @@ pub returns-then-all_narrow : goal.returns-then-all_narrow
 returns-then-all_narrow g c =
     let p = c.requires in
     let h = to_z-of_z {w = w32} (sfits_of c.half.type_inv) ∙ c.half.ensures.0 in
-    pass_gives p.1
+    pass_gives p.1.values
     (narrow_rows g.S.Stage.POINTS c.args.range c.args.shift {w = g.row.A} c.args.s.now p.0.range_least h (c.all_narrow.ensures c.if-all_narrow.true) c.narrow.ensures (filled_same c.stage.ensures))

@@ -2,4 +2,4 @@
 use Rattle.transform.proofs.inv_transform_dst_into_scalar_extended.Goals as goal
 
 pub returns : goal.returns
-returns c = rw (c.precision.ensures.0, c.precision.ensures.1) at c.invert_32.ensures
+returns c = rw (c.new-extended.ensures.0, c.new-extended.ensures.1) at c.invert_32.ensures

@@ -6,4 +6,4 @@ pub invert_32-requires : goal.invert_32-requires
 invert_32-requires c = of_dct c.args.n
 
 pub returns : goal.returns
-returns c = rw (c.precision.ensures.0, c.precision.ensures.1) at c.invert_32.ensures
+returns c = rw (c.new-extended.ensures.0, c.new-extended.ensures.1) at c.invert_32.ensures

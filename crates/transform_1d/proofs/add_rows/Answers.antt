@@ -17,17 +17,17 @@ use Rattle.transform_1d.proofs.add_rows.Goals as goal
 use Rattle.transform_1d.proofs.add_rows.Goals.{After-e-1, After-o-1, After-pair-arg-in-loop-j-1, After-pair-arg-in-loop-j-3-1}
 
 module _ (c : After-pair-arg-in-loop-j-1) where
-  odd_fits : SFits w16 (get_or c.args.t.now (c.args.at + 2 * c.loop-j.j + 1) (pos 0))
+  odd_fits : SFits w16 (get_or c.args.t.now (2 * c.loop-j.j + 1) (pos 0))
   odd_fits = record { sfits = c.pair-arg-1.given }
 
-  even_fits : SFits w16 (get_or c.args.t.now (c.args.at + 2 * c.loop-j.j) (pos 0))
+  even_fits : SFits w16 (get_or c.args.t.now (2 * c.loop-j.j) (pos 0))
   even_fits = record { sfits = c.pair-arg-in-loop-j-1.given }
 
 module _ (c : After-pair-arg-in-loop-j-3-1) where
-  high_odd_fits : SFits w16 (get_or c.args.t.now (c.args.at + 2 * c.loop-j.j + 33) (pos 0))
+  high_odd_fits : SFits w16 (get_or c.args.t.now (2 * c.loop-j.j + 33) (pos 0))
   high_odd_fits = record { sfits = c.pair-arg-in-loop-j-2-1.given }
 
-  high_even_fits : SFits w16 (get_or c.args.t.now (c.args.at + 2 * c.loop-j.j + 32) (pos 0))
+  high_even_fits : SFits w16 (get_or c.args.t.now (2 * c.loop-j.j + 32) (pos 0))
   high_even_fits = record { sfits = c.pair-arg-in-loop-j-3-1.given }
 
 module _ (c : After-e-1) where
@@ -53,13 +53,13 @@ module _ (c : After-o-1) where
   r_fits = sfits_of c.pair-r.type_inv
 
   abbrev more : ℕ → ℤ
-  more = row_pair c.args.t.now c.args.at (to_z w16 (of_z w16 c.args.a)) (to_z w16 (of_z w16 c.args.b)) (to_z w16 (of_z w16 c.args.d)) (to_z w16 (of_z w16 c.args.f))
+  more = row_pair c.args.t.now 0 (to_z w16 (of_z w16 c.args.a)) (to_z w16 (of_z w16 c.args.b)) (to_z w16 (of_z w16 c.args.d)) (to_z w16 (of_z w16 c.args.f))
 
   p_is : c.pair-p.result ≡ more c.loop-j.j
-  p_is = (simp (to_z-of_z, odd_fits (goal.at.overflow_add-o-in-loop-j c).After-pair-arg-in-loop-j-1, even_fits (goal.at.overflow_add-o-in-loop-j c).After-pair-arg-in-loop-j-1) at c.pair-p.ensures.0) ∙ row_pair_even _ _ _ _ _ _ _ (omega arith)
+  p_is = (simp (to_z-of_z, odd_fits (goal.at.overflow_add-o-in-loop-j c).After-pair-arg-in-loop-j-1, even_fits (goal.at.overflow_add-o-in-loop-j c).After-pair-arg-in-loop-j-1) at c.pair-p.ensures.0) ∙ row_pair_even _ _ _ _ _ _ (omega arith)
 
   r_is : c.pair-r.result ≡ more (16 + c.loop-j.j)
-  r_is = (simp (to_z-of_z, high_odd_fits (goal.at.overflow_add-o-in-loop-j c).After-pair-arg-in-loop-j-3-1, high_even_fits (goal.at.overflow_add-o-in-loop-j c).After-pair-arg-in-loop-j-3-1) at c.pair-r.ensures.0) ∙ row_pair_odd _ _ _ _ _ _ _ (omega arith)
+  r_is = (simp (to_z-of_z, high_odd_fits (goal.at.overflow_add-o-in-loop-j c).After-pair-arg-in-loop-j-3-1, high_even_fits (goal.at.overflow_add-o-in-loop-j c).After-pair-arg-in-loop-j-3-1) at c.pair-r.ensures.0) ∙ row_pair_odd _ _ _ _ _ _ (omega arith)
 
   o_fits : SFits w32 (get_or c.loop-j.z (16 + c.loop-j.j) (pos 0) +ℤ c.pair-r.result)
   o_fits =

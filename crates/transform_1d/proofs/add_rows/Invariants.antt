@@ -3,4 +3,4 @@ use Rattle.transform_1d.specs.Kernel.{row_pair, Added}
 use Rattle.transform_1d.proofs.add_rows.Given as goal
 
 abbrev pub invariant-loop-j : goal.invariant-loop-j
-invariant-loop-j l = Added (row_pair l.t l.at l.a l.b l.d l.f) l.initial.z l.j l.z
+invariant-loop-j l = Added (row_pair l.t 0 l.a l.b l.d l.f) l.initial.z l.j l.z

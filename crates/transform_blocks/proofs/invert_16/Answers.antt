@@ -10,7 +10,6 @@ use Rattle.integers.specs.Lists.{overwrite}
 use Rattle.h265.specs.Range.{transform_range}
 use Rattle.h265.specs.Transform.{row_order, residual}
 use Rattle.h265.proofs.RangeLaws.{size_square}
-use Rattle.refusal.specs.Outcome.{answer}
 use Rattle.refusal.specs.Written.{wrote}
 use Rattle.refusal.proofs.ConditionLaws.{size_accepted, depth_accepted, width_accepted, block_room}
 use Rattle.transform_1d.specs.MatrixOf.{matrix_of}
@@ -24,13 +23,13 @@ returns-in_err-block_refusal c =
     let a = c.args in
     let told : c.from_residual.result ≡ Err c.in_err-block_refusal.field-0.0 = search rules in
     rw told
-    (ladder_refused true a.kind a.n a.bit_depth false a.nx a.coeff.now a.out.now c.in_err-block_refusal.field-0.0 (ap answer (sym c.in_err-block_refusal.was) ∙ (rw (c.precision.ensures.0, c.precision.ensures.1) at c.block_refusal.ensures)))
+    (ladder_refused true a.kind a.n a.bit_depth false a.nx a.coeff.now a.out.now c.in_err-block_refusal.field-0.0 (rw (c.new.ensures.0, c.new.ensures.1) at c.in_err-block_refusal.ensures))
 
 -- nothing before row 9 holds
 checked : (c : In_ok-block_refusal) → Checked true c.args.n c.args.bit_depth false (length c.args.coeff.now) (length c.args.out.now)
 checked c =
     let a = c.args in
-    ladder_passed true a.kind a.n a.bit_depth false a.nx a.coeff.now a.out.now (ap answer (sym c.in_ok-block_refusal.was) ∙ (rw (c.precision.ensures.0, c.precision.ensures.1) at c.block_refusal.ensures))
+    ladder_passed true a.kind a.n a.bit_depth false a.nx a.coeff.now a.out.now (rw (c.new.ensures.0, c.new.ensures.1) at c.in_ok-block_refusal.ensures)
 
 pub overflow_mul-n : goal.overflow_mul-n
 overflow_mul-n c =

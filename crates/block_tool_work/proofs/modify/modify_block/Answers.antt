@@ -15,13 +15,6 @@ use Rattle.block_tool_work.proofs.RotationLaws.{rotated_within, rotates, rotates
 use Rattle.block_tool_work.proofs.modify.modify_block.Goals as goal
 use Rattle.block_tool_work.proofs.modify.modify_block.Goals.{Joined-rotate, then-rotate, else-rotate}
 
-pub rotate_block-requires : goal.rotate_block-requires
-rotate_block-requires c =
-    let t = c in
-    let s = t in
-    let four : s.args.n ≡ 4 = rotation_accepted s.args.n (ap (λ r. rotation_refused r s.args.n) (sym t.if-rotate.true) ∙ s.requires.rotation) in
-    omega (arith, s.requires.room, ap (λ (m : ℕ). m * m) four)
-
 -- the block after rotation
 mid_is : (c : Joined-rotate) → let a = c.args in c.if-rotate.out ≡ overwrite (a.n * a.n) (rotated a.rotate a.n (at a.out.now)) a.out.now
 mid_is c =
@@ -46,9 +39,6 @@ accumulate_block-requires c =
       omega (arith, mid_length (goal.at.accumulate_block-requires c).Joined-rotate, s.requires.room),
       overwritten_summable (a.n * a.n) (rotated a.rotate a.n (at a.out.now)) a.out.now (mid_is (goal.at.accumulate_block-requires c).Joined-rotate) (rotated_within a.rotate a.n (at a.out.now) s.requires.summable.small),
     )
-
-pub shape_of-out : goal.shape_of-out
-shape_of-out c = c.accumulate_block.auto.out ∙ mid_length (goal.at.shape_of-out c).Joined-rotate
 
 pub returns : goal.returns
 returns c =

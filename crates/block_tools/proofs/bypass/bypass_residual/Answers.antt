@@ -1,10 +1,9 @@
 -- `block_tools::bypass::bypass_residual` meets its contract: refused where its ladder is, else the levels are copied and modified where they stand.
-use mathlib.Core.Path.{◌≡◌, sym, ap, ◌∙◌}
+use mathlib.Core.Path.{sym, ap, ◌∙◌}
 use native.Mathlib.Omega.{arith}
-use Rattle.std.proofs.Common.{rules, Err}
 use Rattle.h265.proofs.RangeLaws.{size_square}
 use Rattle.refusal.specs.Outcome.{answer}
-use Rattle.block_tool_work.proofs.ResidualLaws.{Passes, bypass_passed, bypass_block, bypass_modified, bypass_refused}
+use Rattle.block_tool_work.proofs.ResidualLaws.{Passes, bypass_passed, bypass_block, bypass_modified}
 use Rattle.block_tools.proofs.bypass.bypass_residual.Goals as goal
 use Rattle.block_tools.proofs.bypass.bypass_residual.Goals.{In_ok-bypass_checked}
 
@@ -35,12 +34,3 @@ returns c =
     let e = l in
     let a = e.args in
     bypass_modified a.accumulate a.rotate a.n a.precision.bit_depth a.precision.extended a.levels.now a.out.now (passes (goal.at.returns c).In_ok-bypass_checked) l.copy_levels.ensures m.modify_block.ensures
-
-pub returns-in_err-bypass_checked : goal.returns-in_err-bypass_checked
-returns-in_err-bypass_checked c =
-    let k = c in
-    let a = k.args in
-    let told : c.from_residual.result ≡ Err c.in_err-bypass_checked.field-0.0 = search rules in
-    rw told
-    (bypass_refused a.accumulate a.rotate a.n a.precision.bit_depth a.precision.extended a.levels.now a.out.now c.in_err-bypass_checked.field-0.0
-    (sym (ap answer c.in_err-bypass_checked.was) ∙ k.bypass_checked.ensures))

@@ -1,27 +1,19 @@
 -- `block_tools::skip::transform_skip_residual` meets its contract: refused with 25, refused as transform skip is, or the residuals that it wrote are modified where they stand.
 -- What is read of an i32 is the i32 itself.
 use mathlib.Core.Path.{◌≡◌, sym, ◌∙◌}
-use mathlib.Core.Bool.{false}
 use Rattle.std.proofs.Common.{rules, Err}
 use Rattle.std.proofs.lemmas.List.{map-id}
 use Rattle.scaling_values.specs.Given.{list_of}
-use Rattle.block_tool_work.specs.Work.{rotation_named}
-use Rattle.block_tool_work.proofs.ResidualLaws.{Skipped, skip_named, skip_done, skip_block, skip_modified, skip_refused}
+use Rattle.block_tool_work.proofs.ResidualLaws.{Skipped, skip_done, skip_block, skip_modified, skip_refused}
 use Rattle.block_tools.proofs.skip.transform_skip_residual.Goals as goal
-use Rattle.block_tools.proofs.skip.transform_skip_residual.Goals.{Else-rotation_named, In_ok-limited}
-
-pub returns-then-rotation_named : goal.returns-then-rotation_named
-returns-then-rotation_named c = skip_named _ _ _ _ _ _ _ _ _ (sym c.rotation_named.ensures ∙ c.if-rotation_named.true)
-
-not_named : (c : Else-rotation_named) → let a = c.args in rotation_named a.rotate a.n a.precision.bit_depth ≡ false
-not_named c = sym c.rotation_named.ensures ∙ c.if-rotation_named.false
+use Rattle.block_tools.proofs.skip.transform_skip_residual.Goals.{In_ok-limited}
 
 -- what transform skip wrote
 skipped : (c : In_ok-limited)
     → let a = c.args in Skipped a.accumulate a.rotate (list_of a.list) a.n a.qp_prime.0 a.precision.bit_depth a.precision.extended a.levels.now a.out.now c.in_ok-limited.limited c.transform_skip.new.out
 skipped c =
     let a = c.args in
-    skip_done a.accumulate a.rotate (list_of a.list) a.n a.qp_prime.0 a.precision.bit_depth a.precision.extended a.levels.now a.out.now (not_named (goal.at.In_ok-limited c).Else-rotation_named)
+    skip_done a.accumulate a.rotate (list_of a.list) a.n a.qp_prime.0 a.precision.bit_depth a.precision.extended a.levels.now a.out.now (sym c.rotation_refused.ensures ∙ c.in_ok-check.ensures)
     (rw (map-id a.out.now, map-id c.transform_skip.new.out) at c.in_ok-limited.ensures)
 
 pub modify_block-requires : goal.modify_block-requires
@@ -37,7 +29,7 @@ returns c =
 pub returns-in_err-limited : goal.returns-in_err-limited
 returns-in_err-limited c =
     let a = c.args in
-    let told : c.from_residual.result ≡ Err c.in_err-limited.field-0.0 = search rules in
+    let told : c.from_residual-in_err-limited.result ≡ Err c.in_err-limited.field-0.0 = search rules in
     rw told
-    (skip_refused a.accumulate a.rotate (list_of a.list) a.n a.qp_prime.0 a.precision.bit_depth a.precision.extended a.levels.now a.out.now c.in_err-limited.field-0.0 (not_named (goal.at.returns-in_err-limited c).Else-rotation_named)
+    (skip_refused a.accumulate a.rotate (list_of a.list) a.n a.qp_prime.0 a.precision.bit_depth a.precision.extended a.levels.now a.out.now c.in_err-limited.field-0.0 (sym c.rotation_refused.ensures ∙ c.in_ok-check.ensures)
     (rw (map-id a.out.now, map-id c.transform_skip.new.out) at c.in_err-limited.ensures))

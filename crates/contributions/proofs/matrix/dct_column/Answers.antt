@@ -9,45 +9,21 @@ use mir.Val.{SFits}
 use Rattle.integers.proofs.ListsLaws.{stored_none, stored_more}
 use Rattle.integers.proofs.MachineLaws.{round_trip}
 use Rattle.h265.proofs.RangeLaws.{size_bound}
-use Rattle.contributions.proofs.ColumnLaws.{TablePlace, table_place, table_entry, column_stored}
+use Rattle.transform_1d.proofs.PlaceLaws.{table_entry}
+use Rattle.contributions.proofs.ColumnLaws.{column_stored}
 use Rattle.contributions.proofs.matrix.dct_column.Goals as goal
 use Rattle.contributions.proofs.matrix.dct_column.Goals.{In-loop-k}
-
-pub nonzero_div-stride : goal.nonzero_div-stride
-nonzero_div-stride c = omega (arith, size_bound c.args.n c.requires.1)
 
 pub loop-k-init : goal.loop-k-init
 loop-k-init c = (omega arith, refl, stored_none)
 
--- the place that is read
-place : (c : In-loop-k) → TablePlace c.args.n c.loop-k.k c.args.m
-place c = table_place c.args.n c.loop-k.k c.args.m c.requires.1 (omega arith) c.requires.2
-
-pub overflow_mul-r : goal.overflow_mul-r
-overflow_mul-r c = omega (arith, (place c).inside)
-
-pub overflow_add-r : goal.overflow_add-r
-overflow_add-r c = omega (arith, (place c).inside)
-
-pub offset_bounds-t-k : goal.offset_bounds-t-k
-offset_bounds-t-k c = omega (arith, (place c).inside)
-
-pub bounds-t-k : goal.bounds-t-k
-bounds-t-k c = (place c).inside
-
-pub offset_bounds-r-k : goal.offset_bounds-r-k
-offset_bounds-r-k c = omega (arith, size_bound c.args.n c.requires.1)
-
-pub bounds-r-k : goal.bounds-r-k
-bounds-r-k c = omega (arith, size_bound c.args.n c.requires.1)
-
 pub loop-k-preserved : goal.loop-k-preserved
 loop-k-preserved c =
-    let f : SFits w16 (get_or c.args.t.now (c.loop-k.k * (1024 / c.args.n) + c.args.m) (pos 0)) = record { sfits = c.r-1.given } in (
+    let f : SFits w16 (get_or c.trans_matrix-t.result (c.loop-k.k * (1024 / c.args.n) + c.args.m) (pos 0)) = record { sfits = c.r-1.given } in (
       omega arith,
       refl,
-      stored_more c.loop-k.invariant.2 (omega (arith, size_bound c.args.n c.requires.1, length-replicate 32 (pos 0)))
-          (round_trip f ∙ table_entry c.args.n c.loop-k.k c.args.m c.requires.0 c.requires.1 (omega arith) c.requires.2),
+      stored_more c.loop-k.invariant.2 (omega (arith, size_bound c.args.n c.requires.0, length-replicate 32 (pos 0)))
+          (round_trip f ∙ table_entry c.args.n c.loop-k.k c.args.m c.trans_matrix-t.ensures c.requires.0 (omega arith) c.requires.1),
     )
 
 pub returns : goal.returns

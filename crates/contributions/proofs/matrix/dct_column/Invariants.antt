@@ -1,6 +1,6 @@
 -- `contributions::matrix::dct_column` meets its contract: the loop has stored the entries of the rows passed.
 use mathlib.Core.Path.{◌≡◌}
-use Prim.Native.Nat.{◌/◌, ◌-◌, ◌≤◌}
+use Prim.Native.Nat.{◌/◌, ◌≤◌}
 use lib.IntN.{pos}
 use lib.ListN.{replicate}
 use Rattle.integers.proofs.ListsLaws.{Stored}

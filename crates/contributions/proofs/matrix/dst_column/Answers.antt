@@ -8,41 +8,18 @@ use mir.Syntax.{w16}
 use mir.Val.{SFits}
 use Rattle.integers.proofs.ListsLaws.{stored_none, stored_more}
 use Rattle.integers.proofs.MachineLaws.{round_trip}
-use Rattle.contributions.proofs.ColumnLaws.{dst_entry, column_stored}
+use Rattle.transform_1d.proofs.PlaceLaws.{dst_entry}
+use Rattle.contributions.proofs.ColumnLaws.{column_stored}
 use Rattle.contributions.proofs.matrix.dst_column.Goals as goal
 
 pub loop-k-init : goal.loop-k-init
 loop-k-init c = (omega arith, stored_none)
 
-pub overflow_mul-r : goal.overflow_mul-r
-overflow_mul-r c = omega arith
-
-pub overflow_mul-r-in-loop-k : goal.overflow_mul-r-in-loop-k
-overflow_mul-r-in-loop-k c = omega (arith, c.requires.1)
-
-pub overflow_add-r : goal.overflow_add-r
-overflow_add-r c = omega (arith, c.requires.1)
-
-pub overflow_add-r-in-loop-k : goal.overflow_add-r-in-loop-k
-overflow_add-r-in-loop-k c = omega (arith, c.requires.1)
-
-pub offset_bounds-t-k : goal.offset_bounds-t-k
-offset_bounds-t-k c = omega (arith, c.requires.1)
-
-pub bounds-t-k : goal.bounds-t-k
-bounds-t-k c = omega (arith, c.requires.1)
-
-pub offset_bounds-r-k : goal.offset_bounds-r-k
-offset_bounds-r-k c = omega arith
-
-pub bounds-r-k : goal.bounds-r-k
-bounds-r-k c = omega arith
-
 pub loop-k-preserved : goal.loop-k-preserved
 loop-k-preserved c =
-    let f : SFits w16 (get_or c.args.t.now (32 * (c.loop-k.k % 2) + 2 * c.args.m + c.loop-k.k / 2) (pos 0)) = record { sfits = c.r-1.given } in (
+    let f : SFits w16 (get_or c.lanes_dst-t.result (32 * (c.loop-k.k % 2) + 2 * c.args.m + c.loop-k.k / 2) (pos 0)) = record { sfits = c.r-1.given } in (
       omega arith,
-      stored_more c.loop-k.invariant.1 (omega (arith, length-replicate 32 (pos 0))) (round_trip f ∙ dst_entry c.loop-k.k c.args.m c.requires.0 (omega arith) c.requires.1),
+      stored_more c.loop-k.invariant.1 (omega (arith, length-replicate 32 (pos 0))) (round_trip f ∙ dst_entry c.loop-k.k c.args.m c.lanes_dst-t.ensures (omega arith) c.requires),
     )
 
 pub returns : goal.returns

@@ -1,5 +1,5 @@
 -- `contributions::matrix::dst_column` meets its contract: the loop has stored the entries of the rows passed.
-use Prim.Native.Nat.{◌-◌, ◌≤◌}
+use Prim.Native.Nat.{◌≤◌}
 use lib.IntN.{pos}
 use lib.ListN.{replicate}
 use Rattle.integers.proofs.ListsLaws.{Stored}

@@ -1,35 +1,29 @@
 -- `contributions::products::product` meets its contract: 2^15 × 2^15 × 2^31 is below 2^63.
-use lib.IntN.{◌*ℤ◌}
-use mir.Syntax.{w64}
+use mathlib.Core.Path.{◌∙◌}
+use borrow.Author.Rules.{sfits_of}
+use lib.IntN.{ℤ, ◌*ℤ◌}
+use mir.Syntax.{w16, w32, w64}
 use mir.Val.{SFits}
 use Rattle.integers.proofs.BoundLaws.{within_mul, within_fits, within_sfits}
-use Rattle.integers.proofs.MachineLaws.{round_trip, round_trip_widen, sfits_widen_trip}
+use Rattle.integers.proofs.MachineLaws.{round_trip}
 use Rattle.contributions.proofs.products.product.Goals as goal
-use Rattle.contributions.proofs.products.product.Goals.{Start}
 
-pub overflow_cast-result : goal.overflow_cast-result
-overflow_cast-result c = sfits_widen_trip c.ranges.u tt
+pair_fits : {u v : ℤ} → SFits w16 u → SFits w16 v → SFits w64 (u *ℤ v)
+pair_fits a b = within_fits tt (within_mul (within_sfits a) (within_sfits b))
 
-pub overflow_cast-result-2 : goal.overflow_cast-result-2
-overflow_cast-result-2 c = sfits_widen_trip c.ranges.v tt
-
-module _ (c : Start) where
-  pair_fits : SFits w64 (c.args.u *ℤ c.args.v)
-  pair_fits = within_fits tt (within_mul (within_sfits c.ranges.u) (within_sfits c.ranges.v))
-
-  all_fit : SFits w64 ((c.args.u *ℤ c.args.v) *ℤ c.args.x)
-  all_fit = within_fits tt (within_mul (within_mul (within_sfits c.ranges.u) (within_sfits c.ranges.v)) (within_sfits c.ranges.x))
+all_fit : {u v x : ℤ} → SFits w16 u → SFits w16 v → SFits w32 x → SFits w64 ((u *ℤ v) *ℤ x)
+all_fit a b c = within_fits tt (within_mul (within_mul (within_sfits a) (within_sfits b)) (within_sfits c))
 
 pub overflow_mul-result : goal.overflow_mul-result
-overflow_mul-result c = rw (round_trip_widen w64 c.ranges.u tt, round_trip_widen w64 c.ranges.v tt) (pair_fits c)
-
-pub overflow_cast-result-3 : goal.overflow_cast-result-3
-overflow_cast-result-3 c = sfits_widen_trip c.ranges.x tt
+overflow_mul-result c =
+    rw (round_trip {w = w64} (sfits_of c.from.type_inv) ∙ c.from.ensures ∙ round_trip c.ranges.u, round_trip {w = w64} (sfits_of c.from-2.type_inv) ∙ c.from-2.ensures ∙ round_trip c.ranges.v)
+    (pair_fits c.ranges.u c.ranges.v)
 
 pub overflow_mul-result-2 : goal.overflow_mul-result-2
 overflow_mul-result-2 c =
-    rw (round_trip (overflow_mul-result c), round_trip_widen w64 c.ranges.u tt, round_trip_widen w64 c.ranges.v tt, round_trip_widen w64 c.ranges.x tt) (all_fit c)
+    rw (round_trip {w = w64} (sfits_of c.from.type_inv) ∙ c.from.ensures ∙ round_trip c.ranges.u, round_trip {w = w64} (sfits_of c.from-2.type_inv) ∙ c.from-2.ensures ∙ round_trip c.ranges.v, round_trip (pair_fits c.ranges.u c.ranges.v), round_trip {w = w64} (sfits_of c.from-3.type_inv) ∙ c.from-3.ensures ∙ round_trip c.ranges.x)
+    (all_fit c.ranges.u c.ranges.v c.ranges.x)
 
 pub returns : goal.returns
 returns c =
-    rw (round_trip (overflow_mul-result-2 c), round_trip (overflow_mul-result c), round_trip_widen w64 c.ranges.u tt, round_trip_widen w64 c.ranges.v tt, round_trip_widen w64 c.ranges.x tt)
+    rw (round_trip {w = w64} (sfits_of c.from.type_inv) ∙ c.from.ensures ∙ round_trip c.ranges.u, round_trip {w = w64} (sfits_of c.from-2.type_inv) ∙ c.from-2.ensures ∙ round_trip c.ranges.v, round_trip (pair_fits c.ranges.u c.ranges.v), round_trip {w = w64} (sfits_of c.from-3.type_inv) ∙ c.from-3.ensures ∙ round_trip c.ranges.x, round_trip (all_fit c.ranges.u c.ranges.v c.ranges.x))

@@ -1,6 +1,6 @@
 -- `contributions::products::products` meets its contract: the loop has stored the products of the coefficients passed.
 use mathlib.Core.Path.{◌≡◌}
-use Prim.Native.Nat.{◌*◌, ◌-◌, ◌≤◌}
+use Prim.Native.Nat.{◌*◌, ◌≤◌}
 use Rattle.integers.proofs.ListsLaws.{Stored}
 use Rattle.h265.specs.Transform.{row_order}
 use Rattle.contributions.specs.Work.{product_of}

@@ -10,18 +10,6 @@ use Rattle.h265.specs.Transform.{block_at}
 use Rattle.edit_tables.proofs.TableLaws.{place}
 use Rattle.edit_blocks.proofs.spans.cell.Goals as goal
 
-pub overflow_mul-result : goal.overflow_mul-result
-overflow_mul-result c = omega (arith, place c.args.n c.args.row c.args.column c.requires)
-
-pub overflow_add-result : goal.overflow_add-result
-overflow_add-result c = omega (arith, place c.args.n c.args.row c.args.column c.requires)
-
-pub offset_bounds-x-row : goal.offset_bounds-x-row
-offset_bounds-x-row c = omega (arith, place c.args.n c.args.row c.args.column c.requires)
-
-pub bounds-x-row : goal.bounds-x-row
-bounds-x-row c = place c.args.n c.args.row c.args.column c.requires
-
 pub returns : goal.returns
 unfolding block_at
 returns c =

@@ -6,22 +6,13 @@ use native.Mathlib.Omega.{arith}
 use Rattle.edit_blocks.proofs.SieveLaws.{sieved_range, sieved_empty, sieved_join, sieved_to}
 use Rattle.edit_blocks.proofs.spans.index_span.Goals as goal
 
-pub overflow_shl-to : goal.overflow_shl-to
-overflow_shl-to c = omega (arith, c.requires.0.range)
-
 pub loop-m-init : goal.loop-m-init
 loop-m-init c = let s = c in (omega arith, sieved_to (sieved_range s.requires.0.range) (omega arith))
 
-pub returns-then-to-from : goal.returns-then-to-from
-returns-then-to-from c =
+pub returns-then-is_empty : goal.returns-then-is_empty
+returns-then-is_empty c =
     let l = c in
-    sieved_empty l.loop-m.invariant.1 c.if-to-from.true (mul-le-mul_right l.args.n l.loop-m.invariant.0)
-
-pub row_span-left-requires : goal.row_span-left-requires
-row_span-left-requires c =
-    let l = c in
-    let h = l.requires in
-    (h.0, h.1, h.2, omega arith, l.loop-m.invariant.1.ordered, l.loop-m.invariant.1.most)
+    sieved_empty l.loop-m.invariant.1 (c.is_empty.ensures.0 c.if-is_empty.true) (mul-le-mul_right l.args.search.now.n l.loop-m.invariant.0)
 
 pub loop-m-preserved : goal.loop-m-preserved
 loop-m-preserved c =
@@ -29,4 +20,4 @@ loop-m-preserved c =
     (omega arith, sieved_to (sieved_join l.loop-m.invariant.1 (omega arith) (omega arith) c.row_span-left.ensures) (omega arith))
 
 pub returns : goal.returns
-returns c = sieved_to c.loop-m.invariant.1 (ap (λ (k : ℕ). k * c.args.n) (omega arith))
+returns c = sieved_to c.loop-m.invariant.1 (ap (λ (k : ℕ). k * c.args.search.now.n) (omega arith))

@@ -10,18 +10,17 @@ use Rattle.edit_blocks.specs.Work.{least_of}
 use Rattle.edit_blocks.proofs.ProbeLaws.{count_bound}
 use Rattle.edit_blocks.proofs.spans.least_of.Goals as goal
 
+pub returns-then-is_empty : goal.returns-then-is_empty
+unfolding least_of
+returns-then-is_empty c = let s = c in rw (le-ltb s.args.span.from s.args.span.to (c.is_empty.ensures.0 c.if-is_empty.true))
+
 pub value_at-requires : goal.value_at-requires
-value_at-requires c = let s = c in (s.requires.0, omega (arith, s.requires.1, c.if-span.true, count_bound s.args.range s.requires.0))
+value_at-requires c = let s = c in (s.requires.0, omega (arith, s.requires.1, c.is_empty.ensures.1 c.if-is_empty.false, count_bound s.args.range s.requires.0))
 
 pub overflow_cast-result : goal.overflow_cast-result
 overflow_cast-result c = rw (round_trip (sfits_of c.value_at.type_inv)) (within_fits {b = 12582912} tt c.value_at.ensures.1)
 
-pub returns-then-span : goal.returns-then-span
-unfolding least_of
-returns-then-span c =
-    let s = c in
-    round_trip (overflow_cast-result c) ∙ round_trip {w = w64} (sfits_of c.value_at.type_inv) ∙ c.value_at.ensures.0 ∙ rw (lt-ltb _ _ c.if-span.true)
-
 pub returns : goal.returns
 unfolding least_of
-returns c = let s = c in rw (le-ltb s.args.span.from s.args.span.to c.if-span.false)
+returns c =
+    round_trip (overflow_cast-result c) ∙ round_trip {w = w64} (sfits_of c.value_at.type_inv) ∙ c.value_at.ensures.0 ∙ rw (lt-ltb c.args.span.from c.args.span.to (c.is_empty.ensures.1 c.if-is_empty.false))

@@ -15,22 +15,10 @@ use Rattle.h265.specs.Transform.{block_at}
 use Rattle.edit_tables.proofs.TableLaws.{place}
 use Rattle.edit_blocks.proofs.spans.target_cell.Goals as goal
 
-pub overflow_mul-row : goal.overflow_mul-row
-overflow_mul-row c = omega (arith, place c.args.n c.args.row c.args.column (c.requires.0, c.requires.1, c.requires.2))
-
-pub overflow_add-row : goal.overflow_add-row
-overflow_add-row c = omega (arith, place c.args.n c.args.row c.args.column (c.requires.0, c.requires.1, c.requires.2))
-
-pub offset_bounds-x-row : goal.offset_bounds-x-row
-offset_bounds-x-row c = omega (arith, place c.args.n c.args.row c.args.column (c.requires.0, c.requires.1, c.requires.2))
-
-pub bounds-x-row : goal.bounds-x-row
-bounds-x-row c = omega (arith, digits_lt c.requires.1 c.requires.2, c.requires.3)
-
 pub returns : goal.returns
 unfolding block_at
 returns c =
     let a = c.args in
-    let f : SFits w32 (get_or a.x.now (a.row * a.n + a.column) (pos 0)) = record { sfits = c.wide-arg-1.given } in
-    let e = round_trip {w = w64} (sfits_of c.wide.type_inv) ∙ c.wide.ensures ∙ round_trip f in
+    let f : SFits w32 (get_or a.x.now (a.row * a.n + a.column) (pos 0)) = record { sfits = c.from-arg-1.given } in
+    let e = round_trip {w = w64} (sfits_of c.from.type_inv) ∙ c.from.ensures ∙ round_trip f in
     (e, within_eq e (within_sfits f))

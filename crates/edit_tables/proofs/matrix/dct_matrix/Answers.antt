@@ -1,36 +1,15 @@
--- `edit_tables::matrix::dct_matrix` meets its contract: a layout reads back as its matrix.
-use mathlib.Core.Path.{refl}
-use native.Mathlib.Omega.{arith}
-use Rattle.h265.specs.Matrix.{trans_matrix}
-use Rattle.transform_1d.proofs.LanesLaws.{trans_matrix_within}
-use Rattle.transform_1d.proofs.MatrixLaws.{laid, laid_32}
-use Rattle.h265.proofs.RangeLaws.{size_else}
-use Rattle.edit_tables.proofs.LaneLaws.{holds_laid, holds_size}
+-- `edit_tables::matrix::dct_matrix` meets its contract: each number is the entry there.
+use mathlib.Core.Path.{◌≡◌, ◌∙◌}
+use Prim.Native.Nat.{◌+◌, ◌*◌, ◌/◌}
+use lib.IntN.{pos}
+use lib.ListN.{get_or}
+use Rattle.std.proofs.Common.{rules}
+use Rattle.edit_tables.proofs.TableLaws.{filled_holds}
+use Rattle.transform_1d.proofs.PlaceLaws.{table_entry}
 use Rattle.edit_tables.proofs.matrix.dct_matrix.Goals as goal
 
-pub entries-requires : goal.entries-requires
-entries-requires c = let l = laid (trans_matrix 4) 4 c.lanes_4-t.ensures (trans_matrix_within 4) (omega arith) refl (omega arith) in (tt, l.long, l.small)
-
-pub entries-requires-in-8 : goal.entries-requires-in-8
-entries-requires-in-8 c = let l = laid (trans_matrix 8) 8 c.lanes_8-t.ensures (trans_matrix_within 8) (omega arith) refl (omega arith) in (tt, l.long, l.small)
-
-pub entries-requires-in-16 : goal.entries-requires-in-16
-entries-requires-in-16 c = let l = laid (trans_matrix 16) 16 c.lanes_16-t.ensures (trans_matrix_within 16) (omega arith) refl (omega arith) in (tt, l.long, l.small)
-
-pub entries-requires-in_default : goal.entries-requires-in_default
-entries-requires-in_default c = let l = laid_32 c.lanes_32-t.ensures in (tt, l.long, l.small)
-
-pub returns-in-4 : goal.returns-in-4
-returns-in-4 c = holds_size c.in-4.is (holds_laid (laid (trans_matrix 4) 4 c.lanes_4-t.ensures (trans_matrix_within 4) (omega arith) refl (omega arith)) c.entries.ensures)
-
-pub returns-in-8 : goal.returns-in-8
-returns-in-8 c = holds_size c.in-8.is (holds_laid (laid (trans_matrix 8) 8 c.lanes_8-t.ensures (trans_matrix_within 8) (omega arith) refl (omega arith)) c.entries-in-8.ensures)
-
-pub returns-in-16 : goal.returns-in-16
-returns-in-16 c = holds_size c.in-16.is (holds_laid (laid (trans_matrix 16) 16 c.lanes_16-t.ensures (trans_matrix_within 16) (omega arith) refl (omega arith)) c.entries-in-16.ensures)
-
-pub returns-in_default : goal.returns-in_default
-returns-in_default c =
-    let s = c in
-    let r = c.in_default.in_default-own.rest in
-    holds_size (size_else s.args.n s.requires r.0.0.1 r.0.1 r.1) (holds_laid (laid_32 c.lanes_32-t.ensures) c.entries-in_default.ensures)
+pub returns : goal.returns
+returns c = filled_holds c.filled.ensures
+    (λ k j x hk hj p.
+    let e : x ≡ get_or c.trans_matrix-t.result (k * (1024 / c.args.n) + j) (pos 0) = search rules in
+    e ∙ table_entry c.args.n k j c.trans_matrix-t.ensures c.requires hk hj)

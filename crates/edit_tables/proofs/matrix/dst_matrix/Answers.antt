@@ -1,14 +1,15 @@
--- `edit_tables::matrix::dst_matrix` meets its contract: a layout reads back as its matrix.
-use mathlib.Core.Path.{refl}
-use native.Mathlib.Omega.{arith}
-use Rattle.h265.specs.Matrix.{dst_matrix}
-use Rattle.transform_1d.proofs.LanesLaws.{dst_matrix_within}
-use Rattle.transform_1d.proofs.MatrixLaws.{laid}
-use Rattle.edit_tables.proofs.LaneLaws.{holds_laid}
+-- `edit_tables::matrix::dst_matrix` meets its contract: each number is the entry there.
+use mathlib.Core.Path.{◌≡◌, ◌∙◌}
+use Prim.Native.Nat.{◌+◌, ◌*◌, ◌/◌, ◌%◌}
+use lib.IntN.{pos}
+use lib.ListN.{get_or}
+use Rattle.std.proofs.Common.{rules}
+use Rattle.edit_tables.proofs.TableLaws.{filled_holds}
+use Rattle.transform_1d.proofs.PlaceLaws.{dst_entry}
 use Rattle.edit_tables.proofs.matrix.dst_matrix.Goals as goal
 
-pub entries-requires : goal.entries-requires
-entries-requires c = let l = laid dst_matrix 4 c.lanes_dst-t.ensures dst_matrix_within (omega arith) refl (omega arith) in (tt, l.long, l.small)
-
 pub returns : goal.returns
-returns c = holds_laid (laid dst_matrix 4 c.lanes_dst-t.ensures dst_matrix_within (omega arith) refl (omega arith)) c.entries.ensures
+returns c = filled_holds c.filled.ensures
+    (λ k j x hk hj p.
+    let e : x ≡ get_or c.lanes_dst-t.result (32 * (k % 2) + 2 * j + k / 2) (pos 0) = search rules in
+    e ∙ dst_entry k j c.lanes_dst-t.ensures hk hj)

@@ -1,5 +1,5 @@
 -- `edit_tables::matrix::matrix` meets its contract: a kind is the DCT, or the DST, whose size is 4.
-use Rattle.edit_tables.proofs.LaneLaws.{holds_dct, holds_dst}
+use Rattle.edit_tables.proofs.MatrixLaws.{holds_dct, holds_dst}
 use Rattle.edit_tables.proofs.matrix.matrix.Goals as goal
 
 pub returns-in-Dct : goal.returns-in-Dct

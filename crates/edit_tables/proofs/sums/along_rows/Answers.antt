@@ -1,51 +1,28 @@
--- `edit_tables::sums::along_rows` meets its contract: the loop has stored the sums passed.
-use mir.Syntax.{w64}
-use mathlib.Core.Path.{refl, ◌∙◌}
+-- `edit_tables::sums::along_rows` meets its contract: each number is the sum there.
 use native.Mathlib.Omega.{arith}
+use mathlib.Core.Path.{◌≡◌, ◌∙◌}
+use Prim.Native.Nat.{◌+◌, ◌*◌}
 use lib.IntN.{pos}
-use lib.ListN.{length-replicate}
-use Rattle.integers.proofs.ListsLaws.{stored_none, stored_more}
-use Rattle.h265.specs.Transform.{block_at}
-use Rattle.edit_tables.proofs.TableLaws.{cell_index, stored_holds, row_ask, two_cell}
-use borrow.Author.Rules.{sfits_of}
-use Rattle.integers.proofs.MachineLaws.{round_trip}
-use Rattle.h265.proofs.RangeLaws.{size_bound, size_square}
+use lib.ListN.{get_or}
+use Rattle.std.proofs.Common.{rules}
+use Rattle.h265.proofs.RangeLaws.{size_bound}
+use Rattle.h265.specs.Transform.{block_at, transform_line}
+use Rattle.edit_tables.proofs.TableLaws.{filled_holds, row_ask, two_cell, place}
 use Rattle.edit_tables.proofs.sums.along_rows.Goals as goal
 
-pub overflow_mul-count : goal.overflow_mul-count
-overflow_mul-count c = omega (arith, size_square c.args.n c.requires.size)
-
-pub loop-i-init : goal.loop-i-init
-loop-i-init c = (omega arith, refl, stored_none)
-
-pub nonzero_rem-i : goal.nonzero_rem-i
-nonzero_rem-i c = omega (arith, size_bound c.args.n c.requires.size)
-
-pub nonzero_div-i : goal.nonzero_div-i
-nonzero_div-i c = omega (arith, size_bound c.args.n c.requires.size)
-
-pub overflow_mul-i : goal.overflow_mul-i
-overflow_mul-i c = omega (arith, size_square c.args.n c.requires.size, cell_index c.args.n c.loop-i.i)
-
-pub line-requires : goal.line-requires
-line-requires c = row_ask c.requires c.loop-i.i (omega arith)
-
-pub offset_bounds-r-i : goal.offset_bounds-r-i
-offset_bounds-r-i c = omega (arith, size_square c.args.n c.requires.size)
-
-pub bounds-r-i : goal.bounds-r-i
-bounds-r-i c = omega (arith, size_square c.args.n c.requires.size)
-
-pub loop-i-preserved : goal.loop-i-preserved
-loop-i-preserved c =
-    let l = c in
-    let s = l in
-    let a = s.args in (
-      omega arith,
-      refl,
-      stored_more l.loop-i.invariant.2 (omega (arith, size_square a.n s.requires.size, length-replicate 1024 (pos 0)))
-          (round_trip {w = w64} (sfits_of c.line.type_inv) ∙ c.line.ensures ∙ two_cell a.n (block_at a.n a.t.now) a.g.now l.loop-i.i),
-    )
+pub filled-requires : goal.filled-requires
+filled-requires c = (
+  c.requires.size,
+  λ m j hm hj. (
+    λ κs p e r f. record { fits = omega (arith, place c.args.n m j ((size_bound c.args.n c.requires.size).1, hm, hj)) },
+    λ κs p e r f l. row_ask c.requires m j hm hj,
+  ),
+)
 
 pub returns : goal.returns
-returns c = stored_holds (omega arith) c.loop-i.invariant.2
+returns c =
+    let a = c.args in
+    filled_holds c.filled.ensures
+    (λ m j x hm hj p.
+    let e : x ≡ transform_line (block_at a.n a.t.now) a.n (λ k. get_or a.g.now (m * a.n + k * 1) (pos 0)) j = search rules in
+    e ∙ two_cell a.n (block_at a.n a.t.now) a.g.now m j)

@@ -33,15 +33,6 @@ module _ (c : At-loop-k) where
   so_far_fits : SFits w64 so_far
   so_far_fits = within_fits tt so_far_within
 
--- what is read of it
-entry_place : (c : In-loop-k) → c.loop-k.k * c.args.n + c.args.m < 1024
-entry_place c =
-    let s = c in
-    omega (arith, digits_lt {q = c.loop-k.k} {m = s.args.n} {r = s.args.m} {c = s.args.n} (omega arith) s.requires.column, mul-le-mul s.requires.few s.requires.few)
-
-value_place : (c : After-mac-arg-1) → c.args.base + c.loop-k.k * c.args.stride < 1024
-value_place c = (c.requires.reads c.loop-k.k (omega arith)).0
-
 module _ (c : After-mac-arg-in-loop-k-1) where
   entry_within : let l = c in let a = l.args in Within 90 (get_or a.t.now (l.loop-k.k * a.n + a.m) (pos 0))
   unfolding block_at
@@ -58,30 +49,6 @@ module _ (c : After-mac-arg-in-loop-k-1) where
 
 pub loop-k-init : goal.loop-k-init
 loop-k-init c = (omega arith, sym (line_zero _ _ _))
-
-pub overflow_mul-k : goal.overflow_mul-k
-overflow_mul-k c = omega (arith, entry_place c)
-
-pub overflow_add-k : goal.overflow_add-k
-overflow_add-k c = omega (arith, entry_place c)
-
-pub offset_bounds-t-k : goal.offset_bounds-t-k
-offset_bounds-t-k c = omega (arith, entry_place c)
-
-pub bounds-t-k : goal.bounds-t-k
-bounds-t-k c = entry_place c
-
-pub overflow_mul-k-in-loop-k : goal.overflow_mul-k-in-loop-k
-overflow_mul-k-in-loop-k c = omega (arith, value_place c)
-
-pub overflow_add-base : goal.overflow_add-base
-overflow_add-base c = omega (arith, value_place c)
-
-pub offset_bounds-x-base : goal.offset_bounds-x-base
-offset_bounds-x-base c = omega (arith, value_place c)
-
-pub bounds-x-base : goal.bounds-x-base
-bounds-x-base c = value_place c
 
 pub mac-more-requires : goal.mac-more-requires
 mac-more-requires c =
@@ -100,9 +67,3 @@ loop-k-preserved c =
           ∙ ((rw (l.loop-k.invariant.1, round_trip (entry_fits (goal.at.loop-k-preserved c).After-mac-arg-in-loop-k-1), round_trip (value_fits (goal.at.loop-k-preserved c).After-mac-arg-in-loop-k-1)) at c.mac-more.ensures.0)
           ∙ sym (line_suc (block_at a.n a.t.now) l.loop-k.k (λ i. get_or a.x.now (a.base + i * a.stride) (pos 0)) a.m)),
     )
-
-pub returns : goal.returns
-returns c =
-    let l = c in
-    let a = l.args in
-    rw (l.loop-k.invariant.1) (ap (λ (k : ℕ). transform_line (block_at a.n a.t.now) k (λ i. get_or a.x.now (a.base + i * a.stride) (pos 0)) a.m) (omega arith))

@@ -1,6 +1,6 @@
 -- `edit_tables::sums::line` meets its contract: the loop has added the products passed.
 use mathlib.Core.Path.{◌≡◌}
-use Prim.Native.Nat.{◌+◌, ◌*◌, ◌≤◌, ◌-◌}
+use Prim.Native.Nat.{◌+◌, ◌*◌, ◌≤◌}
 use lib.IntN.{pos}
 use lib.ListN.{get_or}
 use Rattle.h265.specs.Transform.{block_at, transform_line}

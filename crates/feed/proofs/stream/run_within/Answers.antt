@@ -1,5 +1,5 @@
 -- `feed::stream::run_within` meets its contract: what is left to write in the state reached is what is left of the whole text, and that is the history's.
-use mathlib.Core.Path.{refl, sym, subst, ◌∙◌}
+use mathlib.Core.Path.{refl, subst, ◌∙◌}
 use mathlib.Core.List.{List}
 use Prim.Native.Nat.{ℕ, ◌+◌, ◌≤◌}
 use native.Mathlib.Omega.{arith}
@@ -14,7 +14,7 @@ use Rattle.feed_state.specs.Taken.{state_after, end_after, told}
 use Rattle.feed_rules.specs.Feed.{feed_text}
 use Rattle.feed_history.specs.Steps.{buffered_text}
 use Rattle.feed_history.proofs.FollowLaws.{buffers_follow_history}
-use Rattle.feed_history.proofs.WalkLaws.{walk_text, going_start, going_room, Turn, turn, going_more, going_done}
+use Rattle.feed_history.proofs.WalkLaws.{walk_text, going_start, going_room, Turn, turn_of, going_more, going_done}
 use Rattle.feed.proofs.FeedLaws.{feed_walk, Answered, feed_refused, feed_passed}
 use Rattle.feed.proofs.LocalLaws.{Full, full, full_ample}
 use Rattle.feed.proofs.stream.run_within.Goals as goal
@@ -30,41 +30,11 @@ unfolding feed_room
 loop-state-init c =
     (going_start feed_walk _ _ _ _ (c.start-state.ensures _) c.requires (full_ample _ (full _ refl refl refl refl)), full _ refl refl refl refl, full _ refl refl refl refl)
 
-pub bounds-input-at : goal.bounds-input-at
-bounds-input-at c = omega arith
-
-pub overflow_add-from : goal.overflow_add-from
-overflow_add-from c = omega arith
-
-pub overflow_add-from-in-loop-state : goal.overflow_add-from-in-loop-state
-overflow_add-from-in-loop-state c = omega arith
-
-pub slice_bounds-take_record-count : goal.slice_bounds-take_record-count
-slice_bounds-take_record-count c = omega arith
-
-pub slice_bounds-take_record-start : goal.slice_bounds-take_record-start
-slice_bounds-take_record-start c = omega arith
-
-pub slice_bounds-take_record-end : goal.slice_bounds-take_record-end
-slice_bounds-take_record-end c = omega arith
-
-pub slice_bounds-take_record-end-in-loop-state : goal.slice_bounds-take_record-end-in-loop-state
-slice_bounds-take_record-end-in-loop-state c = sym c.loop-state.invariant.1.levels
-
-pub slice_bounds-take_record-end-in-loop-state-2 : goal.slice_bounds-take_record-end-in-loop-state-2
-slice_bounds-take_record-end-in-loop-state-2 c = sym c.loop-state.invariant.1.coeff
-
-pub slice_bounds-take_record-end-in-loop-state-3 : goal.slice_bounds-take_record-end-in-loop-state-3
-slice_bounds-take_record-end-in-loop-state-3 c = sym c.loop-state.invariant.1.inter
-
-pub slice_bounds-take_record-end-in-loop-state-4 : goal.slice_bounds-take_record-end-in-loop-state-4
-slice_bounds-take_record-end-in-loop-state-4 c = sym c.loop-state.invariant.1.res
-
 pub take_record-requires : goal.take_record-requires
 take_record-requires c =
     let l = c.loop-state in
     let g = l.invariant.0 in
-    record { ample = full_ample _ l.invariant.1; kind_in_bounds = omega (arith, going_room g c.loop-state-test.true, g.left.long) }
+    record { ample = full_ample _ l.invariant.1; kind_in_bounds = rw c.record_at-kind.ensures.kind (omega (arith, going_room g c.loop-state-test.true, g.left.long)) }
 
 abbrev lent-after : After-take_record → Lent
 lent-after c = lent c.take_record.new.levels c.take_record.new.coeff c.take_record.new.inter c.take_record.new.residual
@@ -85,7 +55,7 @@ turned : (c : After-take_record)
 turned c =
     let l = c.loop-state in
     let k = c.take_record.ensures in
-    turn feed_walk _ _ l.state _ c.record_length.result c.min-stop.result (input_fits c) c.loop-state-test.true c.record_length.ensures.value c.min-stop.ensures (record { is = k.answered }) k.state k.text (full_ample _ (full_after c))
+    turn_of feed_walk _ _ l.state _ _ _ (input_fits c) c.loop-state-test.true c.record_at-kind.ensures.kind c.record_at-kind.ensures.body (record { is = k.answered }) k.state k.text (full_ample _ (full_after c))
 
 -- the buffer behind a record has room for a line
 room_behind : (c : After-take_record) → end_after c.loop-state.end c.take_record.result + 40 ≤ length c.take_record.new.out
@@ -106,7 +76,7 @@ returns-in-Err c =
     let k = (goal.at.returns-in-Err c).After-take_record in
     let turn = rw c.in-Err.is at (turned k) in
     let room = rw c.in-Err.is at (room_behind k) in (
-      text_told _ _ _ _ _ l.invariant.2 (left_last (feed_refused l.invariant.0 turn _ refl) (rw c.number.ensures at f.ensures.wrote)),
+      text_told _ _ _ _ _ l.invariant.2 (left_last (feed_refused l.invariant.0 turn _ refl) f.ensures.wrote),
       counts _ _ (omega (arith, f.ensures.bound, f.auto.out, room)),
     )
 

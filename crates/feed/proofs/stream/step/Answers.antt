@@ -20,17 +20,11 @@ use Rattle.feed.proofs.stream.step.Goals.{Else-out-record_room, Else-too_short, 
 abbrev lent_at : Start → Lent
 lent_at s = lent s.args.levels.now s.args.coeff.now s.args.inter.now s.args.residual.now
 
-blocks_fit : (c : Start) → c.args.state.blocks ≤ 18446744073709551615
-blocks_fit c = omega arith
-
-offset_fits : (c : Start) → c.args.state.offset ≤ 18446744073709551615
-offset_fits c = omega arith
-
 pub returns-then-out-record_room : goal.returns-then-out-record_room
 unfolding stepping_by
 returns-then-out-record_room c =
     rw (lt-ltb (length c.args.out.now) (record_room c.args.kind) (rw c.record_room.ensures.value at c.if-out-record_room.true))
-    (steps_none c.args.state (lent_at (goal.at.returns-then-out-record_room c).Start) c.args.out.now (blocks_fit (goal.at.returns-then-out-record_room c).Start) (offset_fits (goal.at.returns-then-out-record_room c).Start))
+    (steps_none c.args.state (lent_at (goal.at.returns-then-out-record_room c).Start) c.args.out.now (omega arith) (omega arith))
 
 room : (c : Else-out-record_room) → let a = c.args in record_room a.kind ≤ length a.out.now
 room c = rw c.record_room.ensures.value at c.if-out-record_room.false
@@ -39,7 +33,7 @@ pub returns-then-too_short : goal.returns-then-too_short
 unfolding stepping_by too_short
 returns-then-too_short c =
     rw (le-ltb (length c.args.out.now) (record_room c.args.kind) (room (goal.at.returns-then-too_short c).Else-out-record_room), sym c.too_short.ensures ∙ c.if-too_short.true)
-    (steps_none c.args.state (lent_at (goal.at.returns-then-too_short c).Start) c.args.out.now (blocks_fit (goal.at.returns-then-too_short c).Start) (offset_fits (goal.at.returns-then-too_short c).Start))
+    (steps_none c.args.state (lent_at (goal.at.returns-then-too_short c).Start) c.args.out.now (omega arith) (omega arith))
 
 ample : (c : Else-too_short) → Ample (let a = c.args in lent a.levels.now a.coeff.now a.inter.now a.residual.now)
 unfolding too_short

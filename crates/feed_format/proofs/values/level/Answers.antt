@@ -1,5 +1,5 @@
 -- `feed_format::values::level` meets its contract: the four bytes are the bits of the number.
-use mathlib.Core.Path.{◌≡◌, ap, ◌∙◌}
+use mathlib.Core.Path.{ap, ◌∙◌}
 use Prim.Native.Nat.{◌+◌, ◌*◌}
 use native.Mathlib.Omega.{arith}
 use borrow.Author.Rules.{sfits_of}

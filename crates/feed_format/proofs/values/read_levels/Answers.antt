@@ -12,18 +12,6 @@ use Rattle.feed_format.proofs.values.read_levels.Goals as goal
 pub loop-i-init : goal.loop-i-init
 loop-i-init c = stored_none
 
-pub offset_bounds-levels-i : goal.offset_bounds-levels-i
-offset_bounds-levels-i c = omega arith
-
-pub bounds-levels-i : goal.bounds-levels-i
-bounds-levels-i c = omega (arith, stored_length c.loop-i.invariant)
-
-pub shape_of-levels : goal.shape_of-levels
-shape_of-levels c = stored_length c.loop-i.invariant
-
-pub returns : goal.returns
-returns c = stored_all c.loop-i.invariant (omega arith)
-
 pub loop-i-preserved : goal.loop-i-preserved
 loop-i-preserved c =
     let l = c.loop-i in

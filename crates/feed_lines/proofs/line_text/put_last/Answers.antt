@@ -16,9 +16,6 @@ pub overflow_add-result : goal.overflow_add-result
 overflow_add-result c =
     omega (arith, unsigned_length 19 c.args.n (omega arith), c.put_unsigned-end.ensures.end, c.put_unsigned-end.auto.out)
 
-pub shape_of-out : goal.shape_of-out
-shape_of-out c = simp length-set c.put_unsigned-end.auto.out
-
 pub returns : goal.returns
 returns c =
     record {

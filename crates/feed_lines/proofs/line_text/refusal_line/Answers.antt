@@ -5,4 +5,4 @@ use Rattle.feed_lines.proofs.line_text.refusal_line.Goals as goal
 
 pub returns : goal.returns
 unfolding tabulate tabulate_from
-returns c = lines_wrote _ (rw c.number.ensures at c.put_refused-end.ensures)
+returns c = lines_wrote _ (c.put_refused-end.ensures)

@@ -19,12 +19,6 @@ pub put_rows-end-requires : goal.put_rows-end-requires
 put_rows-end-requires c =
     (c.requires.accepted.0.size, omega (arith, size_square c.args.n c.requires.accepted.0.size, c.requires.ample.res, c.open_body-opened.auto.residual), c.requires.n_in_bounds_2)
 
-pub overflow_mul-n : goal.overflow_mul-n
-overflow_mul-n c = omega (arith, size_square c.args.n c.requires.accepted.0.size)
-
-pub overflow_mul-n-2 : goal.overflow_mul-n-2
-overflow_mul-n-2 c = omega (arith, size_square c.args.n c.requires.accepted.0.size)
-
 pub returns : goal.returns
 returns c =
     let a = c.args in

@@ -1,54 +1,41 @@
 -- `feed_records::open_block::take_reading` meets its contract: without an open block it is refused; else the rows of the buffer are written, and the record's column count.
-use mathlib.Core.Path.{◌≡◌, sym, ◌∙◌}
-use mathlib.Core.Bool.{false}
+use mathlib.Core.Path.{◌≡◌}
 use Prim.Native.Nat.{◌*◌, ◌≤◌}
+use Rattle.std.proofs.Common.{rules, Err}
 use native.Mathlib.Omega.{arith}
-use lib.Dec.{T}
-use Rattle.h265.specs.Range.{is_size}
 use Rattle.h265.proofs.RangeLaws.{size_square}
 use Rattle.refusal.specs.declared.Refusal.TheVariants.{SizeInvalid, BlockMissing}
-use Rattle.refusal.specs.Condition.{size_refused}
-use Rattle.refusal.proofs.ConditionLaws.{size_accepted}
 use Rattle.feed_state.specs.Buffers.{lent}
-use Rattle.feed_state.proofs.StateLaws.{refused_takes}
+use Rattle.feed_state.proofs.StateLaws.{none_said, refused_takes}
 use Rattle.feed_records.proofs.HeldLaws.{reading-closed, reading_sized, reading_takes}
 use Rattle.feed_records.proofs.open_block.take_reading.Goals as goal
-use Rattle.feed_records.proofs.open_block.take_reading.Goals.{Else-size_refused, Start}
+use Rattle.feed_records.proofs.open_block.take_reading.Goals.{In_ok-check_size}
 
-fits : (c : Start) → c.args.s.blocks ≤ 18446744073709551615
-fits c = omega arith
-
-fits_offset : (c : Start) → c.args.s.offset ≤ 18446744073709551615
-fits_offset c = omega arith
-
-pub returns-in_default : goal.returns-in_default
-returns-in_default c =
+pub returns-in_err-held : goal.returns-in_err-held
+returns-in_err-held c =
     let e = c.args.residual.now in
-    let k = (goal.at.returns-in_default c).Start in
-    record { leaves = λ ls d g. rw (reading-closed c.args.s (lent ls d g e) c.in_default.is) (refused_takes c.args.s BlockMissing _ _ (lent ls d g e) _ (fits k) (fits_offset k)) }
+    let told : c.from_residual.result ≡ Err c.in_err-held.field-0.0 = search rules in
+    let why = none_said _ BlockMissing _ c.in_err-held.ensures.value in
+    record { leaves = λ ls d g. rw (told, why.1, reading-closed c.args.s (lent ls d g e) why.0) (refused_takes c.args.s BlockMissing _ _ (lent ls d g e) _ (omega arith) (omega arith)) }
 
-pub returns-then-size_refused : goal.returns-then-size_refused
-returns-then-size_refused c =
+pub returns-in_err-check_size : goal.returns-in_err-check_size
+returns-in_err-check_size c =
     let e = c.args.residual.now in
-    let k = (goal.at.returns-then-size_refused c).Start in
+    let told : c.from_residual-in_err-check_size.result ≡ Err c.in_err-check_size.field-0.0 = search rules in
+    let why = c.in_err-check_size.ensures in
     record {
       leaves = λ ls d g.
-          rw (reading_sized c.args.s (lent ls d g e) c.in-Some.held c.in-Some.is (sym c.size_refused.ensures ∙ c.if-size_refused.true))
-          (refused_takes c.args.s SizeInvalid _ _ (lent ls d g e) _ (fits k) (fits_offset k));
+          rw (told, why.1, reading_sized c.args.s (lent ls d g e) c.in_ok-held.held c.in_ok-held.ensures.ok_part why.0)
+          (refused_takes c.args.s SizeInvalid _ _ (lent ls d g e) _ (omega arith) (omega arith));
     }
 
-sized : (c : Else-size_refused) → size_refused c.in-Some.held.size ≡ false
-sized c = sym c.size_refused.ensures ∙ c.if-size_refused.false
-
-known : (c : Else-size_refused) → T (is_size c.in-Some.held.size)
-known c = size_accepted c.in-Some.held.size (sized c)
-
-few : (c : Else-size_refused) → let n = c.in-Some.held.size in n * n ≤ 1024
-few c = size_square c.in-Some.held.size (known c)
+few : (c : In_ok-check_size) → let n = c.in_ok-held.held.size in n * n ≤ 1024
+few c = size_square c.in_ok-held.held.size c.in_ok-check_size.ensures.1
 
 pub put_reading-end-requires : goal.put_reading-end-requires
 put_reading-end-requires c =
-    (known (goal.at.put_reading-end-requires c).Else-size_refused, omega (arith, few (goal.at.put_reading-end-requires c).Else-size_refused, c.requires.in_bounds), omega (arith, few (goal.at.put_reading-end-requires c).Else-size_refused, c.requires.text_room_in_bounds))
+    let h = few (goal.at.put_reading-end-requires c).In_ok-check_size in
+    (c.in_ok-check_size.ensures.1, omega (arith, h, c.requires.in_bounds), omega (arith, h, c.requires.text_room_in_bounds))
 
 pub returns : goal.returns
 returns c =
@@ -56,6 +43,6 @@ returns c =
     rw c.with_open.ensures
     (record {
       leaves = λ ls d g.
-          reading_takes c.args.s (lent ls d g e) c.in-Some.held c.in-Some.is (sized (goal.at.returns c).Else-size_refused) (fits (goal.at.returns c).Start)
-          (record { wrote = c.put_reading-end.ensures.wrote; bound = omega (arith, few (goal.at.returns c).Else-size_refused, c.put_reading-end.ensures.bound) });
+          reading_takes c.args.s (lent ls d g e) c.in_ok-held.held c.in_ok-held.ensures.ok_part c.in_ok-check_size.ensures.0 (omega arith)
+          (record { wrote = c.put_reading-end.ensures.wrote; bound = omega (arith, few (goal.at.returns c).In_ok-check_size, c.put_reading-end.ensures.bound) });
     })

@@ -1,16 +1,11 @@
 -- `feed_state::settings::take_no_list` meets its contract: the state is the given one without its list.
 use mathlib.Core.Path.{refl}
-use Prim.Native.Nat.{◌≤◌}
 use native.Mathlib.Omega.{arith}
 use Rattle.feed_rules.specs.Record.{no_list_effect}
 use Rattle.feed_state.proofs.StateLaws.{quiet_moved}
 use Rattle.feed_state.proofs.settings.take_no_list.Goals as goal
-use Rattle.feed_state.proofs.settings.take_no_list.Goals.{Start}
-
-fits : (c : Start) → c.args.s.blocks ≤ 18446744073709551615
-fits c = omega arith
 
 pub returns : goal.returns
 unfolding no_list_effect
 returns c =
-    record { leaves = λ w. quiet_moved c.args.s _ w _ c.args.at (fits (goal.at.returns c).Start) c.behind.ensures refl }
+    record { leaves = λ w. quiet_moved c.args.s _ w _ c.args.at (omega arith) c.behind.ensures refl }

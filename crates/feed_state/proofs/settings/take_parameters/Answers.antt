@@ -1,53 +1,46 @@
 -- `feed_state::settings::take_parameters` meets its contract: the tests are the definition's, in its order.
 use mathlib.Core.Path.{◌≡◌, sym, refl, ◌∙◌}
-use mathlib.Core.Bool.{false}
-use Prim.Native.Nat.{◌≤◌}
+use Rattle.std.proofs.Common.{rules, Err}
 use native.Mathlib.Omega.{arith}
-use lib.ListN.{get_or}
-use Rattle.refusal.specs.Condition.{depth_refused}
 use Rattle.refusal.specs.declared.Refusal.TheVariants.{DepthInvalid, ParameterInvalid}
 use Rattle.feed_rules.specs.Record.{parameters_effect}
-use Rattle.feed_state.proofs.StateLaws.{quiet_kept, quiet_moved}
+use Rattle.feed_state.proofs.StateLaws.{none_said, quiet_kept, quiet_moved}
 use Rattle.feed_state.proofs.settings.take_parameters.Goals as goal
-use Rattle.feed_state.proofs.settings.take_parameters.Goals.{Start, Else-depth_refused}
 
-fits : (c : Start) → c.args.s.blocks ≤ 18446744073709551615
-fits c = omega arith
-
-fits_offset : (c : Start) → c.args.s.offset ≤ 18446744073709551615
-fits_offset c = omega arith
-
-depth_ok : (c : Else-depth_refused) → depth_refused (get_or c.args.body.now 0 0) ≡ false
-depth_ok c = sym c.depth_refused.ensures ∙ c.if-depth_refused.false
-
-pub returns-then-depth_refused : goal.returns-then-depth_refused
+pub returns-in_err-check_depth : goal.returns-in_err-check_depth
 unfolding parameters_effect
-returns-then-depth_refused c =
-    let s = (goal.at.returns-then-depth_refused c).Start in
-    record { leaves = λ w. rw (sym c.depth_refused.ensures ∙ c.if-depth_refused.true) (quiet_kept c.args.s DepthInvalid c.args.at w (fits s) (fits_offset s)) }
+returns-in_err-check_depth c =
+    let told : c.from_residual.result ≡ Err c.in_err-check_depth.field-0.0 = search rules in
+    let why = c.in_err-check_depth.ensures in
+    record { leaves = λ w. rw (told, why.1, why.0) (quiet_kept c.args.s DepthInvalid c.args.at w (omega arith) (omega arith)) }
 
-pub returns-in_default : goal.returns-in_default
+pub returns-in_err-extended : goal.returns-in_err-extended
 unfolding parameters_effect
-returns-in_default c =
-    let k = goal.at.returns-in_default c in
-    record { leaves = λ w. rw (depth_ok k.Else-depth_refused, sym c.flag_of.ensures ∙ c.in_default.is) (quiet_kept c.args.s ParameterInvalid c.args.at w (fits k.Start) (fits_offset k.Start)) }
-
-pub returns-in_default-mode_of : goal.returns-in_default-mode_of
-unfolding parameters_effect
-returns-in_default-mode_of c =
-    let k = goal.at.returns-in_default-mode_of c in
+returns-in_err-extended c =
+    let told : c.from_residual-in_err-extended.result ≡ Err c.in_err-extended.field-0.0 = search rules in
+    let why = none_said _ ParameterInvalid _ c.in_err-extended.ensures.value in
     record {
       leaves = λ w.
-          rw (depth_ok k.Else-depth_refused, sym c.flag_of.ensures ∙ c.in-Some.is, sym c.mode_of.ensures ∙ c.in_default-mode_of.is)
-          (quiet_kept c.args.s ParameterInvalid c.args.at w (fits k.Start) (fits_offset k.Start));
+          rw (told, why.1, c.in_ok-check_depth.ensures.0, sym c.flag_of.ensures ∙ why.0)
+          (quiet_kept c.args.s ParameterInvalid c.args.at w (omega arith) (omega arith));
+    }
+
+pub returns-in_err-mode : goal.returns-in_err-mode
+unfolding parameters_effect
+returns-in_err-mode c =
+    let told : c.from_residual-in_err-mode.result ≡ Err c.in_err-mode.field-0.0 = search rules in
+    let why = none_said _ ParameterInvalid _ c.in_err-mode.ensures.value in
+    record {
+      leaves = λ w.
+          rw (told, why.1, c.in_ok-check_depth.ensures.0, sym c.flag_of.ensures ∙ c.in_ok-extended.ensures.ok_part, sym c.mode_of.ensures ∙ why.0)
+          (quiet_kept c.args.s ParameterInvalid c.args.at w (omega arith) (omega arith));
     }
 
 pub returns : goal.returns
 unfolding parameters_effect
 returns c =
-    let k = goal.at.returns c in
     record {
       leaves = λ w.
-          rw (depth_ok k.Else-depth_refused, sym c.flag_of.ensures ∙ c.in-Some.is, sym c.mode_of.ensures ∙ c.in-Some-mode_of.is)
-          (quiet_moved c.args.s _ w _ c.args.at (fits k.Start) c.behind.ensures refl);
+          rw (c.in_ok-check_depth.ensures.0, sym c.flag_of.ensures ∙ c.in_ok-extended.ensures.ok_part, sym c.mode_of.ensures ∙ c.in_ok-mode.ensures.ok_part)
+          (quiet_moved c.args.s _ w _ c.args.at (omega arith) c.behind.ensures refl);
     }

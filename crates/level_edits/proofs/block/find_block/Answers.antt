@@ -5,14 +5,6 @@ use Rattle.scaling_values.specs.Given.{list_of}
 use Rattle.level_edits.proofs.BlockLaws.{front_fits, front_length, scaled_ask, spread_least, spread_most}
 use Rattle.level_edits.proofs.block.find_block.Goals as goal
 
-pub slice_bounds-coeff-end : goal.slice_bounds-coeff-end
-slice_bounds-coeff-end c =
-    front_fits c.args.n c.requires.list.size _ c.scale.ensures
-
-pub slice_bounds-find-end : goal.slice_bounds-find-end
-slice_bounds-find-end c =
-    front_length c.args.n c.requires.list.size _ c.scale.ensures
-
 pub find-requires : goal.find-requires
 find-requires c =
     let a = c.args in

@@ -14,29 +14,8 @@ use Rattle.scaling_values.specs.Given.{list_of}
 use Rattle.level_edits.proofs.block.scale.Goals as goal
 use Rattle.level_edits.proofs.block.scale.Goals.{After-scaled_value-x}
 
-pub overflow_mul-count : goal.overflow_mul-count
-overflow_mul-count c = omega (arith, size_square c.args.n c.requires.1.size)
-
 pub loop-i-init : goal.loop-i-init
 loop-i-init c = (omega arith, refl, stored_none)
-
-pub offset_bounds-levels-i : goal.offset_bounds-levels-i
-offset_bounds-levels-i c = omega (arith, size_square c.args.n c.requires.1.size)
-
-pub bounds-levels-i : goal.bounds-levels-i
-bounds-levels-i c = omega (arith, c.requires.2)
-
-pub factor_at-requires : goal.factor_at-requires
-factor_at-requires c = record { whole_list = c.requires.1; index_bound = omega arith }
-
-pub scaled_value-x-requires : goal.scaled_value-x-requires
-scaled_value-x-requires c = c.requires.0.manageable
-
-pub offset_bounds-out-i : goal.offset_bounds-out-i
-offset_bounds-out-i c = omega (arith, size_square c.args.n c.requires.1.size)
-
-pub bounds-out-i : goal.bounds-out-i
-bounds-out-i c = omega (arith, size_square c.args.n c.requires.1.size)
 
 value_is : (c : After-scaled_value-x)
     → let l = c in
@@ -57,6 +36,3 @@ loop-i-preserved c =
       refl,
       stored_more c.loop-i.invariant.2 (omega (arith, c.requires.3, size_square a.n c.requires.1.size)) (value_is c),
     )
-
-pub returns : goal.returns
-returns c = stored_all c.loop-i.invariant.2 (omega arith)

@@ -1,6 +1,6 @@
 -- `level_edits::block::scale` meets its contract: the loop has stored the coefficients of the levels passed.
 use mathlib.Core.Path.{◌≡◌}
-use Prim.Native.Nat.{◌*◌, ◌≤◌, ◌-◌}
+use Prim.Native.Nat.{◌*◌, ◌≤◌}
 use lib.IntN.{pos}
 use lib.ListN.{get_or}
 use Rattle.integers.proofs.ListsLaws.{Stored}

@@ -17,50 +17,8 @@ use Rattle.level_edits.proofs.PlaceLaws.{span_least_is, span_most_is}
 use Rattle.level_edits.proofs.block.spread.Goals as goal
 use Rattle.level_edits.proofs.block.spread.Goals.{After-level_span-span, In-loop-i}
 
-pub overflow_mul-count : goal.overflow_mul-count
-overflow_mul-count c = omega (arith, size_square c.args.n c.requires.1.size)
-
 pub loop-i-init : goal.loop-i-init
 loop-i-init c = (omega arith, refl, stored_none, stored_none)
-
-at_most : (c : In-loop-i) → c.loop-i.i < 1024
-at_most c = omega (arith, size_square c.args.n c.requires.1.size)
-
-pub factor_at-m-requires : goal.factor_at-m-requires
-factor_at-m-requires c = record { whole_list = c.requires.1; index_bound = omega arith }
-
-pub offset_bounds-low-i : goal.offset_bounds-low-i
-offset_bounds-low-i c = omega (arith, at_most (goal.at.offset_bounds-low-i c).In-loop-i)
-
-pub bounds-low-i : goal.bounds-low-i
-bounds-low-i c = at_most (goal.at.bounds-low-i c).In-loop-i
-
-pub offset_bounds-high-i : goal.offset_bounds-high-i
-offset_bounds-high-i c = omega (arith, at_most (goal.at.offset_bounds-high-i c).In-loop-i)
-
-pub bounds-high-i : goal.bounds-high-i
-bounds-high-i c = at_most (goal.at.bounds-high-i c).In-loop-i
-
-pub level_span-span-requires : goal.level_span-span-requires
-level_span-span-requires c = (c.requires.0, c.requires.2)
-
-pub least_of-first-requires : goal.least_of-first-requires
-least_of-first-requires c = (c.requires.2, c.level_span-span.ensures.to.most)
-
-pub most_of-last-requires : goal.most_of-last-requires
-most_of-last-requires c = (c.requires.2, c.level_span-span.ensures.to.most)
-
-pub offset_bounds-least-i : goal.offset_bounds-least-i
-offset_bounds-least-i c = omega (arith, at_most (goal.at.offset_bounds-least-i c).In-loop-i)
-
-pub bounds-least-i : goal.bounds-least-i
-bounds-least-i c = omega (arith, stored_length c.loop-i.invariant.2, c.requires.3)
-
-pub offset_bounds-most-i : goal.offset_bounds-most-i
-offset_bounds-most-i c = omega (arith, at_most (goal.at.offset_bounds-most-i c).In-loop-i)
-
-pub bounds-most-i : goal.bounds-most-i
-bounds-most-i c = omega (arith, stored_length c.loop-i.invariant.3, c.requires.4)
 
 -- what was found at an index
 found : (c : After-level_span-span)
@@ -84,12 +42,3 @@ loop-i-preserved c = (
   stored_more c.loop-i.invariant.2 (omega (arith, c.requires.3)) (round_trip {w = w32} (sfits_of c.least_of-first.type_inv) ∙ c.least_of-first.ensures ∙ span_least_is (found (goal.at.loop-i-preserved c).After-level_span-span)),
   stored_more c.loop-i.invariant.3 (omega (arith, c.requires.4)) (round_trip {w = w32} (sfits_of c.most_of-last.type_inv) ∙ c.most_of-last.ensures ∙ span_most_is (found (goal.at.loop-i-preserved c).After-level_span-span)),
 )
-
-pub shape_of-least : goal.shape_of-least
-shape_of-least c = stored_length c.loop-i.invariant.2
-
-pub shape_of-most : goal.shape_of-most
-shape_of-most c = stored_length c.loop-i.invariant.3
-
-pub returns : goal.returns
-returns c = (stored_all c.loop-i.invariant.2 (omega arith), stored_all c.loop-i.invariant.3 (omega arith))

@@ -1,6 +1,6 @@
 -- `level_edits::block::spread` meets its contract: the loop has stored the ends of the indices passed.
 use mathlib.Core.Path.{◌≡◌}
-use Prim.Native.Nat.{◌*◌, ◌≤◌, ◌-◌}
+use Prim.Native.Nat.{◌*◌, ◌≤◌}
 use lib.IntN.{pos}
 use lib.ListN.{get_or}
 use Rattle.integers.proofs.ListsLaws.{Stored}

@@ -7,12 +7,10 @@ use Rattle.integers.proofs.MachineLaws.{round_trip}
 use Rattle.integers.proofs.BoundLaws.{within_fits}
 use Rattle.scaling_values.specs.Level.{listed_level}
 use Rattle.edit_values.specs.Values.{value_at}
+use Rattle.level_search.proofs.NearestLaws.{le_is}
 use Rattle.level_edits.specs.Work.{beyond}
 use Rattle.level_edits.proofs.places.beyond.Goals as goal
 use Rattle.level_edits.proofs.places.beyond.Goals.{After-scaled_value-x}
-
-pub overflow_cast-value_at : goal.overflow_cast-value_at
-overflow_cast-value_at c = rw (round_trip (sfits_of c.value_at.type_inv)) (within_fits {b = 12582912} tt c.value_at.ensures.1)
 
 value_is : (c : After-scaled_value-x) → let a = c.args in c.scaled_value-x.result ≡ listed_level a.by a.m (value_at a.range a.place)
 value_is c =
@@ -28,4 +26,4 @@ returns-then-strict c =
 pub returns : goal.returns
 unfolding beyond
 returns c =
-    rw (round_trip c.ranges.end, round_trip (sfits_of c.scaled_value-x.type_inv), value_is (goal.at.returns c).After-scaled_value-x, c.if-strict.false)
+    rw (round_trip c.ranges.end, round_trip (sfits_of c.scaled_value-x.type_inv), value_is (goal.at.returns c).After-scaled_value-x, c.if-strict.false) (le_is c.args.end (listed_level c.args.by c.args.m (value_at c.args.range c.args.place)))

@@ -22,9 +22,6 @@ count_is c = mod-eq_of_lt (omega (arith, count_bound c.args.range c.requires.1))
 bound : (c : At-loop-low) → value_count c.args.range ≤ 8388608
 bound c = count_bound c.args.range c.requires.1
 
-pub overflow_shl-high : goal.overflow_shl-high
-overflow_shl-high c = omega (arith, c.requires.1)
-
 pub loop-low-init : goal.loop-low-init
 loop-low-init c =
     let e = count_is c in
@@ -36,27 +33,12 @@ overflow_add-middle c = omega (arith, bound (goal.at.overflow_add-middle c).At-l
 pub beyond-requires : goal.beyond-requires
 beyond-requires c = (c.requires.0.manageable, c.requires.1, omega (arith, bound (goal.at.beyond-requires c).At-loop-low))
 
-pub loop-low-smaller-then-beyond : goal.loop-low-smaller-then-beyond
-loop-low-smaller-then-beyond c = omega arith
-
 pub loop-low-preserved-then-beyond : goal.loop-low-preserved-then-beyond
 loop-low-preserved-then-beyond c =
     let a = c.args in
     (omega arith, omega arith, c.loop-low.invariant.2, λ o h k. beyond_mono (c.requires.0.scales a.m) a.range (to_z w32 (of_z w32 a.end)) a.strict _ o h (sym c.beyond.ensures ∙ c.if-beyond.true))
 
-pub overflow_add-low : goal.overflow_add-low
-overflow_add-low c = omega (arith, bound (goal.at.overflow_add-low c).At-loop-low)
-
-pub loop-low-smaller : goal.loop-low-smaller
-loop-low-smaller c = omega arith
-
 pub loop-low-preserved : goal.loop-low-preserved
 loop-low-preserved c =
     let a = c.args in
     (omega arith, c.loop-low.invariant.1, λ o g h. beyond-none (c.requires.0.scales a.m) a.range (to_z w32 (of_z w32 a.end)) a.strict o _ (omega arith) (sym c.beyond.ensures ∙ c.if-beyond.false), c.loop-low.invariant.3)
-
-pub returns : goal.returns
-returns c =
-    let a = c.args in
-    subst (λ (z : ℤ). Split (beyond (listed_level a.by a.m) a.range z a.strict) 0 (value_count a.range) c.loop-low.low) (round_trip c.ranges.end)
-    (record { least = omega arith; most = omega arith; none = c.loop-low.invariant.2; all = λ o h k. c.loop-low.invariant.3 o (omega arith) k })

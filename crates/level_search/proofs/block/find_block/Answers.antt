@@ -4,26 +4,22 @@ use native.Mathlib.Omega.{arith}
 use Rattle.h265.specs.ScalingFactor.{ScalingList}
 use Rattle.scaling_values.specs.Given.{list_of}
 use Rattle.level_search.specs.Work.{first_miss, nearest_at}
-use Rattle.level_search.proofs.BlockLaws.{block-missing, block_found_lem, copied, first_miss_bound}
+use Rattle.level_search.proofs.BlockLaws.{block-missing, block_found_lem, copied}
 use Rattle.level_search.proofs.block.find_block.Goals as goal
 
-pub returns-then-first-count : goal.returns-then-first-count
-returns-then-first-count c =
-    let d = c in
-    let a = d.args in
+pub returns-in-Some : goal.returns-in-Some
+returns-in-Some c =
+    let a = c.args in
     let list : ScalingList = list_of a.list in
-    let e = d.search-first.ensures.is in
+    let e = c.in-Some.ensures {u = tt} in
     block-missing a.n (first_miss a.by list a.n a.coeff.now) (nearest_at a.by list a.n a.coeff.now) a.levels.now
-    (rw e at c.if-first-count.true) (rw e at c.missing_at.ensures)
+    (rw e.0 e.1) (rw e.0 c.missing_at.ensures)
 
 pub returns : goal.returns
 returns c =
-    let d = c in
-    let a = d.args in
+    let a = c.args in
     let list : ScalingList = list_of a.list in
-    let k = first_miss_bound a.by list a.n a.coeff.now in
-    let h = c.if-first-count.false in
-    let e = d.search-first.ensures in
+    let e = c.in_default.ensures {u = tt} in
     block_found_lem a.n (first_miss a.by list a.n a.coeff.now) (nearest_at a.by list a.n a.coeff.now) a.levels.now
-    (omega (arith, e.is, h))
-    (copied (a.n * a.n) (nearest_at a.by list a.n a.coeff.now) _ a.levels.now c.copy_from_slice.ensures.after (e.levels (omega (arith, e.is, h, k))))
+    (omega (arith, e.none))
+    (copied (a.n * a.n) (nearest_at a.by list a.n a.coeff.now) _ a.levels.now c.copy_from_slice.ensures.after e.levels)

@@ -1,5 +1,5 @@
 -- `level_search::block::search` meets its contract. The loop's invariant: every coefficient before i has a level, and the first i places hold them.
-use mathlib.Core.Path.{◌≡◌, refl, sym, ap, ◌∙◌}
+use mathlib.Core.Path.{◌≡◌, sym, ap, ◌∙◌}
 use mathlib.Core.Bool.{not}
 use Prim.Native.Nat.{◌*◌}
 use native.Mathlib.Omega.{arith}
@@ -17,28 +17,8 @@ use Rattle.level_search.specs.Work.{scaling_by, nearest_at, misses_at, first_mis
 use Rattle.level_search.proofs.block.search.Goals as goal
 use Rattle.level_search.proofs.block.search.Goals.{After-nearest-arg-1, After-nearest-level, After-scales_to}
 
-pub overflow_mul-count : goal.overflow_mul-count
-overflow_mul-count c = omega (arith, size_square c.args.n c.requires.whole_list.size)
-
 pub loop-i-init : goal.loop-i-init
-loop-i-init c = (omega arith, refl, none_zero, stored_none)
-
-pub factor_at-m-requires : goal.factor_at-m-requires
-factor_at-m-requires c =
-    let s = c in
-    record { whole_list = s.requires.whole_list; index_bound = omega arith }
-
-pub bounds-coeff-i : goal.bounds-coeff-i
-bounds-coeff-i c = omega (arith, c.requires.n_in_bounds)
-
-pub nearest-level-requires : goal.nearest-level-requires
-nearest-level-requires c = c.requires.invertible
-
-pub bounds-coeff-i-in-loop-i : goal.bounds-coeff-i-in-loop-i
-bounds-coeff-i-in-loop-i c = omega (arith, c.requires.n_in_bounds)
-
-pub scales_to-requires : goal.scales_to-requires
-scales_to-requires c = c.requires.invertible.manageable
+loop-i-init c = (omega arith, none_zero, stored_none)
 
 -- the coefficient that was read, its level, and whether that scales back to it
 read_fits : (c : After-nearest-arg-1)
@@ -61,36 +41,23 @@ miss_is c =
 
 pub returns-then-not-scales_to : goal.returns-then-not-scales_to
 unfolding first_miss
-returns-then-not-scales_to c =
-    let l = c in
-    record {
-      is = sym (first_where_found (l.args.n * l.args.n) l.loop-i.i (omega arith) l.loop-i.invariant.2 (sym (miss_is (goal.at.returns-then-not-scales_to c).After-scales_to) ∙ (ap not c.if-not-scales_to.true)));
-      same = stored_length l.loop-i.invariant.3;
-      levels = λ q. absurd (let b : ⊥ = omega arith in b);
-    }
-
-pub bounds-found-i : goal.bounds-found-i
-bounds-found-i c =
-    let l = c in
-    let s = l in
-    omega (arith, size_square s.args.n s.requires.whole_list.size)
+returns-then-not-scales_to c = (
+  first_where_found (c.args.n * c.args.n) c.loop-i.i c.loop-i-test.true c.loop-i.invariant.1 (sym (miss_is (goal.at.returns-then-not-scales_to c).After-scales_to) ∙ (ap not c.if-not-scales_to.true)),
+  c.loop-i-test.true,
+)
 
 pub loop-i-preserved : goal.loop-i-preserved
-loop-i-preserved c =
-    let l = c in
-    let s = l in (
-      omega arith,
-      l.loop-i.invariant.1,
-      none_suc l.loop-i.invariant.2 (sym (miss_is (goal.at.loop-i-preserved c).After-scales_to) ∙ (ap not c.if-not-scales_to.false)),
-      stored_more l.loop-i.invariant.3 (omega (arith, size_square s.args.n s.requires.whole_list.size, s.requires.found_len)) (round_trip {w = w32} (sfits_of c.nearest-level.type_inv) ∙ level_is (goal.at.loop-i-preserved c).After-nearest-level),
-    )
+loop-i-preserved c = (
+  omega (arith, c.loop-i-test.true),
+  none_suc c.loop-i.invariant.1 (sym (miss_is (goal.at.loop-i-preserved c).After-scales_to) ∙ (ap not c.if-not-scales_to.false)),
+  stored_more c.loop-i.invariant.2 (omega (arith, c.loop-i-test.true, size_square c.args.n c.requires.whole_list.size, c.requires.found_len)) (round_trip {w = w32} (sfits_of c.nearest-level.type_inv) ∙ level_is (goal.at.loop-i-preserved c).After-nearest-level),
+)
 
 pub returns : goal.returns
 unfolding first_miss
 returns c =
-    let l = c in
     record {
-      is = sym (first_where-none (l.args.n * l.args.n) (omega arith) l.loop-i.invariant.2);
-      same = stored_length l.loop-i.invariant.3;
-      levels = λ q. stored_all l.loop-i.invariant.3 (omega arith);
+      none = first_where-none (c.args.n * c.args.n) (omega (arith, c.loop-i-test.false)) c.loop-i.invariant.1;
+      same = stored_length c.loop-i.invariant.2;
+      levels = stored_all c.loop-i.invariant.2 (omega (arith, c.loop-i-test.false));
     }

@@ -13,38 +13,17 @@ use Rattle.level_search.proofs.NearestLaws.{side_end_bound, halved}
 use Rattle.level_search.proofs.nearest.nearest_size.Goals as goal
 use Rattle.level_search.proofs.nearest.nearest_size.Goals.{At-loop-low}
 
-pub side_end-high-requires : goal.side_end-high-requires
-side_end-high-requires c = c.requires
-
 -- the end of the side, which every size in the loop is at most
 bound : (c : At-loop-low) → side_end c.args.by (to_z w32 (of_z w32 c.args.x)) ≤ 4194304
 bound c =
     let s = c in
     side_end_bound s.args.by (to_z w32 (of_z w32 s.args.x)) s.requires.manageable
 
-pub loop-low-init : goal.loop-low-init
-loop-low-init c =
-    (omega arith, omega (arith, c.side_end-high.ensures), none_zero, λ h. absurd (let b : ⊥ = omega (arith, c.side_end-high.ensures) in b))
-
 pub overflow_add-middle : goal.overflow_add-middle
 overflow_add-middle c = omega (arith, bound (goal.at.overflow_add-middle c).At-loop-low)
 
 pub reaches-requires : goal.reaches-requires
 reaches-requires c = record { manageable = c.requires.manageable; size_bound = omega (arith, bound (goal.at.reaches-requires c).At-loop-low) }
-
-pub loop-low-smaller-then-reaches : goal.loop-low-smaller-then-reaches
-loop-low-smaller-then-reaches c = omega arith
-
-pub loop-low-preserved-then-reaches : goal.loop-low-preserved-then-reaches
-loop-low-preserved-then-reaches c =
-    let l = c in
-    (omega arith, omega arith, l.loop-low.invariant.2, λ h. sym c.reaches.ensures ∙ c.if-reaches.true)
-
-pub overflow_add-low : goal.overflow_add-low
-overflow_add-low c = omega (arith, bound (goal.at.overflow_add-low c).At-loop-low)
-
-pub loop-low-smaller : goal.loop-low-smaller
-loop-low-smaller c = omega arith
 
 pub loop-low-preserved : goal.loop-low-preserved
 loop-low-preserved c =

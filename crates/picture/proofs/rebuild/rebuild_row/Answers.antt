@@ -11,7 +11,7 @@ use Rattle.picture.specs.Samples.{rebuilt_at}
 use Rattle.picture.specs.Rebuild.{Placed}
 use Rattle.picture.proofs.SamplesLaws.{placed_none, placed_more}
 use Rattle.picture.proofs.rebuild.rebuild_row.Goals as goal
-use Rattle.picture.proofs.rebuild.rebuild_row.Goals.{After-rebuilt_sample, After-rebuilt_sample-arg-1}
+use Rattle.picture.proofs.rebuild.rebuild_row.Goals.{After-rebuilt_sample}
 
 pub loop-c-init : goal.loop-c-init
 loop-c-init c = (placed_none, omega arith)
@@ -35,20 +35,15 @@ pub bounds-residual-from : goal.bounds-residual-from
 bounds-residual-from c = omega (arith, c.requires.n_in_bounds)
 
 pub rebuilt_sample-requires : goal.rebuilt_sample-requires
-rebuilt_sample-requires c =
-    let l = c in
-    let s = l in
-    s.requires.below.at (s.args.from + l.loop-c.c) (omega arith)
+rebuilt_sample-requires c = c.requires.below.at (c.args.from + c.loop-c.c) (omega arith)
 
 -- the residual that was read, and the sample worked out of it
-residual_fits : (c : After-rebuilt_sample-arg-1)
-    → let l = c in let s = l in SFits w32 (get_or s.args.residual.now (s.args.from + l.loop-c.c) (pos 0))
-residual_fits c = record { sfits = c.rebuilt_sample-arg-1.given }
+residual_fits : (c : After-rebuilt_sample) → SFits w32 (get_or c.args.residual.now (c.args.from + c.loop-c.c) (pos 0))
+residual_fits c = record { sfits = omega arith }
 
-value_is : (c : After-rebuilt_sample)
-    → let l = c in let s = l in c.rebuilt_sample.result ≡ rebuilt_at s.args.top s.args.residual.now s.args.prediction.now (s.args.from + l.loop-c.c)
+value_is : (c : After-rebuilt_sample) → c.rebuilt_sample.result ≡ rebuilt_at c.args.top c.args.residual.now c.args.prediction.now (c.args.from + c.loop-c.c)
 unfolding rebuilt_at
-value_is c = rw (round_trip (residual_fits (goal.at.overflow_add-plane c).After-rebuilt_sample-arg-1)) at c.rebuilt_sample.ensures
+value_is c = rw (round_trip (residual_fits c)) at c.rebuilt_sample.ensures
 
 pub overflow_add-plane : goal.overflow_add-plane
 overflow_add-plane c = omega (arith, c.requires.n_in_bounds)
@@ -57,20 +52,15 @@ pub offset_bounds-plane-at : goal.offset_bounds-plane-at
 offset_bounds-plane-at c = omega (arith, c.requires.n_in_bounds)
 
 pub bounds-plane-at : goal.bounds-plane-at
-bounds-plane-at c =
-    let l = c in
-    omega (arith, l.loop-c.invariant.0.same, l.requires.n_in_bounds)
+bounds-plane-at c = omega (arith, c.loop-c.invariant.0.same, c.requires.n_in_bounds)
 
 pub loop-c-preserved : goal.loop-c-preserved
-loop-c-preserved c =
-    let l = c in
-    (placed_more l.loop-c.invariant.0 (omega (arith, l.requires.n_in_bounds)) (value_is c), omega arith)
+loop-c-preserved c = (placed_more c.loop-c.invariant.0 (omega (arith, c.requires.n_in_bounds)) (value_is c), omega arith)
 
 pub shape_of-plane : goal.shape_of-plane
 shape_of-plane c = c.loop-c.invariant.0.same
 
 pub returns : goal.returns
 returns c =
-    let l = c in
-    let a = l.args in
-    subst (λ (k : ℕ). Placed a.at k (λ i. rebuilt_at a.top a.residual.now a.prediction.now (a.from + i)) a.plane.now l.loop-c.plane) (omega arith) l.loop-c.invariant.0
+    let a = c.args in
+    subst (λ (k : ℕ). Placed a.at k (λ i. rebuilt_at a.top a.residual.now a.prediction.now (a.from + i)) a.plane.now c.loop-c.plane) (omega arith) c.loop-c.invariant.0

@@ -1,6 +1,6 @@
 -- `scale_trace::stream::run_within` meets its contract: what is left to write in the state reached is what is left of the whole listing, and that is the
 -- history's.
-use mathlib.Core.Path.{refl, sym, subst, ◌∙◌}
+use mathlib.Core.Path.{refl, subst, ◌∙◌}
 use mathlib.Core.List.{List}
 use Prim.Native.Nat.{ℕ, ◌+◌, ◌≤◌}
 use native.Mathlib.Omega.{arith}
@@ -9,7 +9,7 @@ use Rattle.text.specs.Text.{Wrote}
 use Rattle.text.proofs.WroteLaws.{left_last, left_done, counts}
 use Rattle.feed_state.specs.Buffers.{Lent, lent}
 use Rattle.feed.specs.Answers.{state_after, end_after}
-use Rattle.feed_history.proofs.WalkLaws.{walk_text, going_start, going_room, Turn, turn, going_more, going_done}
+use Rattle.feed_history.proofs.WalkLaws.{walk_text, going_start, going_room, Turn, turn_of, going_more, going_done}
 use Rattle.scale_trace_rules.specs.Trace.{trace_text, listing_room}
 use Rattle.scale_trace.proofs.RunLaws.{listing_walk, Answered, traces_full, listing_refused, listing_passed, listing_follows}
 use Rattle.feed.proofs.LocalLaws.{Full, full, full_ample}
@@ -25,41 +25,11 @@ unfolding listing_room
 loop-state-init c =
     (going_start listing_walk _ _ _ _ (c.start-state.ensures _) c.requires (full_ample _ (full _ refl refl refl refl)), full _ refl refl refl refl, full _ refl refl refl refl)
 
-pub bounds-input-at : goal.bounds-input-at
-bounds-input-at c = omega arith
-
-pub overflow_add-from : goal.overflow_add-from
-overflow_add-from c = omega arith
-
-pub overflow_add-from-in-loop-state : goal.overflow_add-from-in-loop-state
-overflow_add-from-in-loop-state c = omega arith
-
-pub slice_bounds-take_record-count : goal.slice_bounds-take_record-count
-slice_bounds-take_record-count c = omega arith
-
-pub slice_bounds-take_record-start : goal.slice_bounds-take_record-start
-slice_bounds-take_record-start c = omega arith
-
-pub slice_bounds-take_record-end : goal.slice_bounds-take_record-end
-slice_bounds-take_record-end c = omega arith
-
-pub slice_bounds-take_record-end-in-loop-state : goal.slice_bounds-take_record-end-in-loop-state
-slice_bounds-take_record-end-in-loop-state c = sym c.loop-state.invariant.1.levels
-
-pub slice_bounds-take_record-end-in-loop-state-2 : goal.slice_bounds-take_record-end-in-loop-state-2
-slice_bounds-take_record-end-in-loop-state-2 c = sym c.loop-state.invariant.1.coeff
-
-pub slice_bounds-take_record-end-in-loop-state-3 : goal.slice_bounds-take_record-end-in-loop-state-3
-slice_bounds-take_record-end-in-loop-state-3 c = sym c.loop-state.invariant.1.inter
-
-pub slice_bounds-take_record-end-in-loop-state-4 : goal.slice_bounds-take_record-end-in-loop-state-4
-slice_bounds-take_record-end-in-loop-state-4 c = sym c.loop-state.invariant.1.res
-
 pub take_record-requires : goal.take_record-requires
 take_record-requires c =
     let l = c.loop-state in
     let g = l.invariant.0 in
-    omega (arith, going_room g c.loop-state-test.true, g.left.long)
+    rw c.record_at-kind.ensures.kind (omega (arith, going_room g c.loop-state-test.true, g.left.long))
 
 abbrev lent-after : After-take_record → Lent
 lent-after c = lent c.take_record.new.levels c.take_record.new.coeff c.take_record.new.inter c.take_record.new.residual
@@ -80,7 +50,7 @@ turned : (c : After-take_record)
 turned c =
     let l = c.loop-state in
     let k = traces_full _ _ _ (full_ample _ l.invariant.1) c.take_record.ensures in
-    turn listing_walk _ _ l.state _ c.record_length.result c.min-stop.result (input_fits c) c.loop-state-test.true c.record_length.ensures.value c.min-stop.ensures (record { is = k.answered }) k.state k.text (full_ample _ (full_after c))
+    turn_of listing_walk _ _ l.state _ _ _ (input_fits c) c.loop-state-test.true c.record_at-kind.ensures.kind c.record_at-kind.ensures.body (record { is = k.answered }) k.state k.text (full_ample _ (full_after c))
 
 -- the buffer behind a record has room for a line
 room_behind : (c : After-take_record) → end_after c.loop-state.end c.take_record.result + 40 ≤ length c.take_record.new.out
@@ -90,9 +60,6 @@ room_behind c =
 
 pub put_refusal-requires : goal.put_refusal-requires
 put_refusal-requires c = rw c.in-Err.is at (room_behind (goal.at.put_refusal-requires c).After-take_record)
-
-pub shape_of-out-in-Err : goal.shape_of-out-in-Err
-shape_of-out-in-Err c = c.put_refusal.auto.out ∙ c.take_record.auto.out ∙ c.loop-state.invariant.0.left.long
 
 pub returns-in-Err : goal.returns-in-Err
 returns-in-Err c =
@@ -116,9 +83,6 @@ loop-state-preserved c =
     let k = (goal.at.loop-state-preserved c).After-take_record in
     let turn = rw c.in-Ok.is at (turned k) in
     (going_more l.invariant.0 turn (listing_passed l.invariant.0 turn _ refl), full_after k, l.invariant.2)
-
-pub shape_of-out : goal.shape_of-out
-shape_of-out c = c.loop-state.invariant.0.left.long
 
 pub returns : goal.returns
 returns c =

@@ -4,15 +4,11 @@ use borrow.Author.Rules.{rules}
 use native.Mathlib.Omega.{arith}
 use Rattle.feed_state.specs.Buffers.{lent}
 use Rattle.feed_state.specs.Taken.{state_of}
-use Rattle.scale_trace_block.proofs.RoomLaws.{room_is}
 use Rattle.scale_trace_rules.specs.Trace.{list_room}
 use Rattle.scale_trace.specs.Work.{tracing}
-use Rattle.scale_trace.proofs.StepLaws.{kind_side, Fed, fed, traced_refused, traced_accepted}
+use Rattle.scale_trace.proofs.StepLaws.{Fed, fed, traced_refused, traced_accepted}
 use Rattle.scale_trace.proofs.stream.take_record.Goals as goal
 use Rattle.scale_trace.proofs.stream.take_record.Goals.{After-step}
-
-pub slice_bounds-step-end : goal.slice_bounds-step-end
-slice_bounds-step-end c = search rules
 
 -- what the feed's own step says
 fed_at : (c : After-step) → let a = c.args in
@@ -22,14 +18,6 @@ fed_at : (c : After-step) → let a = c.args in
 fed_at c =
     let a = c.args in
     fed (state_of a.state (lent a.levels.now a.coeff.now a.inter.now a.residual.now)) a.kind a.body.now (list_room a.kind) (omega arith) (search rules) c.step.ensures
-
-pub put_levels-end-requires : goal.put_levels-end-requires
-put_levels-end-requires c =
-    let z = c.size_of.ensures in
-    record {
-      t = kind_side c.args.kind z;
-      n_in_bounds = omega (arith, c.requires, rw (← z) at (room_is c.args.kind));
-    }
 
 pub returns : goal.returns
 returns c =

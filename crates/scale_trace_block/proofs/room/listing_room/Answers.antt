@@ -1,41 +1,41 @@
 -- `scale_trace_block::room::listing_room` meets its contract: what is counted and what the rest asks are what the whole asks.
+use Rattle.std.specs.Prelude.{Some}
 use mathlib.Core.Path.{◌≡◌, sym, ap, ◌∙◌}
-use mathlib.Core.Bool.{Bool}
 use native.Mathlib.Omega.{arith}
 use lib.ListN.{get_or}
-use Rattle.feed_format.specs.Format.{kind_of, is_unknown}
-use Rattle.std.specs.Option.{is_some}
-use Rattle.feed_format.proofs.FormatLaws.{unknown_is}
-use Rattle.feed_format.proofs.RoomLaws.{room_start, room_more, room_unknown, room_end}
+use Rattle.feed_format.specs.Format.{kind_of, is_unknown, record_length}
+use Rattle.feed_format.proofs.FormatLaws.{kind_known, length_most}
+use Rattle.feed_format.proofs.RoomLaws.{room_more, room_unknown, room_end}
 use Rattle.scale_trace_rules.specs.Trace.{list_room, listing_room}
+use Rattle.scale_trace_block.proofs.RoomLaws.{block_most}
 use Rattle.scale_trace_block.proofs.room.listing_room.Goals as goal
-use Rattle.scale_trace_block.proofs.room.listing_room.Goals.{After-is_none}
+use Rattle.scale_trace_block.proofs.room.listing_room.Goals.{In-Some}
 
-pub loop-at-init : goal.loop-at-init
-loop-at-init c = room_start list_room _
-
-pub bounds-input-at : goal.bounds-input-at
-bounds-input-at c = omega arith
-
-known : {b : Bool} (c : After-is_none) → c.is_none.result ≡ b → is_unknown (kind_of (get_or c.args.input.now c.loop-at.at 0)) ≡ b
-known c e = unknown_is _ (ap is_some (sym c.kind_of.ensures) ∙ c.is_none.ensures) ∙ e
-
-pub returns-then-is_none : goal.returns-then-is_none
+pub returns-in_default : goal.returns-in_default
 unfolding listing_room
-returns-then-is_none c = c.saturating_add.ensures ∙ sym (room_unknown c.loop-at.invariant c.loop-at-test.true (known (goal.at.returns-then-is_none c).After-is_none c.if-is_none.true))
+returns-in_default c = c.saturating_add.ensures ∙ sym (room_unknown c.loop-at.invariant c.loop-at-test.true (ap is_unknown (sym c.kind_of.ensures ∙ c.in_default.is)))
 
-pub overflow_add-at : goal.overflow_add-at
-overflow_add-at c = omega arith
+known : (c : In-Some) → kind_of (get_or c.args.input.now c.loop-at.at 0) ≡ Some c.in-Some.kind
+known c = sym c.kind_of.ensures ∙ c.in-Some.is
+
+pub body_length-requires : goal.body_length-requires
+body_length-requires c = kind_known _ (known (goal.at.body_length-requires c).In-Some)
+
+pub overflow_mul-n : goal.overflow_mul-n
+overflow_mul-n c = rw c.block_size-n.ensures (omega (arith, block_most c.in-Some.kind (kind_known _ (known (goal.at.overflow_mul-n c).In-Some))))
+
+pub overflow_mul-n-in-loop-at : goal.overflow_mul-n-in-loop-at
+overflow_mul-n-in-loop-at c = rw c.block_size-n.ensures (omega (arith, block_most c.in-Some.kind (kind_known _ (known (goal.at.overflow_mul-n-in-loop-at c).In-Some))))
 
 pub overflow_add-at-in-loop-at : goal.overflow_add-at-in-loop-at
-overflow_add-at-in-loop-at c = omega arith
-
-pub loop-at-smaller : goal.loop-at-smaller
-loop-at-smaller c = omega (arith, c.min-at.ensures, c.loop-at-test.true)
+overflow_add-at-in-loop-at c =
+    omega (arith, c.body_length.ensures, length_most c.in-Some.kind (kind_known _ (known (goal.at.overflow_add-at-in-loop-at c).In-Some)))
 
 pub loop-at-preserved : goal.loop-at-preserved
+unfolding record_length list_room
 loop-at-preserved c =
-    room_more c.loop-at.invariant _ c.loop-at-test.true (known (goal.at.loop-at-preserved c).After-is_none c.if-is_none.false) (rw c.record_length.ensures.value at c.min-at.ensures) _ (rw c.list_room.ensures at c.saturating_add-room.ensures)
+    let e = known (goal.at.loop-at-preserved c).In-Some in
+    room_more c.loop-at.invariant _ c.loop-at-test.true (ap is_unknown e) (rw e (rw c.body_length.ensures at c.min-at.ensures)) _ (rw e (rw c.block_size-n.ensures at c.saturating_add-room.ensures))
 
 pub returns : goal.returns
 unfolding listing_room

@@ -17,9 +17,6 @@ passed : (g : _) → (c : In_ok-block_refused g)
     → let a = c.args in not_refused ≡ block_answer g.R.Residual.NARROW a.n a.precision.bit_depth a.precision.extended (entries_of (list_of a.list)) (length a.levels.now) (length a.out.now)
 passed g c = rw (c.NARROW.ensures, c.len.ensures) at (sym (ap answer c.in_ok-block_refused.was) ∙ c.block_refused.ensures)
 
-pub scale-requires : goal.scale-requires
-scale-requires g c = passed g (goal.at.scale-requires g c).In_ok-block_refused
-
 pub returns : goal.returns
 unfolding dequantized
 returns g c =

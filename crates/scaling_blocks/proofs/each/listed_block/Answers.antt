@@ -9,37 +9,36 @@ use Rattle.parameters.specs.Answers.{no_dequant}
 use Rattle.parameters.specs.Parameters.{dequant_of, transform_skip_of}
 use Rattle.scaling_blocks.specs.Blocks.{output_width}
 use Rattle.scaling_blocks.specs.Each.{Scalable}
-use Rattle.scaling_blocks.proofs.BlockLaws.{Ready, ladder_ready, ready_scalable, numbers_is, numbers_given, scaled_counted}
+use Rattle.scaling_blocks.proofs.BlockLaws.{Ready, ladder_ready, ready_scalable, numbers_is, numbers_ok, scaled_counted}
 use Rattle.scaling_blocks.proofs.each.listed_block.Goals as goal
-use Rattle.scaling_blocks.proofs.each.listed_block.Goals.{Start, In-Ok}
+use Rattle.scaling_blocks.proofs.each.listed_block.Goals.{Start, After-unwrap-by}
 
 ready : (g : _) → (c : Start g)
     → let a = c.args in Ready g.R.Residual.NARROW a.n a.qp_prime.0 a.precision.bit_depth a.precision.extended (length a.list.now) (length a.levels.now) (length a.out.now) (transform_skip_of (log2_size a.n) a.qp_prime.0 a.precision.bit_depth a.precision.extended)
 ready g c = let a = c.args in ladder_ready g.R.Residual.NARROW a.n a.qp_prime.0 a.precision.bit_depth a.precision.extended (length a.list.now) (length a.levels.now) (length a.out.now) c.requires
 
-by_is : (g : _) → (c : In-Ok g) → let a = c.args in c.in-Ok.by ≡ dequant_of (log2_size a.n) a.qp_prime.0 a.precision.bit_depth a.precision.extended
+pub unwrap-by-requires : goal.unwrap-by-requires
+unwrap-by-requires g c =
+    let a = c.args in
+    numbers_ok g.R.Residual.NARROW a.n a.qp_prime.0 a.precision.bit_depth a.precision.extended (length a.list.now) (length a.levels.now) (length a.out.now) c.dequant_params.result c.requires c.dequant_params.ensures
+
+by_is : (g : _) → (c : After-unwrap-by g) → let a = c.args in c.unwrap-by.result ≡ dequant_of (log2_size a.n) a.qp_prime.0 a.precision.bit_depth a.precision.extended
 by_is g c =
     let a = c.args in
-    numbers_is g.R.Residual.NARROW a.n a.qp_prime.0 a.precision.bit_depth a.precision.extended (length a.list.now) (length a.levels.now) (length a.out.now) c.in-Ok.by c.requires
-    (sym (ap (outcome no_dequant) c.in-Ok.is) ∙ c.dequant_params.ensures)
+    numbers_is g.R.Residual.NARROW a.n a.qp_prime.0 a.precision.bit_depth a.precision.extended (length a.list.now) (length a.levels.now) (length a.out.now) c.unwrap-by.result c.requires
+    (ap (outcome no_dequant) (sym c.unwrap-by.ensures) ∙ c.dequant_params.ensures)
 
-scalable : (g : _) → (c : In-Ok g) → Scalable (output_width g.R.Residual.NARROW) c.in-Ok.by
+scalable : (g : _) → (c : After-unwrap-by g) → Scalable (output_width g.R.Residual.NARROW) c.unwrap-by.result
 unfolding transform_skip_of
 scalable g c =
-    subst (λ (p : DequantParams). Scalable (output_width g.R.Residual.NARROW) p) (sym (by_is g c)) (ready_scalable g.R.Residual.NARROW (ready g (goal.at.In-Ok g c).Start))
+    subst (λ (p : DequantParams). Scalable (output_width g.R.Residual.NARROW) p) (sym (by_is g c)) (ready_scalable g.R.Residual.NARROW (ready g (goal.at.After-unwrap-by g c).Start))
 
 pub scale_listed-requires : goal.scale_listed-requires
 scale_listed-requires g c =
     let r = ready g (goal.at.scale_listed-requires g c).Start in
-    record { scalable = scalable g (goal.at.scale_listed-requires g c).In-Ok; room = r.room; whole_list = r.whole }
+    record { scalable = scalable g (goal.at.scale_listed-requires g c).After-unwrap-by; room = r.room; whole_list = r.whole }
 
-pub returns-in-Ok : goal.returns-in-Ok
-returns-in-Ok g c =
+pub returns : goal.returns
+returns g c =
     let a = c.args in
-    scaled_counted (listed a.list.now a.dc) a.n a.qp_prime.0 a.precision.bit_depth a.precision.extended a.levels.now (by_is g (goal.at.returns-in-Ok g c).In-Ok) c.scale_listed.ensures
-
-pub returns-in-Err : goal.returns-in-Err
-returns-in-Err g c =
-    let a = c.args in
-    absurd (numbers_given g.R.Residual.NARROW a.n a.qp_prime.0 a.precision.bit_depth a.precision.extended (length a.list.now) (length a.levels.now) (length a.out.now) c.in-Err.field-0 c.requires
-    (sym (ap (outcome no_dequant) c.in-Err.is) ∙ c.dequant_params.ensures))
+    scaled_counted (listed a.list.now a.dc) a.n a.qp_prime.0 a.precision.bit_depth a.precision.extended a.levels.now (by_is g (goal.at.returns g c).After-unwrap-by) c.scale_listed.ensures

@@ -7,8 +7,8 @@ use Rattle.scaling_blocks.proofs.each.scale_listed.Goals as goal
 pub scale_by-requires-clause-fits : goal.scale_by-requires-clause-fits
 scale_by-requires-clause-fits g c = by_entry_fits _ _ c.requires.scalable.ends (compact_value c.listed_params.ensures)
 
-pub returns-then-by-eq32767 : goal.returns-then-by-eq32767
-returns-then-by-eq32767 g c = by_entry_listed c.args.by _ _ _ _ _ (compact_value c.listed_params.ensures) (compact_limited_lem c.listed_params.ensures) c.scale_by.ensures
+pub returns-then-by : goal.returns-then-by
+returns-then-by g c = by_entry_listed c.args.by _ _ _ _ _ (compact_value c.listed_params.ensures) (compact_limited_lem c.listed_params.ensures) c.scale_by.ensures
 
 pub scale_by-requires-2-clause-fits : goal.scale_by-requires-2-clause-fits
 scale_by-requires-2-clause-fits g c = by_entry_fits _ _ c.requires.scalable.ends (long_value c.long_params.ensures)

@@ -14,10 +14,10 @@ use Rattle.scaling_blocks.proofs.spread.next_row.Goals as goal
 use Rattle.scaling_blocks.proofs.spread.next_row.Goals.{Else-row-repeats, Start}
 
 small : (s : Start) → s.args.n ≤ 32
-small s = (size_bound s.args.n s.requires.rows.size).1
+small s = (size_bound s.args.n s.requires.laid.rows.size).1
 
 few : (s : Start) → s.args.repeats ≤ 2
-few s = omega (arith, s.requires.rows.repeats, log2_size_bound s.args.n s.requires.rows.size)
+few s = omega (arith, s.requires.laid.rows.repeats, log2_size_bound s.args.n s.requires.laid.rows.size)
 
 -- the multiple below the row is not larger than it
 back : (s : Start) → let a = s.args in (a.row / 2 ^ a.repeats * 2 ^ a.repeats) % 18446744073709551616 ≡ a.row / 2 ^ a.repeats * 2 ^ a.repeats
@@ -50,25 +50,20 @@ positive c =
 -- the position above is that in the row
 shared : (c : Else-row-repeats) (k : ℕ) → let a = c.args in k < a.n → repeated_position a.n (a.row * a.n - a.n + k) ≡ repeated_position a.n (a.row * a.n + k)
 shared c k h =
-    let s = c in
-    let a = s.args in
+    let a = c.args in
     let r : a.row ≡ a.row - 1 + 1 = omega (arith, positive c) in
     let e : a.row * a.n - a.n + k ≡ (a.row - 1) * a.n + k = omega (arith, ap (λ (m : ℕ). m * a.n) r, add-mul (a.row - 1) 1 a.n) in
     ap (λ (i : ℕ). repeated_position a.n i) e
-    ∙ sym (row_position a.n a.repeats (a.row - 1) k s.requires.rows h)
+    ∙ sym (row_position a.n a.repeats (a.row - 1) k c.requires.laid.rows h)
     ∙ ap (λ (q : ℕ). q * 8 + k / 2 ^ a.repeats) (shared_row a.row a.repeats (later c))
-    ∙ row_position a.n a.repeats a.row k s.requires.rows h
+    ∙ row_position a.n a.repeats a.row k c.requires.laid.rows h
 
 pub copy_row-requires : goal.copy_row-requires
 copy_row-requires c =
-    let e = c in
-    let s = e in
-    record { n_in_bounds = s.requires.n_in_bounds; le_row = (positive (goal.at.copy_row-requires c).Else-row-repeats, s.requires.row_lt_n); n_bound = small (goal.at.copy_row-requires c).Start }
+    record { n_in_bounds = c.requires.laid.room; le_row = (positive (goal.at.copy_row-requires c).Else-row-repeats, c.requires.row_lt_n); n_bound = small (goal.at.copy_row-requires c).Start }
 
 pub returns : goal.returns
 unfolding spread_at
 returns c =
-    let w = c in
-    let e = w in
-    let a = e.args in
-    w.copy_row.ensures.fills (spread_at a.list.now a.n) (λ k h. ap (λ (p : ℕ). get_or a.list.now p 0) (shared (goal.at.returns c).Else-row-repeats k h))
+    let a = c.args in
+    c.copy_row.ensures.fills (spread_at a.list.now a.n) (λ k h. ap (λ (p : ℕ). get_or a.list.now p 0) (shared (goal.at.returns c).Else-row-repeats k h))

@@ -15,29 +15,25 @@ use Rattle.scaling_blocks.proofs.spread.spread_row.Goals.{In-loop-c, Start}
 
 -- sizes, and the index at a column
 small : (s : Start) → s.args.n ≤ 32
-small s = (size_bound s.args.n s.requires.rows.size).1
+small s = (size_bound s.args.n s.requires.laid.rows.size).1
 
 first_small : (s : Start) → s.args.row * s.args.n ≤ 32 * 32
 first_small s = mul-le-mul (let e : s.args.row ≤ 32 = omega (arith, small s, s.requires.row_lt_n) in e) (small s)
 
 few : (s : Start) → s.args.repeats ≤ 2
-few s = omega (arith, s.requires.rows.repeats, log2_size_bound s.args.n s.requires.rows.size)
+few s = omega (arith, s.requires.laid.rows.repeats, log2_size_bound s.args.n s.requires.laid.rows.size)
 
-below : (c : In-loop-c) → let l = c in let s = l in s.args.row * s.args.n + l.loop-c.c < s.args.n * s.args.n
-below c = let s = c in digits_lt s.requires.row_lt_n c.loop-c-test.true
+below : (c : In-loop-c) → c.args.row * c.args.n + c.loop-c.c < c.args.n * c.args.n
+below c = digits_lt c.requires.row_lt_n c.loop-c-test.true
 
 position_is : (c : In-loop-c)
-    → let l = c in let s = l in s.args.row / 2 ^ s.args.repeats * 8 + l.loop-c.c / 2 ^ s.args.repeats ≡ repeated_position s.args.n (s.args.row * s.args.n + l.loop-c.c)
+    → c.args.row / 2 ^ c.args.repeats * 8 + c.loop-c.c / 2 ^ c.args.repeats ≡ repeated_position c.args.n (c.args.row * c.args.n + c.loop-c.c)
 position_is c =
-    let l = c in
-    let s = l in
-    row_position s.args.n s.args.repeats s.args.row l.loop-c.c s.requires.rows c.loop-c-test.true
+    row_position c.args.n c.args.repeats c.args.row c.loop-c.c c.requires.laid.rows c.loop-c-test.true
 
-inside : (c : In-loop-c) → let l = c in let s = l in s.args.row / 2 ^ s.args.repeats * 8 + l.loop-c.c / 2 ^ s.args.repeats < 64
+inside : (c : In-loop-c) → c.args.row / 2 ^ c.args.repeats * 8 + c.loop-c.c / 2 ^ c.args.repeats < 64
 inside c =
-    let l = c in
-    let s = l in
-    omega (arith, position_is c, position_inside s.args.n (s.args.row * s.args.n + l.loop-c.c) s.requires.rows.size (below c) s.requires.rows.large)
+    omega (arith, position_is c, position_inside c.args.n (c.args.row * c.args.n + c.loop-c.c) c.requires.laid.rows.size (below c) c.requires.laid.rows.large)
 
 pub overflow_mul-at : goal.overflow_mul-at
 overflow_mul-at c = omega (arith, first_small c)
@@ -58,27 +54,22 @@ pub overflow_add-entries : goal.overflow_add-entries
 overflow_add-entries c = omega (arith, inside c)
 
 pub bounds-list-entry : goal.bounds-list-entry
-bounds-list-entry c = let i = c in omega (arith, inside (goal.at.bounds-list-entry c).In-loop-c, i.requires.list_len)
+bounds-list-entry c = omega (arith, inside (goal.at.bounds-list-entry c).In-loop-c, c.requires.laid.whole)
 
 pub overflow_add-entries-in-loop-c : goal.overflow_add-entries-in-loop-c
-overflow_add-entries-in-loop-c c = let i = c in let s = i in omega (arith, first_small (goal.at.overflow_add-entries-in-loop-c c).Start, small (goal.at.overflow_add-entries-in-loop-c c).Start, i.loop-c-test.true)
+overflow_add-entries-in-loop-c c = omega (arith, first_small (goal.at.overflow_add-entries-in-loop-c c).Start, small (goal.at.overflow_add-entries-in-loop-c c).Start, c.loop-c-test.true)
 
 pub bounds-entries-at : goal.bounds-entries-at
-bounds-entries-at c = let i = c in omega (arith, below (goal.at.bounds-entries-at c).In-loop-c, i.loop-c.invariant.same, i.requires.n_in_bounds)
+bounds-entries-at c = omega (arith, below (goal.at.bounds-entries-at c).In-loop-c, c.loop-c.invariant.same, c.requires.laid.room)
 
 pub loop-c-preserved : goal.loop-c-preserved
 unfolding spread_at
 loop-c-preserved c =
-    let i = c in
-    let l = i in
-    let s = l in
-    fills_more l.loop-c.invariant (s.args.row * s.args.n + (l.loop-c.c + 1)) (omega arith) (omega (arith, below (goal.at.loop-c-preserved c).In-loop-c, s.requires.n_in_bounds)) (ap (λ (k : ℕ). get_or s.args.list.now k 0) (position_is (goal.at.loop-c-preserved c).In-loop-c))
+    fills_more c.loop-c.invariant (c.args.row * c.args.n + (c.loop-c.c + 1)) (omega arith) (omega (arith, below (goal.at.loop-c-preserved c).In-loop-c, c.requires.laid.room)) (ap (λ (k : ℕ). get_or c.args.list.now k 0) (position_is (goal.at.loop-c-preserved c).In-loop-c))
 
 pub shape_of-entries : goal.shape_of-entries
 shape_of-entries c = c.loop-c.invariant.same
 
 pub returns : goal.returns
 returns c =
-    let l = c in
-    let s = l in
-    fills_to l.loop-c.invariant (ap (λ (k : ℕ). s.args.row * s.args.n + k) (omega arith))
+    fills_to c.loop-c.invariant (ap (λ (k : ℕ). c.args.row * c.args.n + k) (omega arith))

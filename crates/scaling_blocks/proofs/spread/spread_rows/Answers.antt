@@ -11,16 +11,14 @@ loop-row-init c = fills_none (omega arith)
 
 pub next_row-requires : goal.next_row-requires
 next_row-requires c =
-    let l = c in
-    let s = l in
-    record { n_in_bounds = omega (arith, l.loop-row.invariant.same, s.requires.n_in_bounds); list_len = s.requires.list_len; rows = s.requires.rows; row_lt_n = c.loop-row-test.true }
+    record {
+      laid = record { rows = c.requires.rows; whole = c.requires.whole; room = omega (arith, c.loop-row.invariant.same, c.requires.room) };
+      row_lt_n = c.loop-row-test.true;
+    }
 
 pub loop-row-preserved : goal.loop-row-preserved
 loop-row-preserved c =
-    let r = c in
-    let l = r in
-    let s = l in
-    fills_then l.loop-row.invariant (fills_to r.next_row.ensures (omega (arith, suc-mul l.loop-row.row s.args.n)))
+    fills_then c.loop-row.invariant (fills_to c.next_row.ensures (omega (arith, suc-mul c.loop-row.row c.args.n)))
 
 pub shape_of-entries : goal.shape_of-entries
 shape_of-entries c = c.loop-row.invariant.same

@@ -21,11 +21,6 @@ returns-then-same_list c =
     let e = compared (goal.at.returns-then-same_list c).After-same_list in
     (sym (first_where_found (c.args.j % 6) c.loop-d.d c.loop-d-test.true c.loop-d.invariant (sym e ∙ c.if-same_list.true)), omega arith)
 
-pub loop-d-preserved : goal.loop-d-preserved
-loop-d-preserved c =
-    let e = compared (goal.at.loop-d-preserved c).After-same_list in
-    none_suc c.loop-d.invariant (sym e ∙ c.if-same_list.false)
-
 pub returns : goal.returns
 unfolding nearest earlier
 returns c = (sym (first_where-none (c.args.j % 6) c.loop-d-test.false c.loop-d.invariant), omega arith)

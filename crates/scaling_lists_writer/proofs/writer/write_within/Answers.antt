@@ -2,10 +2,12 @@
 use mathlib.Core.Path.{◌≡◌, ap, ◌∙◌}
 use mathlib.Core.List.{List, ◌++◌}
 use Prim.Native.Nat.{ℕ}
+use borrow.Author.Tests.{ltb-true, ltb-false}
 use native.Mathlib.Nat.{zero-add}
 use native.Mathlib.Omega.{arith}
 use lib.ListN.{drop}
 use lib.Seq.{length-take-le}
+use Rattle.std.proofs.lemmas.Result.{err_from_is_err_and}
 use Rattle.integers.specs.Lists.{overwrite}
 use Rattle.text.proofs.WroteLaws.{wrote-length}
 use Rattle.bits_written.specs.Bytes.{byte_count}
@@ -18,19 +20,21 @@ rounded : (c : After-div_ceil-bytes) → c.div_ceil-bytes.result ≡ byte_count 
 unfolding byte_count
 rounded c = omega (arith, c.div_ceil-bytes.ensures)
 
-pub returns-then-out-bytes : goal.returns-then-out-bytes
-returns-then-out-bytes c =
+pub returns-in_err-check : goal.returns-in_err-check
+returns-in_err-check c =
     let w = c.put_lists-count.ensures in
-    written-short c.args.out.now _ _ _ (w.wrote.end ∙ zero-add _) (rounded (goal.at.returns-then-out-bytes c).After-div_ceil-bytes) c.if-out-bytes.true
+    let p = err_from_is_err_and c.from_residual.result c.from_residual.ensures.1 in
+    rw (p.1, p.2, c.in_err-check.ensures.1)
+    (written-short c.args.out.now _ _ _ (w.wrote.end ∙ zero-add _) (rounded (goal.at.returns-in_err-check c).After-div_ceil-bytes) (ltb-true _ _ c.in_err-check.ensures.0))
 
 pub put_bytes-requires : goal.put_bytes-requires
 put_bytes-requires c =
     let w = c.put_lists-count.ensures in
-    (buffer_binary 22120 _ w.wrote w.bound (written_binary _ _), rw (length-take-le _ _ c.if-out-bytes.false) (omega (arith, c.div_ceil-bytes.ensures, w.bound, wrote-length w.wrote)))
+    (buffer_binary 22120 _ w.wrote w.bound (written_binary _ _), rw (length-take-le _ _ (ltb-false _ _ c.in_ok-check.ensures)) (omega (arith, c.div_ceil-bytes.ensures, w.bound, wrote-length w.wrote)))
 
 pub returns : goal.returns
 unfolding overwrite
 returns c =
     let w = c.put_lists-count.ensures in
-    written_got c.args.out.now _ _ _ _ _ (w.wrote.end ∙ zero-add _) (rounded (goal.at.returns c).After-div_ceil-bytes) c.if-out-bytes.false (buffer_bit 22120 _ w.wrote w.bound)
-    (ap (λ (l : List ℕ). l ++ drop c.div_ceil-bytes.result c.args.out.now) (rw (length-take-le _ _ c.if-out-bytes.false) at c.put_bytes.ensures))
+    written_got c.args.out.now _ _ _ _ _ (w.wrote.end ∙ zero-add _) (rounded (goal.at.returns c).After-div_ceil-bytes) (ltb-false _ _ c.in_ok-check.ensures) (buffer_bit 22120 _ w.wrote w.bound)
+    (ap (λ (l : List ℕ). l ++ drop c.div_ceil-bytes.result c.args.out.now) (rw (length-take-le _ _ (ltb-false _ _ c.in_ok-check.ensures)) at c.put_bytes.ensures))

@@ -54,15 +54,13 @@ add_is c = rw (round_trip (add_fits (goal.at.After-shift_right-add c).Start)) at
 
 base_trip : (c : After-shift_right-base) → to_z w64 (of_z w64 c.shift_right-base.result) ≡ pos c.requires.regular.scale
 base_trip c =
-    let s = c in
-    let r = s.requires.regular in
-    round_trip {w = w64} (sfits_of c.shift_right-base.type_inv) ∙ base_is c ∙ base_eq s.args.by r.scale r.factor r.add r.low
+    let r = c.requires.regular in
+    round_trip {w = w64} (sfits_of c.shift_right-base.type_inv) ∙ base_is c ∙ base_eq c.args.by r.scale r.factor r.add r.low
 
 add_trip : (c : After-shift_right-add) → to_z w64 (of_z w64 c.shift_right-add.result) ≡ pow2 (c.args.by.shift - 5)
 add_trip c =
-    let s = c in
-    let r = s.requires.regular in
-    round_trip {w = w64} (sfits_of c.shift_right-add.type_inv) ∙ add_is c ∙ add_eq s.args.by r.scale r.factor r.add r.low
+    let r = c.requires.regular in
+    round_trip {w = w64} (sfits_of c.shift_right-add.type_inv) ∙ add_is c ∙ add_eq c.args.by r.scale r.factor r.add r.low
 
 most_trip : (c : Start) → to_z w64 (of_z w64 c.args.by.clip_max) ≡ pos (2 ^ c.requires.regular.range - 1)
 most_trip c = round_trip (most_fits c) ∙ most_is c
@@ -77,19 +75,16 @@ divided c =
     }
 
 pub overflow_cast-most : goal.overflow_cast-most
-overflow_cast-most c = let s = c in rw (most_trip (goal.at.overflow_cast-most c).Start) (tt, omega (arith, most_small (goal.at.overflow_cast-most c).Start))
+overflow_cast-most c = rw (most_trip (goal.at.overflow_cast-most c).Start) (tt, omega (arith, most_small (goal.at.overflow_cast-most c).Start))
 
 pub overflow_cast-base : goal.overflow_cast-base
-overflow_cast-base c = let b = c in rw (base_trip (goal.at.overflow_cast-base c).After-shift_right-base) (tt, omega (arith, scale_small (goal.at.overflow_cast-base c).Start))
+overflow_cast-base c = rw (base_trip (goal.at.overflow_cast-base c).After-shift_right-base) (tt, omega (arith, scale_small (goal.at.overflow_cast-base c).Start))
 
 pub overflow_cast-add : goal.overflow_cast-add
-overflow_cast-add c = let b = c in rw (add_trip (goal.at.overflow_cast-add c).After-shift_right-add) (tt, omega (arith, half_small (goal.at.overflow_cast-add c).Start))
+overflow_cast-add c = rw (add_trip (goal.at.overflow_cast-add c).After-shift_right-add) (tt, omega (arith, half_small (goal.at.overflow_cast-add c).Start))
 
 pub top_level-largest-requires : goal.top_level-largest-requires
 top_level-largest-requires c =
-    let a = c in
-    let b = a in
-    let s = b in
     rw (base_trip (goal.at.top_level-largest-requires c).After-shift_right-base, add_trip (goal.at.top_level-largest-requires c).After-shift_right-add, most_trip (goal.at.top_level-largest-requires c).Start) (divided (goal.at.top_level-largest-requires c).Start)
 
 pub overflow_cast-base-2 : goal.overflow_cast-base-2
@@ -118,7 +113,6 @@ top_small c =
 
 low_small : (c : After-low_level-least) → c.low_level-least.result ≤ 4194305
 low_small c =
-    let b = c in
     let t : LowOf (start (goal.at.After-low_level-least c).After-top_level-largest).requires.regular.scale (2 ^ ((start (goal.at.After-low_level-least c).After-top_level-largest).args.by.shift - 5)) ((start (goal.at.After-low_level-least c).After-top_level-largest).args.by.shift - 4) (2 ^ (start (goal.at.After-low_level-least c).After-top_level-largest).requires.regular.range - 1) c.low_level-least.result = rw (base_trip (base-call (goal.at.After-low_level-least c).After-top_level-largest), add_trip (add-call (goal.at.After-low_level-least c).After-top_level-largest), most_trip (start (goal.at.After-low_level-least c).After-top_level-largest)) at c.low_level-least.ensures in
     omega (arith, t.inside, most_small (start (goal.at.After-low_level-least c).After-top_level-largest))
 
@@ -134,12 +128,6 @@ negated t = parts_ext (pos 0 -ℤ pos t) (neg_ℤ (pos t)) (omega (arith, parts_
 one_less : (t : ℕ) → neg_ℤ (pos t) -ℤ pos 1 ≡ neg_ℤ (pos (t + 1))
 one_less t = parts_ext (neg_ℤ (pos t) -ℤ pos 1) (neg_ℤ (pos (t + 1))) (omega (arith, parts_add (neg_ℤ (pos t)) (neg_ℤ (pos 1)), parts_neg (pos t), parts_neg (pos (t + 1))))
 
-pub overflow_cast-top : goal.overflow_cast-top
-overflow_cast-top c = within_fits {b = 4194304} tt (within_pos (top_small (goal.at.overflow_cast-top c).After-top_level-largest))
-
-pub overflow_cast-low : goal.overflow_cast-low
-overflow_cast-low c = within_fits {b = 4194305} tt (within_pos (low_small c))
-
 pub overflow_sub-low : goal.overflow_sub-low
 overflow_sub-low c = rw (low_trip c, negated c.low_level-least.result) (within_fits {b = 4194305} tt (within_neg (within_pos (low_small c))))
 
@@ -149,13 +137,13 @@ overflow_sub-low-2 c =
     (within_fits {b = 4194306} tt (within_neg (within_pos {k = c.low_level-least.result + 1} (omega (arith, low_small c)))))
 
 pub overflow_add-top : goal.overflow_add-top
-overflow_add-top c = let b = c in rw (top_trip (goal.at.overflow_add-top c).After-top_level-largest) (within_fits {b = 4194305} tt (within_pos {k = b.top_level-largest.result + 1} (omega (arith, top_small (goal.at.overflow_add-top c).After-top_level-largest))))
+overflow_add-top c = rw (top_trip (goal.at.overflow_add-top c).After-top_level-largest) (within_fits {b = 4194305} tt (within_pos {k = c.top_level-largest.result + 1} (omega (arith, top_small (goal.at.overflow_add-top c).After-top_level-largest))))
 
 pub overflow_cast-result : goal.overflow_cast-result
-overflow_cast-result c = let b = c in rw (base_trip (base-call (goal.at.overflow_cast-result c).After-top_level-largest)) (within_fits {b = 4718592} tt (within_pos (scale_small (start (goal.at.overflow_cast-result c).After-top_level-largest))))
+overflow_cast-result c = rw (base_trip (base-call (goal.at.overflow_cast-result c).After-top_level-largest)) (within_fits {b = 4718592} tt (within_pos (scale_small (start (goal.at.overflow_cast-result c).After-top_level-largest))))
 
 pub overflow_cast-result-2 : goal.overflow_cast-result-2
-overflow_cast-result-2 c = let b = c in rw (add_trip (add-call (goal.at.overflow_cast-result-2 c).After-top_level-largest)) (within_fits {b = 2 ^ 15} tt (within_pos (half_small (start (goal.at.overflow_cast-result-2 c).After-top_level-largest))))
+overflow_cast-result-2 c = rw (add_trip (add-call (goal.at.overflow_cast-result-2 c).After-top_level-largest)) (within_fits {b = 2 ^ 15} tt (within_pos (half_small (start (goal.at.overflow_cast-result-2 c).After-top_level-largest))))
 
 -- what holds of the numbers as they were passed holds of the block's
 numbers_of : (c : After-top_level-largest) (Q : ℕ → ℕ → ℕ → Type 0)
@@ -167,8 +155,7 @@ numbers_of c Q h =
 -- the coefficients past them
 under_is : (c : After-scaled_listed-under) → c.scaled_listed-under.result.value ≡ listed_level (start (goal.at.After-scaled_listed-under c).After-top_level-largest).args.by 16 (neg_ℤ (pos (c.low_level-least.result + 1)))
 under_is c =
-    let l = c in
-    rw (round_trip (overflow_sub-low-2 (goal.at.After-scaled_listed-under c).After-low_level-least), round_trip (overflow_sub-low (goal.at.After-scaled_listed-under c).After-low_level-least), low_trip (goal.at.After-scaled_listed-under c).After-low_level-least, negated l.low_level-least.result, one_less l.low_level-least.result) at c.scaled_listed-under.ensures.value
+    rw (round_trip (overflow_sub-low-2 (goal.at.After-scaled_listed-under c).After-low_level-least), round_trip (overflow_sub-low (goal.at.After-scaled_listed-under c).After-low_level-least), low_trip (goal.at.After-scaled_listed-under c).After-low_level-least, negated c.low_level-least.result, one_less c.low_level-least.result) at c.scaled_listed-under.ensures.value
 
 over_is : (c : After-scaled_listed-over) → c.scaled_listed-over.result.value ≡ listed_level (start (goal.at.After-scaled_listed-over c).After-top_level-largest).args.by 16 (pos (c.top_level-largest.result + 1))
 over_is c = rw (round_trip (overflow_add-top (goal.at.After-scaled_listed-over c).After-scaled_listed-under), top_trip (goal.at.After-scaled_listed-over c).After-top_level-largest) at c.scaled_listed-over.ensures.value
@@ -178,21 +165,17 @@ listed_trip c level v e = ap (λ (z : ℤ). to_z w32 (of_z w32 z)) e ∙ round_t
 
 pub returns : goal.returns
 returns c =
-    let o = c in
-    let u = o in
-    let l = u in
-    let t = l in
     let s = start (goal.at.returns c).After-top_level-largest in
     record {
-      largest = t.top_level-largest.result;
-      least = l.low_level-least.result;
-      top_of = numbers_of (goal.at.returns c).After-top_level-largest (λ f a m. TopOf f a (s.args.by.shift - 4) m t.top_level-largest.result) t.top_level-largest.ensures;
-      low_of = numbers_of (goal.at.returns c).After-top_level-largest (λ f a m. LowOf f a (s.args.by.shift - 4) m l.low_level-least.result) l.low_level-least.ensures;
-      low = round_trip (overflow_sub-low (goal.at.returns c).After-low_level-least) ∙ rw (low_trip (goal.at.returns c).After-low_level-least) (negated l.low_level-least.result);
+      largest = c.top_level-largest.result;
+      least = c.low_level-least.result;
+      top_of = numbers_of (goal.at.returns c).After-top_level-largest (λ f a m. TopOf f a (s.args.by.shift - 4) m c.top_level-largest.result) c.top_level-largest.ensures;
+      low_of = numbers_of (goal.at.returns c).After-top_level-largest (λ f a m. LowOf f a (s.args.by.shift - 4) m c.low_level-least.result) c.low_level-least.ensures;
+      low = round_trip (overflow_sub-low (goal.at.returns c).After-low_level-least) ∙ rw (low_trip (goal.at.returns c).After-low_level-least) (negated c.low_level-least.result);
       top = top_trip (goal.at.returns c).After-top_level-largest;
       base = round_trip (overflow_cast-result (goal.at.returns c).After-scaled_listed-over) ∙ round_trip {w = w64} (sfits_of (base-call (goal.at.returns c).After-top_level-largest).shift_right-base.type_inv) ∙ base_is (base-call (goal.at.returns c).After-top_level-largest);
       add = round_trip (overflow_cast-result-2 (goal.at.returns c).After-scaled_listed-over) ∙ round_trip {w = w64} (sfits_of (add-call (goal.at.returns c).After-top_level-largest).shift_right-add.type_inv) ∙ add_is (add-call (goal.at.returns c).After-top_level-largest);
       shift = refl;
-      under = listed_trip s (neg_ℤ (pos (l.low_level-least.result + 1))) u.scaled_listed-under.result.value (under_is (goal.at.returns c).After-scaled_listed-under);
-      over = listed_trip s (pos (t.top_level-largest.result + 1)) o.scaled_listed-over.result.value (over_is (goal.at.returns c).After-scaled_listed-over);
+      under = listed_trip s (neg_ℤ (pos (c.low_level-least.result + 1))) c.scaled_listed-under.result.value (under_is (goal.at.returns c).After-scaled_listed-under);
+      over = listed_trip s (pos (c.top_level-largest.result + 1)) c.scaled_listed-over.result.value (over_is (goal.at.returns c).After-scaled_listed-over);
     }

@@ -4,29 +4,9 @@ use Prim.Native.Nat.{◌+◌, ◌*◌, ◌%◌, ◌^◌}
 use native.Mathlib.Nat.{mod-eq_of_lt, mul-le-mul_left}
 use native.Mathlib.Omega.{arith}
 use lib.Pow.{pow_pos}
-use Rattle.scaling_values.proofs.DivisionLaws.{low_most, low_quotient, half_below}
+use Rattle.scaling_values.proofs.DivisionLaws.{low_least, half_below}
 use Rattle.scaling_values.proofs.flat.low_level.Goals as goal
 use Rattle.scaling_values.proofs.flat.low_level.Goals.{Start}
 
-dividend_is : (c : Start) → let a = c.args in ((a.most + 1) * 2 ^ a.shift) % 4294967296 ≡ (a.most + 1) * 2 ^ a.shift
-dividend_is c = mod-eq_of_lt (omega (arith, c.requires.small))
-
-pub overflow_add-enough : goal.overflow_add-enough
-overflow_add-enough c = omega (arith, c.requires.small, mul-le-mul_left (c.args.most + 1) (pow_pos c.args.shift))
-
-pub overflow_shl-enough : goal.overflow_shl-enough
-overflow_shl-enough c = c.requires.shift
-
-pub overflow_add-enough-2 : goal.overflow_add-enough-2
-overflow_add-enough-2 c = rw (dividend_is c) (omega (arith, c.requires.small, half_below c.requires))
-
-pub overflow_add-result : goal.overflow_add-result
-overflow_add-result c = omega (arith, c.requires.small, mul-le-mul_left (c.args.most + 1) (pow_pos c.args.shift))
-
-pub returns-then-most-enough : goal.returns-then-most-enough
-returns-then-most-enough c = low_most c.requires (rw (dividend_is (goal.at.returns-then-most-enough c).Start) at c.if-most-enough.true)
-
-pub returns : goal.returns
-returns c =
-    let s = c in
-    rw (dividend_is (goal.at.returns c).Start) (low_quotient s.requires (omega (arith, rw (dividend_is (goal.at.returns c).Start) at c.if-most-enough.false)))
+pub overflow_add-most : goal.overflow_add-most
+overflow_add-most c = omega (arith, c.requires.small, mul-le-mul_left (c.args.most + 1) (pow_pos c.args.shift))

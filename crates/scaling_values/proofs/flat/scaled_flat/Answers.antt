@@ -37,17 +37,14 @@ over_fits c = within_fits tt c.requires.over
 pub returns-then-level-by : goal.returns-then-level-by
 unfolding short_level short_limited
 returns-then-level-by c =
-    let s = c in
-    let below = lt_z_round_trip s.ranges.level (low_fits (goal.at.returns-then-level-by c).Start) c.if-level-by.true in
+    let below = lt_z_round_trip c.ranges.level (low_fits (goal.at.returns-then-level-by c).Start) c.if-level-by.true in
     record { value = rw (round_trip (under_fits (goal.at.returns-then-level-by c).Start), below); limited = rw below; fits = rw (round_trip (under_fits (goal.at.returns-then-level-by c).Start)) (under_fits (goal.at.returns-then-level-by c).Start) }
 
 pub returns-then-by-level : goal.returns-then-by-level
 unfolding short_level short_limited
 returns-then-by-level c =
-    let e = c in
-    let s = e in
-    let below = lt_z_round_trip s.ranges.level (low_fits (goal.at.returns-then-by-level c).Start) e.if-level-by.false in
-    let above = lt_z_round_trip (top_fits (goal.at.returns-then-by-level c).Start) s.ranges.level c.if-by-level.true in
+    let below = lt_z_round_trip c.ranges.level (low_fits (goal.at.returns-then-by-level c).Start) c.if-level-by.false in
+    let above = lt_z_round_trip (top_fits (goal.at.returns-then-by-level c).Start) c.ranges.level c.if-by-level.true in
     record { value = rw (round_trip (over_fits (goal.at.returns-then-by-level c).Start), below, above); limited = rw (below, above); fits = rw (round_trip (over_fits (goal.at.returns-then-by-level c).Start)) (over_fits (goal.at.returns-then-by-level c).Start) }
 
 -- between the two levels
@@ -75,21 +72,15 @@ sum_within c = within_add (product_within c) (start c).requires.add
 
 pub overflow_mul-result : goal.overflow_mul-result
 overflow_mul-result c =
-    let e = c in
     rw (round_trip (start (goal.at.overflow_mul-result c).Else-by-level).ranges.level, round_trip (base_fits (start (goal.at.overflow_mul-result c).Else-by-level))) (within_fits tt (product_within (goal.at.overflow_mul-result c).Else-by-level))
 
 pub overflow_add-result : goal.overflow_add-result
 overflow_add-result c =
-    let m = c in
-    let e = m in
     rw (round_trip (overflow_mul-result (goal.at.overflow_add-result c).After-struct_told-3-1), round_trip (start (goal.at.overflow_add-result c).Else-by-level).ranges.level, round_trip (base_fits (start (goal.at.overflow_add-result c).Else-by-level)), round_trip (add_fits (start (goal.at.overflow_add-result c).Else-by-level))) (within_fits tt (sum_within (goal.at.overflow_add-result c).Else-by-level))
 
 pub returns : goal.returns
 unfolding short_level short_limited shift_right
 returns c =
-    let a = c in
-    let m = a in
-    let e = m in
     let s = start (goal.at.returns c).Else-by-level in
     record {
       value =

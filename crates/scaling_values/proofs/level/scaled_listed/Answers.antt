@@ -39,7 +39,5 @@ scaled-requires c =
 pub returns : goal.returns
 unfolding listed_level listed_result
 returns c =
-    let b = c in
-    let s = b in
-    let numbers = rw (round_trip (overflow_mul-shift_right (goal.at.returns c).After-shift_right), round_trip (sfits_of b.shift_right.type_inv), m_is (goal.at.returns c).Start, round_trip s.ranges.level, base_is (goal.at.returns c).After-shift_right) at c.scaled.ensures in
+    let numbers = rw (round_trip (overflow_mul-shift_right (goal.at.returns c).After-shift_right), round_trip (sfits_of c.shift_right.type_inv), m_is (goal.at.returns c).Start, round_trip c.ranges.level, base_is (goal.at.returns c).After-shift_right) at c.scaled.ensures in
     record { value = numbers.value; before = numbers.before; after = numbers.after }

@@ -1,5 +1,5 @@
 -- `scaling_values::listed::compact_result` meets its contract: 32 bits hold the product and the sum, since the level is limited first.
-use mathlib.Core.Path.{◌≡◌}
+use mathlib.Core.Path.{◌≡◌, ◌∙◌}
 use Prim.Native.Nat.{◌+◌, ◌*◌, ◌^◌}
 use native.Mathlib.Omega.{arith}
 use borrow.Author.Rules.{sfits_of}
@@ -14,10 +14,10 @@ use Rattle.integers.specs.Within.{Within}
 use Rattle.integers.proofs.LinearLaws.{le_out}
 use Rattle.integers.proofs.MachineLaws.{round_trip, sfits_shr}
 use Rattle.integers.proofs.BoundLaws.{within_fits, within_eq, within_mul, within_add, within_pos}
-use Rattle.integers.proofs.ClipLaws.{clip3_within}
+use Rattle.integers.proofs.ClipLaws.{clamp_clips, clip3_within}
 use Rattle.scaling_values.specs.Listed.{compact_result}
 use Rattle.scaling_values.proofs.listed.compact_result.Goals as goal
-use Rattle.scaling_values.proofs.listed.compact_result.Goals.{After-limited_level-near, After-struct_told-1, After-struct_told-2-1, Start}
+use Rattle.scaling_values.proofs.listed.compact_result.Goals.{After-clamp-near, After-struct_told-1, After-struct_told-2-1, Start}
 
 base_fits : (c : Start) → SFits w32 c.args.by.base
 base_fits c = within_fits tt c.requires.base
@@ -31,60 +31,54 @@ m_is c = to_z_pos w32 (omega arith)
 factor_within : (c : Start) → Within (255 * 63) (pos c.args.m *ℤ c.args.by.base)
 factor_within c = within_mul {a = 255} (within_pos (omega arith)) c.requires.base
 
-near_is : (c : After-limited_level-near) → c.limited_level-near.result ≡ clip3 (negsuc 32767) (pos 32767) c.args.level
-near_is c = rw (round_trip c.ranges.level) at c.limited_level-near.ensures
+near_is : (c : After-clamp-near) → c.clamp-near.result ≡ clip3 (negsuc 32767) (pos 32767) c.args.level
+near_is c =
+    rw (round_trip c.ranges.level) at c.clamp-near.ensures.value
+    ∙ clamp_clips (negsuc 32767) (pos 32767) c.args.level (le_out (negsuc 32767) (pos 32767) (omega arith))
 
-near_fits : (c : After-limited_level-near) → SFits w32 c.limited_level-near.result
-near_fits c = sfits_of c.limited_level-near.type_inv
+near_fits : (c : After-clamp-near) → SFits w32 c.clamp-near.result
+near_fits c = sfits_of c.clamp-near.type_inv
 
-near_within : (c : After-limited_level-near) → Within 32768 c.limited_level-near.result
+near_within : (c : After-clamp-near) → Within 32768 c.clamp-near.result
 near_within c =
     within_eq (near_is c)
     (clip3_within (negsuc 32767) (pos 32767) c.args.level (le_out (negsuc 32767) (pos 32767) (omega arith)) (record { within = omega arith }) (record { within = omega arith }))
 
-product_within : (c : After-limited_level-near) → Within (32768 * (255 * 63)) (c.limited_level-near.result *ℤ (pos c.args.m *ℤ c.args.by.base))
-product_within c = within_mul (near_within c) (factor_within (goal.at.After-limited_level-near c).Start)
+product_within : (c : After-clamp-near) → Within (32768 * (255 * 63)) (c.clamp-near.result *ℤ (pos c.args.m *ℤ c.args.by.base))
+product_within c = within_mul (near_within c) (factor_within (goal.at.After-clamp-near c).Start)
 
-sum_within : (c : After-limited_level-near)
-    → Within (32768 * (255 * 63) + 32768) (c.limited_level-near.result *ℤ (pos c.args.m *ℤ c.args.by.base) +ℤ c.args.by.add)
+sum_within : (c : After-clamp-near)
+    → Within (32768 * (255 * 63) + 32768) (c.clamp-near.result *ℤ (pos c.args.m *ℤ c.args.by.base) +ℤ c.args.by.add)
 sum_within c = within_add (product_within c) c.requires.add
 
-shifted_fits : (c : After-limited_level-near)
-    → SFits w32 (shr_z (c.limited_level-near.result *ℤ (pos c.args.m *ℤ c.args.by.base) +ℤ c.args.by.add) (2 ^ c.args.by.down))
+shifted_fits : (c : After-clamp-near)
+    → SFits w32 (shr_z (c.clamp-near.result *ℤ (pos c.args.m *ℤ c.args.by.base) +ℤ c.args.by.add) (2 ^ c.args.by.down))
 shifted_fits c = sfits_shr (2 ^ c.args.by.down) (within_fits tt (sum_within c))
 
 pub overflow_mul-result : goal.overflow_mul-result
-overflow_mul-result c = let s = c in rw (m_is (goal.at.overflow_mul-result c).Start, round_trip (base_fits (goal.at.overflow_mul-result c).Start)) (within_fits tt (factor_within (goal.at.overflow_mul-result c).Start))
+overflow_mul-result c = rw (m_is (goal.at.overflow_mul-result c).Start, round_trip (base_fits (goal.at.overflow_mul-result c).Start)) (within_fits tt (factor_within (goal.at.overflow_mul-result c).Start))
 
 pub overflow_mul-result-2 : goal.overflow_mul-result-2
 overflow_mul-result-2 c =
-    let l = c in
-    rw (round_trip (near_fits (goal.at.overflow_mul-result-2 c).After-limited_level-near), round_trip (overflow_mul-result c), m_is (goal.at.overflow_mul-result-2 c).Start, round_trip (base_fits (goal.at.overflow_mul-result-2 c).Start))
-    (within_fits tt (product_within (goal.at.overflow_mul-result-2 c).After-limited_level-near))
+    rw (round_trip (near_fits (goal.at.overflow_mul-result-2 c).After-clamp-near), round_trip (overflow_mul-result c), m_is (goal.at.overflow_mul-result-2 c).Start, round_trip (base_fits (goal.at.overflow_mul-result-2 c).Start))
+    (within_fits tt (product_within (goal.at.overflow_mul-result-2 c).After-clamp-near))
 
 pub overflow_add-result : goal.overflow_add-result
 overflow_add-result c =
-    let m = c in
-    let l = m in
-    let s = l in
-    rw (round_trip (overflow_mul-result-2 (goal.at.overflow_add-result c).After-struct_told-1), round_trip (near_fits (goal.at.overflow_add-result c).After-limited_level-near), round_trip (overflow_mul-result (goal.at.overflow_add-result c).After-struct_told-1), m_is (goal.at.overflow_add-result c).Start, round_trip (base_fits (goal.at.overflow_add-result c).Start), round_trip (add_fits (goal.at.overflow_add-result c).Start))
-    (within_fits tt (sum_within (goal.at.overflow_add-result c).After-limited_level-near))
+    rw (round_trip (overflow_mul-result-2 (goal.at.overflow_add-result c).After-struct_told-1), round_trip (near_fits (goal.at.overflow_add-result c).After-clamp-near), round_trip (overflow_mul-result (goal.at.overflow_add-result c).After-struct_told-1), m_is (goal.at.overflow_add-result c).Start, round_trip (base_fits (goal.at.overflow_add-result c).Start), round_trip (add_fits (goal.at.overflow_add-result c).Start))
+    (within_fits tt (sum_within (goal.at.overflow_add-result c).After-clamp-near))
 
 pub returns : goal.returns
 unfolding compact_result shift_right
 returns c =
-    let a = c in
-    let m = a in
-    let l = m in
-    let s = l in
     rw (
       round_trip (overflow_add-result (goal.at.returns c).After-struct_told-2-1),
       round_trip (overflow_mul-result-2 (goal.at.returns c).After-struct_told-1),
-      round_trip (near_fits (goal.at.returns c).After-limited_level-near),
+      round_trip (near_fits (goal.at.returns c).After-clamp-near),
       round_trip (overflow_mul-result (goal.at.returns c).After-struct_told-1),
       m_is (goal.at.returns c).Start,
       round_trip (base_fits (goal.at.returns c).Start),
       round_trip (add_fits (goal.at.returns c).Start),
-      round_trip (shifted_fits (goal.at.returns c).After-limited_level-near),
-      near_is (goal.at.returns c).After-limited_level-near,
+      round_trip (shifted_fits (goal.at.returns c).After-clamp-near),
+      near_is (goal.at.returns c).After-clamp-near,
     )

@@ -15,48 +15,31 @@ use Rattle.scaling_values.proofs.ListedLaws.{lowered_by_for, raised_by_for}
 use Rattle.scaling_values.proofs.listed.listed_params.Goals as goal
 use Rattle.scaling_values.proofs.listed.listed_params.Goals.{After-odd_of-base, After-scale_of-scale}
 
-pub scale_of-scale-requires : goal.scale_of-scale-requires
-scale_of-scale-requires c = record { manageable = c.requires.manageable; factor_value = c.requires.listable.factor; by_bound = c.requires.listable.size }
-
-pub odd_of-base-requires : goal.odd_of-base-requires
-odd_of-base-requires c = rw c.scale_of-scale.ensures c.requires.listable.small
-
 -- the block's numbers, in the contract's terms
 zeros_is : (c : After-scale_of-scale) → count_trailing_zeros 32 c.scale_of-scale.result ≡ zeros_by c.args.by
 zeros_is c = ap (count_trailing_zeros 32) c.scale_of-scale.ensures
 
 odd_is : (c : After-odd_of-base) → c.odd_of-base.result ≡ pos (odd_by c.args.by)
 odd_is c =
-    let s = c in
     c.odd_of-base.ensures
-    ∙ ap (λ (k : ℕ). pos (k / 2 ^ count_trailing_zeros 32 k % 64)) s.scale_of-scale.ensures
-    ∙ ap pos (mod-eq_of_lt s.requires.listable.odd)
+    ∙ ap (λ (k : ℕ). pos (k / 2 ^ count_trailing_zeros 32 k % 64)) c.scale_of-scale.ensures
+    ∙ ap pos (mod-eq_of_lt c.requires.listable.odd)
 
 base_is : (c : After-odd_of-base) → to_z w32 (of_z w32 c.odd_of-base.result) ≡ pos (odd_by c.args.by)
 base_is c = round_trip {w = w32} (sfits_of c.odd_of-base.type_inv) ∙ odd_is c
 
 pub returns-then-zeros-by : goal.returns-then-zeros-by
 returns-then-zeros-by c =
-    let o = c in
-    let s = o in
-    let by = s.args.by in
+    let by = c.args.by in
     let h : zeros_by by < by.shift = subst (λ (z : ℕ). z < by.shift) (zeros_is (goal.at.returns-then-zeros-by c).After-scale_of-scale) c.if-zeros-by.true in
     subst (λ (k : ListedParams). ListedFor by k)
     (sym (c.lowered.ensures ∙ ap₂ (λ (b : ℤ) (z : ℕ). lowered_by b (by.shift - z)) (base_is (goal.at.returns-then-zeros-by c).After-odd_of-base) (zeros_is (goal.at.returns-then-zeros-by c).After-scale_of-scale)))
-    (lowered_by_for s.requires.listable h)
-
-pub raised-requires : goal.raised-requires
-raised-requires c =
-    let o = c in
-    let s = o in
-    rw (zeros_is (goal.at.raised-requires c).After-scale_of-scale) (omega (arith, s.requires.listable.small))
+    (lowered_by_for c.requires.listable h)
 
 pub returns : goal.returns
 returns c =
-    let o = c in
-    let s = o in
-    let by = s.args.by in
+    let by = c.args.by in
     let h : by.shift ≤ zeros_by by = subst (λ (z : ℕ). by.shift ≤ z) (zeros_is (goal.at.returns c).After-scale_of-scale) (omega (arith, c.if-zeros-by.false)) in
     subst (λ (k : ListedParams). ListedFor by k)
     (sym (c.raised.ensures ∙ ap₂ (λ (b : ℤ) (z : ℕ). raised_by b (z - by.shift)) (base_is (goal.at.returns c).After-odd_of-base) (zeros_is (goal.at.returns c).After-scale_of-scale)))
-    (raised_by_for s.requires.listable h)
+    (raised_by_for c.requires.listable h)

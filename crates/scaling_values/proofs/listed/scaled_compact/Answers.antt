@@ -38,39 +38,30 @@ above_is : (c : After-compact_result-shifted) {b : Bool} → lt_z c.args.by.top 
     → lt_z c.args.by.top (compact_result c.args.by c.args.m c.args.level) ≡ b
 above_is c h = ap (λ (z : ℤ). lt_z c.args.by.top z) (sym (result_is c)) ∙ h
 
-not_below : (c : Else-shifted-by) → let r = c in lt_z (compact_result r.args.by r.args.m r.args.level) r.args.by.low ≡ false
-not_below c = let r = c in below_is (goal.at.Else-shifted-by c).After-compact_result-shifted (lt_z_round_trip (result_fits (goal.at.Else-shifted-by c).After-compact_result-shifted) (low_fits (goal.at.Else-shifted-by c).Start) c.if-shifted-by.false)
+not_below : (c : Else-shifted-by) → lt_z (compact_result c.args.by c.args.m c.args.level) c.args.by.low ≡ false
+not_below c = below_is (goal.at.Else-shifted-by c).After-compact_result-shifted (lt_z_round_trip (result_fits (goal.at.Else-shifted-by c).After-compact_result-shifted) (low_fits (goal.at.Else-shifted-by c).Start) c.if-shifted-by.false)
 
 pub returns-then-shifted-by : goal.returns-then-shifted-by
 unfolding compact_level
 returns-then-shifted-by c =
-    let r = c in
-    let s = r in
     let a = below_is (goal.at.returns-then-shifted-by c).After-compact_result-shifted (lt_z_round_trip (result_fits (goal.at.returns-then-shifted-by c).After-compact_result-shifted) (low_fits (goal.at.returns-then-shifted-by c).Start) c.if-shifted-by.true) in
-    record { value = rw a; limited = ap (λ (b : Bool). cond b 1 0) (sym (limited_below s.args.by s.args.m s.args.level a)) }
+    record { value = rw a; limited = ap (λ (b : Bool). cond b 1 0) (sym (limited_below c.args.by c.args.m c.args.level a)) }
 
 pub returns-then-by-shifted : goal.returns-then-by-shifted
 unfolding compact_level
 returns-then-by-shifted c =
-    let e = c in
-    let r = e in
-    let s = r in
     let a = not_below (goal.at.returns-then-by-shifted c).Else-shifted-by in
     let b = above_is (goal.at.returns-then-by-shifted c).After-compact_result-shifted (lt_z_round_trip (top_fits (goal.at.returns-then-by-shifted c).Start) (result_fits (goal.at.returns-then-by-shifted c).After-compact_result-shifted) c.if-by-shifted.true) in
-    record { value = rw (a, b); limited = ap (λ (x : Bool). cond x 1 0) (sym (limited_above s.args.by s.args.m s.args.level a b)) }
+    record { value = rw (a, b); limited = ap (λ (x : Bool). cond x 1 0) (sym (limited_above c.args.by c.args.m c.args.level a b)) }
 
 pub returns : goal.returns
 returns c =
-    let f = c in
-    let e = f in
-    let r = e in
-    let s = r in
-    let k = s.args.by in
+    let k = c.args.by in
     let a = not_below (goal.at.returns c).Else-shifted-by in
-    let b = above_is (goal.at.returns c).After-compact_result-shifted (lt_z_round_trip (top_fits (goal.at.returns c).Start) (result_fits (goal.at.returns c).After-compact_result-shifted) f.if-by-shifted.false) in
-    let v = ap (λ (z : ℤ). pow2 k.up *ℤ z) (result_is (goal.at.returns c).After-compact_result-shifted) ∙ compact_between k s.args.m s.args.level a b in
-    let o = rw (round_trip s.ranges.level) at c.outside.ensures in
+    let b = above_is (goal.at.returns c).After-compact_result-shifted (lt_z_round_trip (top_fits (goal.at.returns c).Start) (result_fits (goal.at.returns c).After-compact_result-shifted) c.if-by-shifted.false) in
+    let v = ap (λ (z : ℤ). pow2 k.up *ℤ z) (result_is (goal.at.returns c).After-compact_result-shifted) ∙ compact_between k c.args.m c.args.level a b in
+    let o = rw (round_trip c.ranges.level) at c.outside.ensures in
     record {
-      value = shl_fits r.compact_result-shifted.result k.up (subst (λ (z : ℤ). SFits w32 z) (sym v) (sfits_widen tt (compact_fits s.requires s.args.m s.args.level))) ∙ v;
-      limited = o ∙ ap (λ (x : Bool). cond x 1 0) (sym (limited_between k s.args.m s.args.level a b));
+      value = shl_fits c.compact_result-shifted.result k.up (subst (λ (z : ℤ). SFits w32 z) (sym v) (sfits_widen tt (compact_fits c.requires c.args.m c.args.level))) ∙ v;
+      limited = o ∙ ap (λ (x : Bool). cond x 1 0) (sym (limited_between k c.args.m c.args.level a b));
     }

@@ -20,12 +20,6 @@ use Rattle.scaling_values.proofs.LongLaws.{lowered_for, raised_for, lowered_end_
 use Rattle.scaling_values.proofs.long.long_params.Goals as goal
 use Rattle.scaling_values.proofs.long.long_params.Goals.{After-odd_of-base, After-scale_of-scale, Else-zeros-by, Start, Then-zeros-by}
 
-pub scale_of-scale-requires : goal.scale_of-scale-requires
-scale_of-scale-requires c = record { manageable = c.requires.manageable; factor_value = c.requires.longable.factor; by_bound = c.requires.longable.size }
-
-pub odd_of-base-requires : goal.odd_of-base-requires
-odd_of-base-requires c = rw c.scale_of-scale.ensures c.requires.longable.small
-
 -- the block's numbers, in the contract's terms
 abbrev range : Start → ℕ
 range s = s.requires.longable.range
@@ -47,16 +41,15 @@ zeros_is c = ap (count_trailing_zeros 32) c.scale_of-scale.ensures
 
 odd_is : (c : After-odd_of-base) → c.odd_of-base.result ≡ pos (odd_by c.args.by)
 odd_is c =
-    let s = c in
     c.odd_of-base.ensures
-    ∙ ap (λ (k : ℕ). pos (k / 2 ^ count_trailing_zeros 32 k % 64)) s.scale_of-scale.ensures
-    ∙ ap pos (mod-eq_of_lt s.requires.longable.odd)
+    ∙ ap (λ (k : ℕ). pos (k / 2 ^ count_trailing_zeros 32 k % 64)) c.scale_of-scale.ensures
+    ∙ ap pos (mod-eq_of_lt c.requires.longable.odd)
 
 base_is : (c : After-odd_of-base) → to_z w32 (of_z w32 c.odd_of-base.result) ≡ pos (odd_by c.args.by)
 base_is c = round_trip {w = w32} (sfits_of c.odd_of-base.type_inv) ∙ odd_is c
 
 pub overflow_cast-most : goal.overflow_cast-most
-overflow_cast-most c = let s = c in rw (most_trip (goal.at.overflow_cast-most c).Start) (tt, omega (arith, most_small (goal.at.overflow_cast-most c).Start))
+overflow_cast-most c = rw (most_trip (goal.at.overflow_cast-most c).Start) (tt, omega (arith, most_small (goal.at.overflow_cast-most c).Start))
 
 -- ---- the shift is the larger power of two
 abbrev odd-1 : Then-zeros-by → After-odd_of-base
@@ -77,12 +70,8 @@ end_1 t =
     let s = start-1 t in
     ap₂ (λ (m : ℤ) (z : ℕ). ((nat_abs m + 1) * 2 ^ (s.args.by.shift - z)) % 4294967296 / 2 ^ 7) (most_trip s) (zeros_is (goal.at.After-odd_of-base (odd-1 t)).After-scale_of-scale) ∙ lowered_end_is s.requires.longable (lower t)
 
-pub overflow_add-most : goal.overflow_add-most
-overflow_add-most c = let s = start-1 (goal.at.overflow_add-most c).Then-zeros-by in rw (most_trip s) (omega (arith, most_small s))
-
 pub long_of-requires : goal.long_of-requires
 long_of-requires c =
-    let t = c in
     let s = start-1 (goal.at.long_of-requires c).Then-zeros-by in record {
       le_end = subst (λ (e : ℕ). (1 ≤ e) × (e ≤ 16777216)) (sym (end_1 (goal.at.long_of-requires c).Then-zeros-by))
           (omega (arith, pow_pos (power-1 (goal.at.long_of-requires c).Then-zeros-by)), pow_mono {i = power-1 (goal.at.long_of-requires c).Then-zeros-by} {j = 24} (omega (arith, s.requires.longable.together)));
@@ -95,7 +84,6 @@ add_is d h = shl_one w32 (d - 1) (omega (arith, h))
 
 pub returns-then-zeros-by : goal.returns-then-zeros-by
 returns-then-zeros-by c =
-    let t = c in
     let o = odd-1 (goal.at.returns-then-zeros-by c).Then-zeros-by in
     let s = start-1 (goal.at.returns-then-zeros-by c).Then-zeros-by in
     let by = s.args.by in
@@ -129,17 +117,8 @@ end_2 t =
     let s = start-2 t in
     ap₂ (λ (m : ℤ) (z : ℕ). (nat_abs m + 1) / 2 ^ (z - s.args.by.shift) / 2 ^ 7) (most_trip s) (zeros_is (goal.at.After-odd_of-base (odd-2 t)).After-scale_of-scale) ∙ raised_end_is s.requires.longable (higher t)
 
-pub overflow_add-most-2 : goal.overflow_add-most-2
-overflow_add-most-2 c = let s = start-2 (goal.at.overflow_add-most-2 c).Else-zeros-by in rw (most_trip s) (omega (arith, most_small s))
-
-pub overflow_shr-most-2 : goal.overflow_shr-most-2
-overflow_shr-most-2 c =
-    let t = c in
-    rw (zeros_is (goal.at.After-odd_of-base (odd-2 (goal.at.overflow_shr-most-2 c).Else-zeros-by)).After-scale_of-scale) (omega (arith, (start-2 (goal.at.overflow_shr-most-2 c).Else-zeros-by).requires.longable.small))
-
 pub long_of-requires-2 : goal.long_of-requires-2
 long_of-requires-2 c =
-    let t = c in
     let s = start-2 (goal.at.long_of-requires-2 c).Else-zeros-by in record {
       le_end = subst (λ (e : ℕ). (1 ≤ e) × (e ≤ 16777216)) (sym (end_2 (goal.at.long_of-requires-2 c).Else-zeros-by))
           (omega (arith, pow_pos (power-2 (goal.at.long_of-requires-2 c).Else-zeros-by)), pow_mono {i = power-2 (goal.at.long_of-requires-2 c).Else-zeros-by} {j = 24} (omega (arith, s.requires.longable.narrow)));
@@ -148,7 +127,6 @@ long_of-requires-2 c =
 
 pub returns : goal.returns
 returns c =
-    let t = c in
     let o = odd-2 (goal.at.returns c).Else-zeros-by in
     let s = start-2 (goal.at.returns c).Else-zeros-by in
     let by = s.args.by in

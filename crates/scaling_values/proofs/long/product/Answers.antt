@@ -53,9 +53,6 @@ carry_fits c = within_fits tt (carry_within c)
 high_within : (s : Start) → Within (32768 * 16065) (shr_z s.args.near 128 *ℤ s.args.factor)
 high_within s = within_mul {a = 32768} (within_sfits (first_fits s)) s.requires.within
 
-pub overflow_cast-first : goal.overflow_cast-first
-overflow_cast-first c = rw (round_trip c.ranges.near, round_trip (first_wide c)) (first_fits c)
-
 pub rest_of-requires : goal.rest_of-requires
 rest_of-requires c = rw (round_trip c.ranges.near) (within_le (omega arith) (near_within c.requires.near))
 
@@ -64,50 +61,39 @@ overflow_mul-sum c = rw (round_trip (rest_fits c), round_trip c.ranges.factor) (
 
 pub overflow_add-sum : goal.overflow_add-sum
 overflow_add-sum c =
-    let s = c in
-    rw (round_trip (overflow_mul-sum c), round_trip (rest_fits c), round_trip s.ranges.factor, round_trip s.ranges.add) (within_fits tt (sum_within c))
-
-pub overflow_cast-result : goal.overflow_cast-result
-overflow_cast-result c =
-    let s = c in
-    rw (round_trip s.ranges.near, round_trip (first_wide (goal.at.overflow_cast-result c).Start), round_trip (first_fits (goal.at.overflow_cast-result c).Start)) (first_wide (goal.at.overflow_cast-result c).Start)
+    rw (round_trip (overflow_mul-sum c), round_trip (rest_fits c), round_trip c.ranges.factor, round_trip c.ranges.add) (within_fits tt (sum_within c))
 
 pub overflow_mul-result : goal.overflow_mul-result
 overflow_mul-result c =
-    let s = c in
-    rw (round_trip s.ranges.near, round_trip (first_wide (goal.at.overflow_mul-result c).Start), round_trip (first_fits (goal.at.overflow_mul-result c).Start), round_trip (first_wide (goal.at.overflow_mul-result c).Start), round_trip s.ranges.factor)
+    rw (round_trip c.ranges.near, round_trip (first_wide (goal.at.overflow_mul-result c).Start), round_trip (first_fits (goal.at.overflow_mul-result c).Start), round_trip (first_wide (goal.at.overflow_mul-result c).Start), round_trip c.ranges.factor)
     (within_fits tt (high_within (goal.at.overflow_mul-result c).Start))
 
 pub overflow_add-result : goal.overflow_add-result
 overflow_add-result c =
-    let s = c in
     rw (
       round_trip (overflow_mul-result c),
       round_trip (overflow_add-sum c),
       round_trip (overflow_mul-sum c),
-      round_trip s.ranges.near,
+      round_trip c.ranges.near,
       round_trip (first_wide (goal.at.overflow_add-result c).Start),
       round_trip (first_fits (goal.at.overflow_add-result c).Start),
       round_trip (first_wide (goal.at.overflow_add-result c).Start),
       round_trip (rest_fits c),
-      round_trip s.ranges.factor,
-      round_trip s.ranges.add,
+      round_trip c.ranges.factor,
+      round_trip c.ranges.add,
       round_trip (carry_fits c),
     )
     (within_fits tt (within_add (high_within (goal.at.overflow_add-result c).Start) (carry_within c)))
 
 pub rest_of-requires-2 : goal.rest_of-requires-2
 rest_of-requires-2 c =
-    let s = c in
-    rw (round_trip (overflow_add-sum c), round_trip (overflow_mul-sum c), round_trip (rest_fits c), round_trip s.ranges.factor, round_trip s.ranges.add)
+    rw (round_trip (overflow_add-sum c), round_trip (overflow_mul-sum c), round_trip (rest_fits c), round_trip c.ranges.factor, round_trip c.ranges.add)
     (within_le (omega arith) (sum_within c))
 
 pub returns : goal.returns
 unfolding shift_right
 returns c =
-    let l = c in
-    let s = l in
-    let a = s.args in
+    let a = c.args in
     record {
       over =
           rw (
@@ -115,20 +101,20 @@ returns c =
             round_trip (overflow_mul-result (goal.at.returns c).After-rest_of),
             round_trip (overflow_add-sum (goal.at.returns c).After-rest_of),
             round_trip (overflow_mul-sum (goal.at.returns c).After-rest_of),
-            round_trip s.ranges.near,
+            round_trip c.ranges.near,
             round_trip (first_wide (goal.at.returns c).Start),
             round_trip (first_fits (goal.at.returns c).Start),
             round_trip (first_wide (goal.at.returns c).Start),
             round_trip (rest_fits (goal.at.returns c).After-rest_of),
-            round_trip s.ranges.factor,
-            round_trip s.ranges.add,
+            round_trip c.ranges.factor,
+            round_trip c.ranges.add,
             round_trip (carry_fits (goal.at.returns c).After-rest_of),
             rest_is (goal.at.returns c).After-rest_of,
           )
           (sym (over_parts a.near a.factor a.add));
       rest =
           round_trip {w = w32} (sfits_of c.rest_of-2.type_inv)
-          ∙ (rw (round_trip (overflow_add-sum (goal.at.returns c).After-rest_of), round_trip (overflow_mul-sum (goal.at.returns c).After-rest_of), round_trip (rest_fits (goal.at.returns c).After-rest_of), round_trip s.ranges.factor, round_trip s.ranges.add, rest_is (goal.at.returns c).After-rest_of) at c.rest_of-2.ensures)
+          ∙ (rw (round_trip (overflow_add-sum (goal.at.returns c).After-rest_of), round_trip (overflow_mul-sum (goal.at.returns c).After-rest_of), round_trip (rest_fits (goal.at.returns c).After-rest_of), round_trip c.ranges.factor, round_trip c.ranges.add, rest_is (goal.at.returns c).After-rest_of) at c.rest_of-2.ensures)
           ∙ sym (rest_parts a.near a.factor a.add);
       fits = subst (λ (z : ℤ). SFits w32 z) (sym (round_trip (overflow_add-result (goal.at.returns c).After-rest_of))) (overflow_add-result (goal.at.returns c).After-rest_of);
     }

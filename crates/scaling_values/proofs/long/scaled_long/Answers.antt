@@ -17,10 +17,11 @@ use Rattle.integers.proofs.MachineLaws.{round_trip, lt_z_round_trip, lt_z_false}
 use Rattle.integers.proofs.BoundLaws.{within_fits, within_mul, within_pos}
 use Rattle.scaling_values.specs.Long.{long_product, long_level, rest_of}
 use Rattle.scaling_values.proofs.LevelLaws.{between_fits}
+use Rattle.integers.proofs.ClipLaws.{clamp_clips}
 use Rattle.scaling_values.proofs.ListedLaws.{shl_fits}
 use Rattle.scaling_values.proofs.LongLaws.{rest_low, rest_high, rest_sum, near_clip, near_within, over_fits, whole_fits, long_fits, long_between, long_below, long_above, long_inside}
 use Rattle.scaling_values.proofs.long.scaled_long.Goals as goal
-use Rattle.scaling_values.proofs.long.scaled_long.Goals.{After-limited_level-near, After-product-made, After-struct_told-3-1, Else-by-made, Else-made-by, Start}
+use Rattle.scaling_values.proofs.long.scaled_long.Goals.{After-clamp-near, After-product-made, After-struct_told-3-1, Else-by-made, Else-made-by, Start}
 
 -- the block's numbers fit
 base_fits : (s : Start) → SFits w32 s.args.by.base
@@ -48,38 +49,36 @@ factor_within : (s : Start) → Within (255 * 63) (pos s.args.m *ℤ s.args.by.b
 factor_within s = within_mul {a = 255} (within_pos (omega arith)) s.requires.base
 
 -- ---- the limited level
-abbrev start-1 : After-limited_level-near → Start
-start-1 c = (goal.at.After-limited_level-near c).Start
+abbrev start-1 : After-clamp-near → Start
+start-1 c = (goal.at.After-clamp-near c).Start
 
-near_is : (c : After-limited_level-near) → let a = (start-1 c).args in c.limited_level-near.result ≡ clip3 a.by.least a.by.most a.level
+near_is : (c : After-clamp-near) → let a = (start-1 c).args in c.clamp-near.result ≡ clip3 a.by.least a.by.most a.level
 near_is c =
     let s = start-1 c in
-    rw (round_trip s.ranges.level, round_trip (least_fits s), round_trip (most_fits s)) at c.limited_level-near.ensures
+    rw (round_trip s.ranges.level, round_trip (least_fits s), round_trip (most_fits s)) at c.clamp-near.ensures.value
+    ∙ clamp_clips s.args.by.least s.args.by.most s.args.level s.requires.ordered
 
-near_fits : (c : After-limited_level-near) → SFits w32 c.limited_level-near.result
-near_fits c = sfits_of c.limited_level-near.type_inv
+near_fits : (c : After-clamp-near) → SFits w32 c.clamp-near.result
+near_fits c = sfits_of c.clamp-near.type_inv
 
-pub limited_level-near-requires : goal.limited_level-near-requires
-limited_level-near-requires c =
-    let s = c in
-    rw (round_trip (least_fits (goal.at.limited_level-near-requires c).Start), round_trip (most_fits (goal.at.limited_level-near-requires c).Start)) s.requires.ordered
+pub clamp-near-requires : goal.clamp-near-requires
+clamp-near-requires c =
+    rw (round_trip (least_fits (goal.at.clamp-near-requires c).Start), round_trip (most_fits (goal.at.clamp-near-requires c).Start)) c.requires.ordered
 
 pub overflow_mul-m : goal.overflow_mul-m
 overflow_mul-m c =
-    let s = start-1 (goal.at.overflow_mul-m c).After-limited_level-near in
+    let s = start-1 (goal.at.overflow_mul-m c).After-clamp-near in
     rw (m_is s, round_trip (base_fits s)) (within_fits tt (factor_within s))
 
 pub product-made-requires : goal.product-made-requires
 product-made-requires c =
-    let m = c in
-    let l = m in
-    let s = start-1 (goal.at.product-made-requires c).After-limited_level-near in
-    rw (round_trip (near_fits (goal.at.product-made-requires c).After-limited_level-near), near_is (goal.at.product-made-requires c).After-limited_level-near, round_trip (overflow_mul-m (goal.at.product-made-requires c).After-struct_told-3-1), m_is s, round_trip (base_fits s), round_trip (add_fits s))
+    let s = start-1 (goal.at.product-made-requires c).After-clamp-near in
+    rw (round_trip (near_fits (goal.at.product-made-requires c).After-clamp-near), near_is (goal.at.product-made-requires c).After-clamp-near, round_trip (overflow_mul-m (goal.at.product-made-requires c).After-struct_told-3-1), m_is s, round_trip (base_fits s), round_trip (add_fits s))
     record { near = near_clip s.requires s.args.level; within = factor_within s; within_2 = s.requires.add }
 
 -- ---- its product
-abbrev level-of : After-product-made → After-limited_level-near
-level-of c = (goal.at.After-product-made c).After-limited_level-near
+abbrev level-of : After-product-made → After-clamp-near
+level-of c = (goal.at.After-product-made c).After-clamp-near
 
 abbrev start-2 : After-product-made → Start
 start-2 c = start-1 (level-of c)
@@ -114,10 +113,8 @@ not_below c = let r = made-1 c in below_is r (lt_z_round_trip r.product-made.ens
 pub returns-then-made-by : goal.returns-then-made-by
 unfolding long_level
 returns-then-made-by c =
-    let t = c in
-    let r = t in
     let s = start-2 (goal.at.returns-then-made-by c).After-product-made in
-    let a = below_is (goal.at.returns-then-made-by c).After-product-made (lt_z_round_trip r.product-made.ensures.fits (low_fits s) t.if-made-by.true) in
+    let a = below_is (goal.at.returns-then-made-by c).After-product-made (lt_z_round_trip c.product-made.ensures.fits (low_fits s) c.if-made-by.true) in
     record {
       value = round_trip (least_fits s) ∙ rw a;
       limited = ap (λ (b : Bool). cond b 1 0) (sym (long_below s.args.by s.args.m s.args.level a));
@@ -126,12 +123,10 @@ returns-then-made-by c =
 pub returns-then-by-made : goal.returns-then-by-made
 unfolding long_level
 returns-then-by-made c =
-    let t = c in
-    let e = t in
     let r = made-1 (goal.at.returns-then-by-made c).Else-made-by in
     let s = start-2 r in
     let a = not_below (goal.at.returns-then-by-made c).Else-made-by in
-    let b = above_is r (lt_z_round_trip (top_fits s) r.product-made.ensures.fits t.if-by-made.true) in
+    let b = above_is r (lt_z_round_trip (top_fits s) r.product-made.ensures.fits c.if-by-made.true) in
     record {
       value = round_trip (most_fits s) ∙ rw (a, b);
       limited = ap (λ (x : Bool). cond x 1 0) (sym (long_above s.args.by s.args.m s.args.level a b));
@@ -172,35 +167,21 @@ whole-requires c =
           (subst (λ (y : ℤ). y ≤ℤ pos 127) (sym (rest_is r)) (rest_high z));
     }
 
-pub overflow_cast-result : goal.overflow_cast-result
-overflow_cast-result c = let s = start (goal.at.overflow_cast-result c).Else-by-made in within_fits {b = 32} tt (within_pos (omega (arith, s.requires.down)))
-
-pub overflow_shr-result : goal.overflow_shr-result
-overflow_shr-result c = (start (goal.at.overflow_shr-result c).Else-by-made).requires.down
-
-pub overflow_cast-result-2 : goal.overflow_cast-result-2
-overflow_cast-result-2 c = let s = start (goal.at.overflow_cast-result-2 c).Else-by-made in within_fits {b = 32} tt (within_pos (omega (arith, s.requires.up)))
-
-pub overflow_shl-result : goal.overflow_shl-result
-overflow_shl-result c = (start (goal.at.overflow_shl-result c).Else-by-made).requires.up
-
 pub returns : goal.returns
 unfolding shift_right
 returns c =
-    let w = c in
-    let f = w in
     let s = start (goal.at.returns c).Else-by-made in
     let k = s.args.by in
     let a = not_below (else-1 (goal.at.returns c).Else-by-made) in
     let b = not_above (goal.at.returns c).Else-by-made in
-    let v : pow2 k.up *ℤ shr_z w.whole.result (2 ^ k.down) ≡ long_level k s.args.m s.args.level =
-    ap (λ (y : ℤ). pow2 k.up *ℤ shr_z y (2 ^ k.down)) (w.whole.ensures ∙ whole_is (goal.at.returns c).Else-by-made) ∙ long_between k s.args.m s.args.level a b
+    let v : pow2 k.up *ℤ shr_z c.whole.result (2 ^ k.down) ≡ long_level k s.args.m s.args.level =
+    ap (λ (y : ℤ). pow2 k.up *ℤ shr_z y (2 ^ k.down)) (c.whole.ensures ∙ whole_is (goal.at.returns c).Else-by-made) ∙ long_between k s.args.m s.args.level a b
     in
     let o = rw (round_trip s.ranges.level, round_trip (least_fits s), round_trip (most_fits s)) at c.outside.ensures in
     record {
       value =
-          ap (λ (y : ℤ). to_z w32 ((of_z w32 (shr_z y (2 ^ k.down)) * 2 ^ k.up) % 4294967296)) (round_trip {w = w32} {z = w.whole.result} (sfits_of w.whole.type_inv))
-          ∙ shl_fits (shr_z w.whole.result (2 ^ k.down)) k.up (subst (λ (z : ℤ). SFits w32 z) (sym v) (long_fits s.requires s.args.m s.args.level))
+          ap (λ (y : ℤ). to_z w32 ((of_z w32 (shr_z y (2 ^ k.down)) * 2 ^ k.up) % 4294967296)) (round_trip {w = w32} {z = c.whole.result} (sfits_of c.whole.type_inv))
+          ∙ shl_fits (shr_z c.whole.result (2 ^ k.down)) k.up (subst (λ (z : ℤ). SFits w32 z) (sym v) (long_fits s.requires s.args.m s.args.level))
           ∙ v;
       limited = o ∙ ap (λ (x : Bool). cond x 1 0) (sym (long_inside k s.args.m s.args.level a b));
     }

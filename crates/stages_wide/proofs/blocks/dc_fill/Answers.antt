@@ -69,7 +69,7 @@ overflow_mul-g c = simp (to_z-of_z, g_fits c) (product_fits (g_within c))
 
 pub rounded-requires-2 : goal.rounded-requires-2
 rounded-requires-2 c =
-    (simp (to_z-of_z, g_fits c, product_fits (g_within c)) (product_within (g_within c)), c.requires.1.least, c.requires.1.most)
+    (simp (to_z-of_z, g_fits c, product_fits (g_within c)) (product_within (g_within c)), omega (arith, c.requires.1.least), c.requires.1.most)
 
 pub overflow_mul-n : goal.overflow_mul-n
 overflow_mul-n c = omega (arith, size_square c.args.n c.requires.0)
@@ -86,4 +86,4 @@ pub returns : goal.returns
 returns c =
     let k = c.args in
     filled_dc k.n k.range k.shift k.coeff.now (omega (arith, size_bound k.n c.requires.0)) c.requires.2
-    (last_is (goal.at.returns c).After-rounded-2) (simp (to_z-of_z, last_fits (goal.at.returns c).After-rounded-2) at c.fill.ensures)
+    (last_is (goal.at.returns c).After-rounded-2) c.requires.1.room (simp (to_z-of_z, last_fits (goal.at.returns c).After-rounded-2) at c.fill.ensures)

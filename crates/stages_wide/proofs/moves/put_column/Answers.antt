@@ -8,7 +8,7 @@ use Rattle.stages_wide.proofs.moves.put_column.Goals as goal
 
 pub loop-m-preserved : goal.loop-m-preserved
 loop-m-preserved c =
-    column_placed_suc c.requires.2 c.loop-m.invariant (omega (arith, row_inside c.args.n c.loop-m.m (c.args.column + 1) (omega arith) (omega arith), c.requires.4)) (search rules)
+    column_placed_suc c.requires.1.inside c.loop-m.invariant (omega (arith, row_inside c.args.n c.loop-m.m (c.args.column + 1) (omega arith) (omega arith), c.requires.1.whole)) (search rules)
 
 pub returns : goal.returns
 returns c = column_placed_all _ (omega arith) c.loop-m.invariant

@@ -11,7 +11,7 @@ use Rattle.stages_wide.proofs.moves.take_column.Goals as goal
 use Rattle.stages_wide.proofs.moves.take_column.Goals.{In-loop-k}
 
 put_at : (g : Over) (c : In-loop-k g) → c.loop-k.k * c.args.n < length c.args.g.now
-put_at g c = omega (arith, row_inside c.args.n c.loop-k.k 1 (omega arith) (omega arith), c.requires.3)
+put_at g c = omega (arith, row_inside c.args.n c.loop-k.k 1 (omega arith) (omega arith), c.requires.1)
 
 pub offset_bounds-g-k : goal.offset_bounds-g-k
 offset_bounds-g-k g c = let b = put_at g (goal.at.offset_bounds-g-k g c).In-loop-k in search (rules, b)
@@ -19,7 +19,7 @@ offset_bounds-g-k g c = let b = put_at g (goal.at.offset_bounds-g-k g c).In-loop
 pub loop-k-preserved : goal.loop-k-preserved
 loop-k-preserved g c =
     rw (map-set g.V.Output.value c.loop-k.g (c.loop-k.k * c.args.n) c.moved.result)
-    (column_placed_put (omega arith) c.loop-k.invariant (omega arith) (omega (arith, length-map c.args.g.now g.V.Output.value, row_inside c.args.n c.loop-k.k 1 (omega arith) (omega arith), c.requires.3))
+    (column_placed_put (omega arith) c.loop-k.invariant (omega arith) (omega (arith, length-map c.args.g.now g.V.Output.value, row_inside c.args.n c.loop-k.k 1 (omega arith) (omega arith), c.requires.1))
     (search rules))
 
 pub returns : goal.returns

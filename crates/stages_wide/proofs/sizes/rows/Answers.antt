@@ -18,18 +18,18 @@ use Rattle.stages_wide.proofs.sizes.rows.Goals as goal
 
 pub turn-requires : goal.turn-requires
 turn-requires g c = (
-  points_most g.met.S.Stage.size c.requires.2,
+  points_most g.met.S.Stage.size c.requires.1.points,
   c.requires.0.source,
-  omega (arith, length-replicate g.row.A (pos 0), c.requires.3),
-  λ e. subst (λ (k : ℕ). Narrow k c.args.inter.now) c.requires.3 (c.all_narrow.ensures c.if-all_narrow.true),
+  omega (arith, length-replicate g.row.A (pos 0), c.requires.1.values),
+  λ e. subst (λ (k : ℕ). Narrow k c.args.inter.now) c.requires.1.values (c.all_narrow.ensures c.if-all_narrow.true),
 )
 
 pub stage-requires : goal.stage-requires
 stage-requires g c =
     let p = c.requires.0 in
-    stage_needs_named c.requires.1 c.requires.2
+    stage_needs_named c.requires.1.rows c.requires.1.points
     (record {
-      long = (stored_16 c.turn.ensures).long ∙ length-replicate g.row.A (pos 0) ∙ c.requires.3;
+      long = (stored_16 c.turn.ensures).long ∙ length-replicate g.row.A (pos 0) ∙ c.requires.1.values;
       half = within_eq (to_z-of_z {w = w32} (sfits_of c.half.type_inv)) (within_le (omega arith) c.half.ensures.1);
       shift = omega (arith, p.most);
       few = omega arith;
@@ -39,8 +39,8 @@ stage-requires g c =
 pub returns-then-all_narrow : goal.returns-then-all_narrow
 returns-then-all_narrow g c =
     let a = c.args in
-    let n = subst (λ (k : ℕ). Narrow k c.args.inter.now) c.requires.3 (c.all_narrow.ensures c.if-all_narrow.true) in
+    let n = subst (λ (k : ℕ). Narrow k c.args.inter.now) c.requires.1.values (c.all_narrow.ensures c.if-all_narrow.true) in
     let f = stored_16 c.turn.ensures in
     let h = to_z-of_z {w = w32} (sfits_of c.half.type_inv) ∙ c.half.ensures.0 in
     turned_rows (trans_matrix g.row.N) g.row.N a.range a.shift a.inter.now f
-    (narrow_stage g.row.N a.range a.shift _ c.requires.0.range_least h (turned_narrow g.row.N a.inter.now n f) (stage_named _ _ _ c.requires.2 c.stage.ensures))
+    (narrow_stage g.row.N a.range a.shift _ c.requires.0.range_least h (turned_narrow g.row.N a.inter.now n f) (stage_named _ _ _ c.requires.1.points c.stage.ensures))

@@ -1,0 +1,8 @@
+-- `block_work::columns::rows_used` meets its contract: the rows passed, from the last one up, are zero.
+use native.Mathlib.Omega.{arith}
+use Rattle.std.proofs.Common.{rules}
+use Rattle.coefficients.proofs.RowsLaws.{row_before}
+use Rattle.block_work.proofs.columns.rows_used.Goals as goal
+
+pub loop-k-preserved : goal.loop-k-preserved
+loop-k-preserved c = row_before c.requires.1 (omega arith) (let h = c.loop-k-test.true in omega arith) c.loop-k.invariant (c.nonzeros.ensures (search rules))

@@ -1,7 +1,0 @@
--- `stages::finish::fill` meets its contract: the places passed hold v.
-use Rattle.std.specs.Prelude.{map}
-use Rattle.integers.proofs.ListsLaws.{Stored}
-use Rattle.stages.proofs.finish.fill.Given as goal
-
-abbrev pub invariant-loop-i : goal.invariant-loop-i
-invariant-loop-i g l = Stored (λ k. g.V.Output.value l.v) (map g.V.Output.value l.initial.out) l.i (map g.V.Output.value l.out)
