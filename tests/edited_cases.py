@@ -330,7 +330,7 @@ def level_openings():
 
 
 def edits():
-    # document 01's three values; then the last column is taken into use and stays while the first one empties, and empties too
+    # the three values of the requirements' example, by docs/RULES.md; then the last column is taken into use and stays while the first one empties, and empties too
     count, buffers = opened(usual(), fresh(only(0, 0)))[1:]
     for place in ((0, 0, 62), (0, 0, 63), (0, 0, -64), (0, 3, 64), (0, 0, 0), (0, 3, 0)):
         count, buffers = edit(usual(), count, buffers, *place)

@@ -1,7 +1,7 @@
 #!/usr/bin/env python3
 """parameters_cases.py [CRATES]: write stdin and stdout of the program parameters_cases, and stdout of parameters_table (in crates by default).
 
-Written from the rules alone (docs/RULES.md): it shares nothing with the crates. Document 01's examples of module 1 and the borders of its arguments; the table has R, s, t
+Written from the rules alone (docs/RULES.md): it shares nothing with the crates. The requirements' examples of module 1 and the borders of its arguments; the table has R, s, t
 and the largest QP′ for every depth, flag and size.
 """
 from case_files import named, shown, wide, word, write_files

@@ -1,7 +1,7 @@
 #!/usr/bin/env python3
 """transform_cases.py [CRATES]: write stdin and stdout of the program transform_cases (in crates by default).
 
-Written from the rules alone (docs/RULES.md): it shares nothing with the crates. Document 01's examples of the transforms, the first sum that no 32 bits hold, and every
+Written from the rules alone (docs/RULES.md): it shares nothing with the crates. The requirements' examples of the transforms, the first sum that no 32 bits hold, and every
 refusal at its border.
 """
 from case_files import named, narrow, shown, wide, word, write_files

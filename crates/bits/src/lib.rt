@@ -12,7 +12,8 @@ pub enum CodeError {
     Ended,
 }
 
-// Kept: bytes and an offset stand apart, here and in the crates above: each code hands on the offset behind it, so that a struct of both would be made anew for every code.
+// Kept: bytes and an offset stand apart, here and in the crates above, and the offset's bound is a clause, since each code moves it on: a reader of both (&mut self) would promise for
+// each code, beside its number, that the bytes are the same and where it stands then; the definitions (Reading) hand the offset on as the functions do.
 
 // Whether the bytes reach to the bit at an offset.
 pub fn is_there(bytes: &[u8], at: usize) -> bool

@@ -16,7 +16,7 @@ fn zeros_of(v: u64) -> usize
     (v + 1).ilog2() as usize
 }
 
-// Kept: a buffer and the place in it stand apart, here and below: a struct of both would have to promise for the buffer that it stays the same one (its ghost_name).
+// Kept: a buffer and the place in it stand apart, here and in the crates above: a struct of both would have to promise for the buffer that it stays the same one (its ghost_name).
 // n bits of v, the highest first.
 fn put_bits(v: u64, n: usize, bits: &mut [u8], at: usize) -> usize
     requires { (n ≤ 9) × (at + n ≤ length bits.old) }

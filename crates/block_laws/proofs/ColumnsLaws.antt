@@ -20,7 +20,8 @@ use lib.ListN.{length, get_or}
 use lib.Seq.{ext_get_or}
 use Rattle.integers.specs.Lists.{overwrite}
 use Rattle.integers.proofs.ListsLaws.{tabulate-length, tabulate-get_or, overwrite-length, overwrite-get_or, overwrite-get_or-past}
-use Rattle.integers.proofs.SearchLaws.{None, first_where-none, first_where_found, first_where_cong}
+use Rattle.integers.specs.Search.{first_where}
+use Rattle.integers.proofs.SearchLaws.{None, First, first_where-none, first_where_first, first_where_cong}
 use Rattle.h265.specs.Transform.{block_at, row_order}
 use Rattle.h265.proofs.TransformLaws.{cell_row, cell_column, block_at_append}
 use Rattle.coefficients.specs.Rows.{RowsUsed}
@@ -107,9 +108,15 @@ other_row n xs c k h = ap not (ne_eqb (nat_abs (get_or xs (k * n + c) (pos 0))) 
     abs_zero (negsuc a) e = absurd (let b : ⊥ = omega arith in b)
 
 -- what a scan down a column says of it
-pub used_there : (n : ℕ) (xs : List ℤ) (c k : ℕ) → k < n → ZeroRows n xs c k → zero_at n xs c k ≡ true → column_used n xs c ≡ true
+pub used_there : (n : ℕ) (xs : List ℤ) (c k : ℕ) → k < n → zero_at n xs c k ≡ true → column_used n xs c ≡ true
 unfolding column_used zero_at
-used_there n xs c k h z u = rw (first_where_found n k h z u, lt-ltb k n h)
+used_there n xs c k h u = elim (dec_lt first n) [ yes q ↦ lt-ltb first n q | no q ↦ absurd (let e = found.before.at k (omega (arith, q, h)) in let b : ⊥ = cc in b) ]
+  where
+    first : ℕ
+    first = first_where n (λ k. not (eqb (nat_abs (block_at n xs k c)) 0))
+
+    found : First n (λ k. not (eqb (nat_abs (block_at n xs k c)) 0)) first
+    found = first_where_first n (λ k. not (eqb (nat_abs (block_at n xs k c)) 0))
 
 pub used_nowhere : (n : ℕ) (xs : List ℤ) (c : ℕ) → ZeroRows n xs c n → column_used n xs c ≡ false
 unfolding column_used zero_at

@@ -29,7 +29,7 @@ fn step_back(accumulate: Accumulate, n: usize, i: usize) -> Option<usize>
     }
 }
 
-// Kept: the kind is matched at each sample, so that one loop serves all three; a match outside would write the loop once for each.
+// Kept: the kind is matched at each sample, so that one loop serves all three; a match outside would write the loop once for each, or take a closure with a clause for what each kind gives.
 // Each sample takes up the sum of those before it. In row order the one before is done, along rows and down columns alike.
 fn accumulate_block(n: usize, accumulate: Accumulate, out: &mut [i32])
     requires { T (is_size n) × (n * n ≤ length out.old) × Summable (n * n) out.old }

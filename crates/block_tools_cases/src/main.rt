@@ -5,6 +5,7 @@
 #![tactic(auto)]
 
 use block_tools::Accumulate;
+use cases::UnknownNumber;
 use parameters::QpPrime;
 use refusal::{Precision, Refusal};
 use scaling_values::ScalingList;
@@ -25,10 +26,6 @@ enum Levels {
     Small,
     Wide,
 }
-
-// A number that stands for nothing that a case asks.
-#[derive(Clone, Copy)]
-struct UnknownNumber;
 
 impl TryFrom<u8> for Function {
     type Error = UnknownNumber;
@@ -67,6 +64,7 @@ struct Case {
     accumulate: Accumulate,
 }
 
+// Kept: a TryFrom<u8> can only stand where Accumulate is declared, and these numbers are this file's alone.
 fn way_of(number: u8) -> Result<Accumulate, UnknownNumber> {
     match number {
         0 => Ok(Accumulate::Off),
@@ -78,12 +76,12 @@ fn way_of(number: u8) -> Result<Accumulate, UnknownNumber> {
 
 fn next_case(stdin: &mut impl Read) -> Result<Case, UnknownNumber> {
     Ok(Case {
-        function: Function::try_from(cases::next::<u8>(stdin))?,
+        function: Function::try_from(cases::next::<u8, _>(stdin))?,
         n: cases::next(stdin),
         qp: QpPrime(cases::next(stdin)),
         precision: cases::next_precision(stdin),
         dc: cases::next(stdin),
-        rotate: cases::next::<u8>(stdin) != 0,
+        rotate: cases::next::<u8, _>(stdin) != 0,
         accumulate: way_of(cases::next(stdin))?,
     })
 }
@@ -93,7 +91,7 @@ fn put_sums(rt: &impl Print, out: &[i32]) {
     let mut first: u32 = 0;
     let mut second: u32 = 0;
     for z in out {
-        first = first.wrapping_add(u32::from_le_bytes(z.to_le_bytes()));
+        first = first.wrapping_add(z.cast_unsigned());
         second = second.wrapping_add(first);
     }
     cases::put(rt, first);
@@ -120,6 +118,7 @@ fn fill<LevelOf: Fn(u16) -> i32>(levels: &mut [i32], level_of: LevelOf)
     }
 }
 
+// Kept: lent buffers, which a struct would only carry to the call; so below.
 fn skip(case: Case, list: ScalingList, levels: &[i32], out: &mut [i32]) -> Result<u16, Refusal> {
     block_tools::transform_skip_residual(
         levels,
@@ -180,7 +179,7 @@ fn replay_case(rt: &impl Print, stdin: &mut impl Read) -> Result<(), UnknownNumb
     let entries = cases::next_length(stdin, 64);
     cases::read_first(stdin, entries, &mut list);
     let count = cases::next_length(stdin, 1024);
-    let how = Levels::try_from(cases::next::<u8>(stdin))?;
+    let how = Levels::try_from(cases::next::<u8, _>(stdin))?;
     make(stdin, how, count, &mut levels);
     let len = cases::next_length(stdin, 1028);
     show(

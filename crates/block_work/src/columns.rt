@@ -4,7 +4,8 @@ ghost use Rattle.h265.specs.Range.{is_size};
 ghost use Rattle.coefficients.specs.Rows.{RowsUsed};
 ghost use Rattle.block_rules.specs.Columns.{column_used, column_count};
 
-// How many coefficients of a row are not zero. No way out of the loop, so that the compiler takes several at a time.
+// How many coefficients of a row are not zero: 0 only where all are zero; another number says nothing. No way out of the loop, so that the compiler
+// takes several at a time.
 // Kept: a loop that counts; of `row.iter().filter(..).count()`, tried in its place, the compiler takes one coefficient at a time.
 fn nonzeros(row: &[i32]) -> u32
     requires { length row.now ≤ 32 }
@@ -18,6 +19,7 @@ fn nonzeros(row: &[i32]) -> u32
 }
 
 // What `coefficients::rows_used` gives for all columns.
+// Kept: a size as a number, here and below, as in refusal.
 // Kept: that one leaves a row at the first coefficient other than zero; a row with no way out is read several at a time (docs/DECISIONS.md, 29).
 fn rows_used(coeff: &[i32], n: usize) -> usize
     requires { T (is_size n) × (n * n ≤ length coeff.now) }
@@ -36,12 +38,7 @@ fn is_used(coeff: &[i32], n: usize, rows: usize, c: usize) -> bool
     requires { T (is_size n) × (n * n ≤ length coeff.now) × (c < n) × RowsUsed coeff.now n n rows }
     ensures { result ≡ column_used n coeff.now c }
 {
-    for k in 0..rows {
-        if coeff[k * n + c] != 0 {
-            return true;
-        }
-    }
-    false
+    (0..rows).any(|k| coeff[k * n + c] != 0)
 }
 
 // One past the last column that has a coefficient other than zero, or 0: from the last column leftwards, to the first such one. Rows that are

@@ -19,7 +19,7 @@ use refuse::block_refusal;
 // Both stages of an opening, over all columns.
 // Kept: the buffers apart, here and below: a struct of lent slices would have to promise for each slice that it stays the same one (its ghost_name).
 // Kept: kind, size, depth and range apart, here and below: refusals, range and stages each take some of them, and would take a struct apart.
-pub fn open_stages(
+fn open_stages(
     kind: Kind,
     n: usize,
     bit_depth: u8,

@@ -8,6 +8,7 @@ use refusal::Refusal;
 use transform_1d::Kind;
 
 // The lowest row that applies, by the lengths of the buffers.
+// Kept: each length is a number of its own, which one line measures.
 #[tactic(auto, unfolding(block_rules::specs::Edit::block_ladder))]
 pub fn block_refusal(
     kind: Kind,
@@ -31,8 +32,5 @@ pub fn block_refusal(
 pub fn check_place(n: usize, row: usize, column: usize) -> Result<(), Refusal>
     ensures { PlaceChecked n row column result }
 {
-    if n <= row || n <= column {
-        return Err(Refusal::PlaceOutside);
-    }
-    Ok(())
+    refusal::check(n <= row || n <= column, Refusal::PlaceOutside)
 }

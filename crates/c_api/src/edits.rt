@@ -110,6 +110,7 @@ impl From<Result<LevelsOpened, Refusal>> for BlockAnswered {
 }
 
 // The answer and the record of a call that limits nothing.
+// Kept: no From, here and below: the record stands beside the answer whether or not that is a refusal, and a From of a pair is no plainer.
 fn block_unlimited(given: Result<(), Refusal>, block: EditedBlock) -> BlockAnswered
     ensures { BlockIs result (valued 0 (answer_outcome given)) block }
 {

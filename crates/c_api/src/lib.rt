@@ -125,7 +125,7 @@ pub struct StoreAnswered {
     pub stored: usize,
 }
 
-// How many bits were read.
+// How many bits were read or written.
 #[repr(C)]
 #[derive(Clone, Copy, Default)]
 pub struct BitsAnswered {

@@ -14,7 +14,7 @@ use refusal::Precision;
 use scaling_values::ScalingList;
 
 // The way of accumulation that C hands over as a number: 0, 1, or any other.
-// Kept: a `From<u8>` can only stand where `Accumulate` is declared, and what the numbers stand for is C's alone.
+// Kept: a `From<u8>` can only stand where `Accumulate` is declared, and that any number above 1 is `DownColumns` is C's alone.
 fn accumulate_of(accumulate: u8) -> Accumulate
     ensures { result ≡ accumulate_of accumulate }
 {

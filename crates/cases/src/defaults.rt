@@ -1,6 +1,9 @@
 // What the two programs on scaling lists share: the default lists of a file of cases, and the mark in the buffers that a case lends.
-ghost use Rattle.std.specs.Prelude.{◌≡◌, ◌<◌, true, ℕ, length, get_or};
+ghost use Rattle.std.specs.Prelude.{◌≡◌, ◌++◌, ℕ, eqb, take};
+ghost use Rattle.std.specs.List.{list_all};
+ghost use Rattle.std.specs.Io.KnownBytes.{Consumes};
 
+use crate::reading::next_bytes;
 use crate::writing;
 use refusal::Refusal;
 use std::io::Read;
@@ -13,20 +16,20 @@ pub struct Defaults {
 }
 
 impl Defaults {
-    pub fn read(input: &mut impl Read) -> Defaults {
-        let mut four = [0; 65];
-        let mut intra = [0; 64];
-        let mut inter = [0; 64];
-        streams::read_full(input, &mut four);
-        streams::read_full(input, &mut intra);
-        streams::read_full(input, &mut inter);
-        Defaults { four, intra, inter }
+    pub fn read<R: Read>(input: &mut R) -> Defaults
+        ensures { (a b c : ℕ) × Consumes (R.remaining input.old) (R.remaining input.new) (take a result.four ++ take b result.intra ++ take c result.inter) }
+    {
+        Defaults {
+            four: next_bytes(input),
+            intra: next_bytes(input),
+            inter: next_bytes(input),
+        }
     }
 }
 
 // Whether every element is still the mark.
 pub fn kept(xs: &[u8]) -> bool
-    ensures { result ≡ true → (i : ℕ) → i < length xs.now → get_or xs.now i 0 ≡ 7 }
+    ensures { result ≡ list_all (λ x. eqb x 7) xs.now }
 {
     xs.iter().all(|x| *x == 7)
 }

@@ -1,5 +1,5 @@
-// What the programs of cases share: numbers read from a file of cases, low byte first, and numbers and answers written to standard output. Nothing is known of
-// what a file holds, and nothing is handed back by what writes, so that these functions state lengths, bounds, and what a value stands for.
+// What the programs of cases share: numbers read from a file of cases, low byte first, and numbers and answers written to standard output. A reader
+// may end or fail at any byte, and what writes hands nothing back, so that these functions state lengths, bounds, and which bytes a value stands for.
 #![tactic(auto)]
 
 mod defaults;
@@ -17,3 +17,7 @@ pub use writing::{
     put, put_all, put_answer, put_count, put_each, put_end, put_flag, put_place, put_refusal,
     put_same, put_value,
 };
+
+// A number of a file that stands for nothing there.
+#[derive(Clone, Copy)]
+pub struct UnknownNumber;

@@ -1,75 +1,103 @@
 // The next numbers of a file of cases. Where the file ends, zeros.
-ghost use Rattle.std.specs.Prelude.{◌≡◌, ◌≤◌, cond, eqb};
+ghost use Rattle.std.specs.Prelude.{◌≡◌, ◌≤◌, ◌<◌, ◌+◌, ℕ, List, [], ◌∷◌, true, cond, not, eqb, ltb, min, length, get_or, take, drop, map};
+ghost use Rattle.std.specs.Int.{w16, w32, w64, cast_unsigned, to_le_bytes};
+ghost use Rattle.std.specs.Cmp.Lexicographic.{pointwise};
+ghost use Rattle.std.specs.Io.KnownBytes.{Consumes};
+ghost use Rattle.cases.specs.Reading.{Gives, GivesEach, one_byte, named};
 
 use refusal::Precision;
 use std::io::Read;
 use transform_1d::Kind;
 
-// A number that a file of cases holds, its low byte first.
-// Kept: five impls alike, since the count of bytes and `from_le_bytes` are each type's own; a trait of the two would have as many impls.
+// A number that a file of cases holds.
+// Kept: five impls alike, since `from_le_bytes` is each type's own; a trait of it would have as many impls.
 pub trait Number: Copy + PartialEq {
-    fn next_in(input: &mut impl Read) -> Self;
+    // Low byte first.
+    ghost bytes: { Self → List ℕ };
+
+    fn next_in<R: Read>(input: &mut R) -> Self
+        ensures { Gives bytes (R.remaining input.old) result (R.remaining input.new) };
 }
 
 impl Number for u8 {
-    fn next_in(input: &mut impl Read) -> u8 {
-        let mut bytes = [0u8; 1];
-        streams::read_full(input, &mut bytes);
-        bytes[0]
+    ghost bytes = { one_byte };
+
+    fn next_in<R: Read>(input: &mut R) -> u8 {
+        next_bytes::<1, _>(input)[0]
     }
 }
 
 impl Number for u16 {
-    fn next_in(input: &mut impl Read) -> u16 {
-        let mut bytes = [0u8; 2];
-        streams::read_full(input, &mut bytes);
-        u16::from_le_bytes(bytes)
+    ghost bytes = { to_le_bytes w16 };
+
+    fn next_in<R: Read>(input: &mut R) -> u16 {
+        u16::from_le_bytes(next_bytes(input))
     }
 }
 
 impl Number for i16 {
-    fn next_in(input: &mut impl Read) -> i16 {
-        let mut bytes = [0u8; 2];
-        streams::read_full(input, &mut bytes);
-        i16::from_le_bytes(bytes)
+    ghost bytes = { λ x. to_le_bytes w16 (cast_unsigned w16 x) };
+
+    fn next_in<R: Read>(input: &mut R) -> i16 {
+        i16::from_le_bytes(next_bytes(input))
     }
 }
 
 impl Number for i32 {
-    fn next_in(input: &mut impl Read) -> i32 {
-        let mut bytes = [0u8; 4];
-        streams::read_full(input, &mut bytes);
-        i32::from_le_bytes(bytes)
+    ghost bytes = { λ x. to_le_bytes w32 (cast_unsigned w32 x) };
+
+    fn next_in<R: Read>(input: &mut R) -> i32 {
+        i32::from_le_bytes(next_bytes(input))
     }
 }
 
 impl Number for usize {
-    fn next_in(input: &mut impl Read) -> usize {
-        let mut bytes = [0u8; 8];
-        streams::read_full(input, &mut bytes);
-        usize::from_le_bytes(bytes)
+    ghost bytes = { to_le_bytes w64 };
+
+    fn next_in<R: Read>(input: &mut R) -> usize {
+        usize::from_le_bytes(next_bytes(input))
     }
 }
 
-pub fn next<T: Number>(input: &mut impl Read) -> T {
+// As many bytes as the array has.
+pub(crate) fn next_bytes<const N: usize, R: Read>(input: &mut R) -> [u8; N]
+    ensures { (n : ℕ) × Consumes (R.remaining input.old) (R.remaining input.new) (take n result) }
+{
+    let mut bytes = [0u8; N];
+    streams::read_full(input, &mut bytes);
+    bytes
+}
+
+pub fn next<T: Number, R: Read>(input: &mut R) -> T
+    ensures { Gives T.bytes (R.remaining input.old) result (R.remaining input.new) }
+{
     T::next_in(input)
 }
 
-pub fn read_all<T: Number>(input: &mut impl Read, xs: &mut [T]) {
+pub fn read_all<T: Number, R: Read>(input: &mut R, xs: &mut [T])
+    ensures { GivesEach T.bytes (R.remaining input.old) xs.new (R.remaining input.new) }
+{
     for x in xs.iter_mut() {
         *x = T::next_in(input);
     }
 }
 
-// The first elements of a slice.
-pub fn read_first<T: Number>(input: &mut impl Read, count: usize, xs: &mut [T]) {
+// The first elements of a slice, or none where it has fewer.
+// Kept: a count beside the slice: a count past the end reads nothing, which a slice could not say.
+pub fn read_first<T: Number, R: Read>(input: &mut R, count: usize, xs: &mut [T])
+    ensures read { count ≤ length xs.old → GivesEach T.bytes (R.remaining input.old) (take count xs.new) (R.remaining input.new) }
+    ensures rest { drop count xs.new ≡ drop count xs.old }
+    ensures fewer { length xs.old < count → xs.new ≡ xs.old }
+{
     if count <= xs.len() {
         read_all(input, &mut xs[..count]);
     }
 }
 
 // Whether the elements are the next numbers; all of them are read.
-pub fn are_next<T: Number>(input: &mut impl Read, xs: &[T]) -> bool {
+pub fn are_next<T: Number, R: Read>(input: &mut R, xs: &[T]) -> bool
+    ensures { (ys : List T) × GivesEach T.bytes (R.remaining input.old) ys (R.remaining input.new) × (result ≡ pointwise T.eq xs.now ys) }
+{
     let mut same = true;
     for x in xs {
         same &= *x == T::next_in(input);
@@ -78,27 +106,35 @@ pub fn are_next<T: Number>(input: &mut impl Read, xs: &[T]) -> bool {
 }
 
 // A length of eight bytes, which is at most `most`.
-pub fn next_length(input: &mut impl Read, most: usize) -> usize
-    ensures { result ≤ most }
+pub fn next_length<R: Read>(input: &mut R, most: usize) -> usize
+    ensures bound { result ≤ most }
+    ensures value { (n : ℕ) × (result ≡ min n most) × Gives (to_le_bytes w64) (R.remaining input.old) n (R.remaining input.new) }
 {
-    next::<usize>(input).min(most)
+    next::<usize, _>(input).min(most)
 }
 
 // The same in two bytes.
-pub fn next_short_length(input: &mut impl Read, most: usize) -> usize
-    ensures { result ≤ most }
+// Kept: beside `next_length`: one over the type of number would say the value by the clause of `Into`, and each caller would name its type.
+pub fn next_short_length<R: Read>(input: &mut R, most: usize) -> usize
+    ensures bound { result ≤ most }
+    ensures value { (n : ℕ) × (result ≡ min n most) × Gives (to_le_bytes w16) (R.remaining input.old) n (R.remaining input.new) }
 {
-    (next::<u16>(input) as usize).min(most)
+    (next::<u16, _>(input) as usize).min(most)
 }
 
 // Depth and the flag of extended precision, a byte each.
-pub fn next_precision(input: &mut impl Read) -> Precision {
-    Precision::new(next(input), next::<u8>(input) != 0)
+pub fn next_precision<R: Read>(input: &mut R) -> Precision
+    ensures { (flag : ℕ) × (result.extended ≡ not (eqb flag 0)) × GivesEach one_byte (R.remaining input.old) (result.bit_depth ∷ flag ∷ []) (R.remaining input.new) }
+{
+    Precision::new(next(input), next::<u8, _>(input) != 0)
 }
 
 // A byte, 0 for the DCT.
-pub fn next_kind(input: &mut impl Read) -> Kind {
-    match next::<u8>(input) {
+// Kept: a From<u8> can only stand where Kind is declared, and these numbers are the files' alone.
+pub fn next_kind<R: Read>(input: &mut R) -> Kind
+    ensures { (byte : ℕ) × (result ≡ cond (eqb byte 0) Kind.Dct Kind.Dst) × Gives one_byte (R.remaining input.old) byte (R.remaining input.new) }
+{
+    match next::<u8, _>(input) {
         0 => Kind::Dct,
         _ => Kind::Dst,
     }
@@ -106,7 +142,7 @@ pub fn next_kind(input: &mut impl Read) -> Kind {
 
 // The number that a byte stands for, where 255 is the largest number there is.
 pub fn named(byte: u8) -> usize
-    ensures { result ≡ cond (eqb byte 255) 18446744073709551615 byte }
+    ensures { result ≡ named byte }
 {
     if byte == 255 {
         usize::MAX
@@ -116,22 +152,29 @@ pub fn named(byte: u8) -> usize
 }
 
 // A byte each, as `named` reads it.
-pub fn read_named(input: &mut impl Read, xs: &mut [usize]) {
+// Kept: a loop of its own, as `read_indices` has: one with `read_all`, or `fill_with`, would take how an element is read as a closure, with a clause for what it gives.
+pub fn read_named<R: Read>(input: &mut R, xs: &mut [usize])
+    ensures { (bytes : List ℕ) × (xs.new ≡ map named bytes) × GivesEach one_byte (R.remaining input.old) bytes (R.remaining input.new) }
+{
     for x in xs.iter_mut() {
         *x = named(next(input));
     }
 }
 
 // Two bytes each.
-pub fn read_indices(input: &mut impl Read, xs: &mut [usize]) {
+pub fn read_indices<R: Read>(input: &mut R, xs: &mut [usize])
+    ensures { GivesEach (to_le_bytes w16) (R.remaining input.old) xs.new (R.remaining input.new) }
+{
     for x in xs.iter_mut() {
-        *x = next::<u16>(input) as usize;
+        *x = next::<u16, _>(input) as usize;
     }
 }
 
 // A byte of length, then as many of text, which are written as they are; answers whether there was a text.
-// Kept: a copy by name alone: it goes from a reader to standard output, and std has no method for that.
-pub fn copy_text(rt: &impl Print, input: &mut impl Read) -> bool {
+// Kept: a copy by name alone: `io::copy` of a `take` into `io::writer(rt)` is the same with errors to leave aside, and no shorter.
+pub fn copy_text<R: Read>(rt: &impl Print, input: &mut R) -> bool
+    ensures { (text : List ℕ) × Consumes (R.remaining input.old) (R.remaining input.new) text × (result ≡ ltb 0 (length text)) × (length text ≤ get_or text 0 0 + 1) }
+{
     let mut head = [0u8; 1];
     let mut room = [0u8; 256];
     if streams::read_full(input, &mut head) < 1 {

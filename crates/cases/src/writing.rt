@@ -1,4 +1,5 @@
-// Numbers, answers and lent elements as text, each number after a space.
+// Numbers, answers and lent elements as text, each number after a space. No function here states a result: std's `Print` takes a shared handle, and its methods
+// promise nothing of what reaches the output. The programs' stored outputs hold that.
 use refusal::Refusal;
 use std::fmt::Display;
 

@@ -35,8 +35,8 @@ fn run_total(bit_depth: u8, mask: u16, run: &[u16]) -> u16
     ensures { (result ≡ total (length run.now) (run_term bit_depth mask run.now)) × (result ≤ 510 * length run.now) }
 {
     let mut sum: u16 = 0;
-    for k in 0..run.len() {
-        let term = sample_term(bit_depth, run[k], (k as u16) ^ mask);
+    for (k, sample) in run.iter().enumerate() {
+        let term = sample_term(bit_depth, *sample, (k as u16) ^ mask);
         sum += term;
     }
     sum

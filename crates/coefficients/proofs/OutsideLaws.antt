@@ -1,5 +1,6 @@
 -- The search for a coefficient outside the range: all at once, and row by row.
 --   range_fits            a number within the widest range fits 32 bits
+--   low_end, high_end     the ends of the range, as they are worked out
 --   Reaches z m           z lies in every range whose end 2^R is above m
 --   reaches_mag           a number reaches its size
 --   AllReach, allReach-…  bits gathered from the first coefficients: the invariant of a loop that gathers them
@@ -27,17 +28,24 @@ use lib.Seq.{length-take-le, get_or-take}
 use lib.Pow.{pow_pos, pow_mono}
 use lib.Signed.{lt_z, mag}
 use mir.Syntax.{w32}
-use mir.Val.{SFits}
+use mir.Val.{SFits, to_z}
 use Rattle.std.specs.Prelude.{Ok, Err}
 use Rattle.integers.specs.Search.{first_where}
 use Rattle.integers.specs.Within.{Within}
 use Rattle.integers.proofs.BoundLaws.{within_fits, within_le}
 use Rattle.integers.proofs.LinearLaws.{parts_add, parts_neg, le_out}
-use Rattle.integers.proofs.MachineLaws.{lt_z_of_le}
+use Rattle.integers.proofs.MachineLaws.{lt_z_of_le, shl_one}
 use Rattle.integers.proofs.SearchLaws.{None, none_le, first_where-none, first_where_found, first_where_first}
 use Rattle.h265.specs.Range.{coeff_min, coeff_max, outside_range}
+use Rattle.h265.proofs.RangeLaws.{coeff_min_eq, coeff_max_eq}
 use Rattle.refusal.specs.declared.Refusal.{Refusal}
 use Rattle.coefficients.specs.Outside.{outside_at, first_outside, outside_refusal, refusal_at, RowChecked, InsideChecked}
+
+pub low_end : (r : ℕ) → r ≤ 22 → pos 0 -ℤ to_z w32 ((1 * 2 ^ r) % 4294967296) ≡ coeff_min r
+low_end r h = coeff_min_eq _ r (shl_one w32 r (omega (arith, h)))
+
+pub high_end : (r : ℕ) → r ≤ 22 → to_z w32 ((1 * 2 ^ r) % 4294967296) -ℤ pos 1 ≡ coeff_max r
+high_end r h = coeff_max_eq _ r (shl_one w32 r (omega (arith, h)))
 
 pub range_fits : (r : ℕ) {z : ℤ} → r ≤ 22 → Within (2 ^ r) z → SFits w32 z
 range_fits r h w = within_fits {b = 4194304} tt (within_le (pow_mono h) w)

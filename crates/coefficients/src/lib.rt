@@ -91,6 +91,7 @@ fn check_row(row: &[i32], k: usize, range: u32) -> Result<(), Refusal>
 }
 
 // What `check_inside` tests, row by row.
+// Kept: coeff, n and nx apart, here and in `rows`, with their bounds as clauses: a struct would be made for one call and taken apart in it.
 fn check_rows(coeff: &[i32], n: usize, nx: usize, range: u32) -> Result<(), Refusal>
     requires { T (is_size n) × (nx ≤ n) × (n * n ≤ length coeff.now) × (range ≤ 22) }
     ensures { InsideChecked range n nx coeff.now result }

@@ -13,6 +13,7 @@ mod products; // what each coefficient adds
 mod refuse; // the refusals
 
 // The number at index k × n + c is T(k, row) × T(c, column) × coefficient (k, c), of any 32-bit coefficients.
+// Kept: kind, size, row and column apart, here, in products.rt and in refuse.rt: refusals, columns and products each take some of them, and would take a struct apart.
 pub fn contributions(
     kind: Kind,
     n: usize,

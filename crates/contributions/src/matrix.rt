@@ -8,6 +8,8 @@ ghost use Rattle.contributions.specs.Work.{ColumnOf};
 
 use transform_1d::Kind;
 
+// Kept: columns of the largest size with n beside them, here and in products.rt: there is no heap, and n stands once for both columns and the block.
+// Kept: a size as a number with its clause, here and in products.rt: as in `refusal`.
 // Kept: columns of their own: edit_tables makes a whole matrix, in 8 KB of stack, where a sample needs two columns of 64 bytes.
 // Column m of the n-point DCT's matrix, whose row k is row k × 32 / n of the 32-point one.
 fn dct_column(n: usize, m: usize) -> [i16; 32]

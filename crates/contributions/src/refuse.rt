@@ -7,6 +7,7 @@ use refusal::Refusal;
 use transform_1d::Kind;
 
 // The lowest row that applies, by the lengths of the buffers.
+// Kept: each length is a number of its own, which one line measures; a struct of them would be made for this one call.
 #[tactic(auto, unfolding(crate::specs::Sample::sample_ladder))]
 pub(crate) fn sample_refusal(
     kind: Kind,

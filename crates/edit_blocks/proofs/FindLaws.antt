@@ -35,7 +35,8 @@ use Rattle.edit_values.specs.Values.{least_where, most_where}
 use Rattle.edit_values.specs.Sample.{stage_one_by, sample_by}
 use Rattle.edit_blocks.specs.Edits.{misses_at, has_target, edited_residual, gives_target, least_edit, most_edit}
 use Rattle.edit_tables.specs.Tables.{Holds, StageNeeds}
-use Rattle.edit_blocks.specs.Work.{Tables, tables, probe_at, sampled_by, TablesNeeds, least_by, most_by, edited_by}
+use Rattle.edit_blocks.specs.Needs.{Tables, tables, TablesNeeds}
+use Rattle.edit_blocks.specs.Work.{probe_at, sampled_by, least_by, most_by, edited_by}
 use Rattle.edit_tables.proofs.TableLaws.{cell_index, line_within}
 use Rattle.edit_blocks.proofs.ChangedLaws.{edited_sample}
 

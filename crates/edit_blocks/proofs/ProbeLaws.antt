@@ -7,7 +7,8 @@
 use mathlib.Core.Path.{◌≡◌, sym, ap, subst, ◌∙◌}
 use mathlib.Core.Bool.{true, false, not}
 use mathlib.Core.List.{List}
-use Prim.Native.Nat.{ℕ, ◌+◌, ◌*◌, ◌<◌, ◌≤◌}
+use Prim.Native.Nat.{ℕ, ◌+◌, ◌*◌, ◌<◌, ◌≤◌, ◌%◌, ◌^◌}
+use native.Mathlib.Nat.{mod-eq_of_lt}
 use native.Mathlib.Omega.{arith}
 use borrow.Author.Tests.{ne_eqb}
 use lib.IntN.{ℤ, pos, neg_ℤ, ◌+ℤ◌, ◌-ℤ◌, ◌*ℤ◌, +ℤ_idl}
@@ -18,12 +19,13 @@ use Rattle.integers.proofs.BoundLaws.{within_le, within_add, within_mul, within_
 use Rattle.h265.specs.Transform.{block_at, row_order}
 use Rattle.h265.proofs.TransformLaws.{row_order-at}
 use Rattle.edit_values.specs.declared.Probe.{Probe}
-use Rattle.edit_values.specs.declared.Span.{Span}
+use Rattle.edit_values.specs.declared.interval.Span.{Span}
 use Rattle.edit_values.specs.Values.{value_count, value_at}
 use Rattle.edit_values.specs.Sample.{sample_by, Bounded, Narrowed}
 use Rattle.edit_values.proofs.OrderedLaws.{not_both}
 use Rattle.edit_blocks.specs.Edits.{is_wanted}
-use Rattle.edit_blocks.specs.Work.{Tables, probe_at, sampled_by, TablesNeeds, hit_by, Sieved}
+use Rattle.edit_blocks.specs.Needs.{Tables, TablesNeeds}
+use Rattle.edit_blocks.specs.Work.{probe_at, sampled_by, hit_by, Sieved}
 use Rattle.edit_blocks.proofs.SieveLaws.{sieved_none, sieved_more}
 
 rest_within : {a u x : ℤ} → Within 12079595520 a → Within 90 u → Within 4194304 x → Within 17179869184 (a +ℤ (pos 0 -ℤ u) *ℤ x)
@@ -61,18 +63,21 @@ module _ (a : Tables) (n r s k c m j : ℕ) (wanted : List ℕ) (hj : j < n) {p 
   unfolding block_at
   hit_probe w v h = sym (sampled v) ∙ h.hits w ∙ sym target_is
 
-  pub narrowed_sieved : {from to : ℕ} {z : Span} → is_wanted wanted (m * n + j) ≡ true → from ≤ to → Narrowed p from to z
-      → Sieved r (hit_by a wanted n r s k c) (m * n + j) (m * n + j + 1) from to z
-  narrowed_sieved w l h =
-      sieved_more (sieved_none l) (omega arith) h.least h.ordered h.most
-      (λ o x y. probe_hit (value_at r o) (ap (λ (q : ℕ). sample_by p (value_at q o)) (sym range_is) ∙ h.gives o x y))
-      (λ o x y g. h.only o x y (ap (λ (q : ℕ). sample_by p (value_at q o)) range_is ∙ hit_probe w (value_at r o) g))
+  pub narrowed_sieved : (y : Span) {z : Span} → is_wanted wanted (m * n + j) ≡ true → y.from ≤ y.to → Narrowed p y.from y.to z
+      → Sieved r (hit_by a wanted n r s k c) (m * n + j) (m * n + j + 1) y.from y.to z
+  narrowed_sieved y w l h =
+      sieved_more (sieved_none y l) (omega arith) h.least h.ordered h.most
+      (λ o f t. probe_hit (value_at r o) (ap (λ (q : ℕ). sample_by p (value_at q o)) (sym range_is) ∙ h.gives o f t))
+      (λ o f t g. h.only o f t (ap (λ (q : ℕ). sample_by p (value_at q o)) range_is ∙ hit_probe w (value_at r o) g))
     where
       range_is : p.range ≡ r
       range_is = unfold probe_at in ap (λ (q : Probe). q.range) e
 
 pub count_bound : (r : ℕ) → r ≤ 22 → value_count r ≤ 8388608
 count_bound r h = omega (arith, pow_mono {i = r} {j = 22} h)
+
+pub count_wraps : (r : ℕ) → r ≤ 22 → 2 * 2 ^ r % 4294967296 ≡ value_count r
+count_wraps r h = mod-eq_of_lt (omega (arith, count_bound r h))
 
 pub unwanted_hit : (a : Tables) (n r s k c q : ℕ) (wanted : List ℕ) → get_or wanted q 0 ≡ 0 → (v : ℤ) → hit_by a wanted n r s k c v q
 unwanted_hit a n r s k c q wanted e v = record { hits = λ w. absurd (not_both not_wanted w) }

@@ -6,13 +6,12 @@
 use mathlib.Core.Path.{◌≡◌, refl, sym, ap, subst, ◌∙◌}
 use mathlib.Core.Bool.{Bool, true, false, ◌&&◌, cond}
 use mathlib.Core.List.{List}
-use Prim.Native.Nat.{ℕ, ◌+◌, ◌-◌, ◌*◌, ◌%◌, ◌^◌, ◌≤◌, ◌<◌}
+use Prim.Native.Nat.{ℕ, ◌+◌, ◌-◌, ◌*◌, ◌^◌, ◌≤◌, ◌<◌}
 use native.Mathlib.Decide.{ℕ_discrete}
-use native.Mathlib.Nat.{mod-eq_of_lt}
 use native.Mathlib.Omega.{arith}
 use borrow.Author.Tests.{ltb-true, ltb-false, lt-ltb, le-ltb, not-true}
 use lib.Dec.{ltb}
-use lib.Pow.{pow_pos, pow_mono}
+use lib.Pow.{pow_pos}
 use lib.IntN.{ℤ, pos, neg_ℤ, ◌+ℤ◌, ◌-ℤ◌, +ℤ_comm}
 use lib.ListN.{get_or}
 use lib.Signed.{lt_z, ≤ℤ_refl}
@@ -23,15 +22,15 @@ use Rattle.integers.proofs.MachineLaws.{lt_z_false, lt_z_of_le}
 use Rattle.integers.proofs.SearchLaws.{first_where_first, first_where-none, first_where_found}
 use Rattle.h265.specs.Range.{coeff_min, coeff_max}
 use Rattle.h265.specs.Transform.{row_order}
-use Rattle.edit_values.specs.declared.Span.{Span}
+use Rattle.edit_values.specs.declared.interval.Span.{Span}
 use Rattle.edit_values.specs.Values.{value_count, value_at, least_where, most_where}
 use Rattle.integers.proofs.TestLaws.{neither}
 use Rattle.edit_blocks.specs.Edits.{is_wanted, differs, misses_at, has_target}
 use Rattle.edit_blocks.specs.Work.{Hit, Sieved, least_of, most_of}
 
 module _ {r : ℕ} {hit : ℤ → ℕ → Type 0} where
-  pub sieved_none : {a from to : ℕ} → from ≤ to → Sieved r hit a a from to (record { from = from; to = to })
-  sieved_none h =
+  pub sieved_none : {a : ℕ} (s : Span) → s.from ≤ s.to → Sieved r hit a a s.from s.to s
+  sieved_none s h =
       record {
         least = omega arith;
         ordered = h;
@@ -40,10 +39,9 @@ module _ {r : ℕ} {hit : ℤ → ℕ → Type 0} where
         only = λ o f l k. (f, l);
       }
 
-  -- all of the range, as the machine counts it
-  pub sieved_range : r ≤ 22 → Sieved r hit 0 0 0 (value_count r) (record { from = 0; to = 2 * 2 ^ r % 4294967296 })
-  sieved_range h =
-      rw (mod-eq_of_lt {n = 2 * 2 ^ r} {m = 4294967296} (omega (arith, pow_mono {i = r} {j = 22} h))) (sieved_none (omega arith))
+  -- all of the range
+  pub sieved_range : (s : Span) → s.from ≡ 0 → s.to ≡ value_count r → Sieved r hit 0 0 0 (value_count r) s
+  sieved_range s d e = subst (λ (i : ℕ). Sieved r hit 0 0 i (value_count r) s) d (subst (λ (j : ℕ). Sieved r hit 0 0 s.from j s) e (sieved_none s (omega arith)))
 
   module _ {a b from to : ℕ} {s : Span} (h : Sieved r hit a b from to s) where
     pub sieved_skip : ((v : ℤ) → hit v b) → Sieved r hit a (b + 1) from to s

@@ -1,2 +1,4 @@
 pub mod Edits
+pub mod Ladder
+pub mod Needs
 pub mod Work

@@ -1,11 +1,8 @@
 -- The search for the values of one coefficient, below the refusals: what its functions hold and find.
 -- Letters as in specs/Edits.antt; t matrix, r range, s shift of stage two, k and c row and column of the coefficient, q index of a sample.
---   Tables                 matrix, coefficients, sums of stage one, intermediate, sums of stage two, and the target
 --   tables_of s             those that a search reads
 --   probe_at                what a sample has of everything but the coefficient's value, read from the tables
 --   sampled_by              the samples by it, for a value of the coefficient
---   TablesNeeds              tables of n² elements whose probes are all in bounds
---   SearchNeeds s            those of a search
 --   Hit n e target wanted q   sample q of the residual e has its target, or is not wanted
 --   hits_of s k c v q        sample q of the block with v in row k and column c, by the tables of a search
 --   Sieved r hit a b from to s   of the places from .. to - 1 of the range those in the span s hit samples a .. b - 1, and no other
@@ -14,28 +11,17 @@
 --   edited_by t n r s d i v    the residual of the block with v at index i
 --   EditsNeeds               what the search of a whole block asks
 use Rattle.std.specs.Prelude.{◌≡◌, Bool, true, false, cond, List, ℕ, ◌-◌, ◌*◌, ◌/◌, ◌%◌, ◌≤◌, ◌<◌, T, ltb, ℤ, pos, ◌+ℤ◌, ◌-ℤ◌, ◌*ℤ◌, length, get_or, set}
-use Rattle.integers.specs.Within.{Within}
 use Rattle.h265.specs.Range.{is_size, transform_range, outside_range}
 use Rattle.h265.specs.Transform.{block_at, columns_read, row_order, intermediate, stage_two}
 use Rattle.transform_1d.specs.declared.Kind.{Kind}
 use Rattle.transform_1d.specs.declared.Kind.TheVariants.{Dst}
 use Rattle.edit_values.specs.declared.Probe.{Probe}
-use Rattle.edit_values.specs.declared.Span.{Span}
+use Rattle.edit_values.specs.declared.interval.Span.{Span}
 use Rattle.edit_values.specs.Values.{value_at, least_where, most_where}
 use Rattle.edit_values.specs.Sample.{sample_by}
-use Rattle.edit_blocks.specs.declared.Search.{Search}
+use Rattle.edit_blocks.specs.declared.search.Search.{Search}
+use Rattle.edit_blocks.specs.Needs.{Tables, tables}
 use Rattle.edit_blocks.specs.Edits.{is_wanted, has_target}
-
-pub record Tables : Type 0 where
-  pub matrix : List ℤ
-  pub coeff : List ℤ
-  pub ones : List ℤ
-  pub between : List ℤ
-  pub twos : List ℤ
-  pub target : List ℤ
-
-abbrev pub tables : List ℤ → List ℤ → List ℤ → List ℤ → List ℤ → List ℤ → Tables
-tables t d ones between twos target = record { matrix = t; coeff = d; ones = ones; between = between; twos = twos; target = target }
 
 abbrev pub tables_of : Search → Tables
 tables_of s = tables s.matrix.now s.coeff.now s.ones.now s.between.now s.twos.now s.target.now
@@ -57,26 +43,6 @@ probe_at a n r s k c m j =
 
 unfoldable pub sampled_by : Tables → ℕ → ℕ → ℕ → ℕ → ℕ → ℤ → ℕ → ℕ → ℤ
 sampled_by a n r s k c v m j = sample_by (probe_at a n r s k c m j) v
-
-pub record TablesNeeds (a : Tables) (n r s w : ℕ) : Type 0 where
-  pub size : T (is_size n)
-  pub range : r ≤ 22
-  pub matrix : length a.matrix ≡ 1024
-  pub coeff : length a.coeff ≡ 1024
-  pub ones : length a.ones ≡ 1024
-  pub between : length a.between ≡ 1024
-  pub twos : length a.twos ≡ 1024
-  pub target : n * n ≤ length a.target
-  pub wanted : n * n ≤ w
-  pub entries : (k m : ℕ) → k < n → m < n → Within 90 (block_at n a.matrix k m)
-  pub values : (k c : ℕ) → k < n → c < n → Within 4194304 (block_at n a.coeff k c)
-  pub sums : (m c : ℕ) → m < n → c < n → Within 12079595520 (block_at n a.ones m c)
-  pub inside : (m c : ℕ) → m < n → c < n → Within 4194304 (block_at n a.between m c)
-  pub sums_two : (m j : ℕ) → m < n → j < n → Within 12079595520 (block_at n a.twos m j)
-  pub shift : (1 ≤ s) × (s ≤ 12)
-
-abbrev pub SearchNeeds : Search → Type 0
-SearchNeeds s = TablesNeeds (tables_of s) s.n s.range s.shift (length s.wanted.now)
 
 pub record Hit (n : ℕ) (e : ℕ → ℕ → ℤ) (target : List ℤ) (wanted : List ℕ) (q : ℕ) : Type 0 where
   pub hits : is_wanted wanted q ≡ true → row_order n e q ≡ get_or target q (pos 0)

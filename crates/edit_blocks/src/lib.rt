@@ -1,7 +1,9 @@
 // For each index of a block the values of its coefficient that give the residual a target at every wanted sample.
-// Internal: no refusal; callers meet each `requires`.
+// Internal: callers meet each `requires`; `refuse` has what both searches refuse before it.
 #![tactic(auto)]
 
+pub mod refuse; // the refusals of both searches
+mod search; // what the search over one block reads
 mod spans; // the values of one coefficient, and of every index
 
 ghost use Rattle.std.specs.Prelude.{◌≡◌, length, ◌*◌};
@@ -11,27 +13,13 @@ ghost use Rattle.edit_blocks.specs.Work.{EditsNeeds};
 
 use edit_tables::{matrix, sums};
 use refusal::Precision;
+use search::Search;
 pub use spans::{least_of, most_of};
 use transform_1d::Kind;
 
-// What the search over one block reads: its tables, the target, which samples are wanted, and the numbers that all samples share.
-// Kept: the tables are lent; as arrays of its own they were tried and proved, and the copies took 40 KB of stack more than include/residual.h allows a search.
-#[derive(Clone, Copy)]
-struct Search<'a> {
-    matrix: &'a [i64; 1024],
-    coeff: &'a [i64; 1024],
-    ones: &'a [i64; 1024],
-    between: &'a [i64; 1024],
-    twos: &'a [i64; 1024],
-    target: &'a [i32],
-    wanted: &'a [u8],
-    n: usize,
-    range: u32,
-    shift: u32,
-}
-
 // The least and the most value at every index; 1 and 0 where there is none.
-// Kept: target and wanted, least and most are slices of their own, as C lends them to `find_edits` of edit_search; a struct of two would be made there for this one call.
+// Kept: target and wanted, least and most are slices of their own, as C lends them; a struct of two would be made at each of the two calls, in edit_search and level_edits, and taken apart here.
+// Kept: kind, size and precision apart, here and in refuse.rt: refusals, range, shift and matrix each take some of them, and would take a struct apart.
 pub fn find(
     kind: Kind,
     n: usize,

@@ -4,12 +4,13 @@ ghost use Rattle.integers.specs.Lists.{overwrite};
 ghost use Rattle.integers.specs.Within.{Within};
 ghost use Rattle.h265.specs.Transform.{block_at};
 ghost use Rattle.edit_values.specs.Values.{value_count};
-ghost use Rattle.edit_blocks.specs.Work.{tables_of, probe_at, SearchNeeds, hits_of, Sieved, least_of, most_of, least_by, most_by};
+ghost use Rattle.edit_blocks.specs.Work.{tables_of, probe_at, hits_of, Sieved, least_of, most_of, least_by, most_by};
 
-use crate::Search;
+use crate::search::Search;
 use edit_values::{Probe, Span};
 
 // What stands at a row and a column of a table.
+// Kept: tables of the largest size with n beside them: there is no heap, and n stands once for all tables of a block.
 // Kept: a row and a column are two numbers, here and below: a struct of both could not hold that they are below n, which the search has, and every contract would say it as now.
 fn cell(x: &[i64; 1024], n: usize, row: usize, column: usize) -> i64
     requires { (n ≤ 32) × (row < n) × (column < n) }
@@ -18,6 +19,8 @@ fn cell(x: &[i64; 1024], n: usize, row: usize, column: usize) -> i64
     x[row * n + column]
 }
 
+// What stands at a row and a column of the target.
+// Kept: beside `cell`: the target is 32 bits wide and lent as a slice, so that its length is asked and a bound promised.
 fn target_cell(x: &[i32], n: usize, row: usize, column: usize) -> i64
     requires { (n ≤ 32) × (row < n) × (column < n) × (n * n ≤ length x.now) }
     ensures { (result ≡ block_at n x.now row column) × Within 2147483648 result }
@@ -35,7 +38,7 @@ fn without(sum: i64, entry: i64, value: i64) -> i64
 
 // What a sample has of everything but the coefficient's value: both sums without the coefficient's own product.
 fn probe_at(search: &Search, k: usize, c: usize, m: usize, j: usize) -> Probe
-    requires { SearchNeeds search.now × (k < search.now.n) × (c < search.now.n) × (m < search.now.n) × (j < search.now.n) }
+    requires { (k < search.now.n) × (c < search.now.n) × (m < search.now.n) × (j < search.now.n) }
     ensures { (result ≡ probe_at (tables_of search.now) search.now.n search.now.range search.now.shift k c m j) × Within 2147483648 result.target }
 {
     let n = search.n;
@@ -62,7 +65,7 @@ fn probe_at(search: &Search, k: usize, c: usize, m: usize, j: usize) -> Probe
 
 // The places of a span that hit the sample at row m and column j.
 fn sample_span(search: &Search, k: usize, c: usize, m: usize, j: usize, span: Span) -> Span
-    requires { SearchNeeds search.now × (k < search.now.n) × (c < search.now.n) × (m < search.now.n) × (j < search.now.n) × (span.from ≤ span.to) × (span.to ≤ value_count search.now.range) }
+    requires { (k < search.now.n) × (c < search.now.n) × (m < search.now.n) × (j < search.now.n) × (span.from ≤ span.to) × (span.to ≤ value_count search.now.range) }
     ensures { Sieved search.now.range (hits_of search.now k c) (m * search.now.n + j) (m * search.now.n + j + 1) span.from span.to result }
 {
     if search.wanted[m * search.n + j] == 0 {
@@ -76,7 +79,7 @@ fn sample_span(search: &Search, k: usize, c: usize, m: usize, j: usize, span: Sp
 
 // The places of a span that hit the samples of row m.
 fn row_span(search: &Search, k: usize, c: usize, m: usize, span: Span) -> Span
-    requires { SearchNeeds search.now × (k < search.now.n) × (c < search.now.n) × (m < search.now.n) × (span.from ≤ span.to) × (span.to ≤ value_count search.now.range) }
+    requires { (k < search.now.n) × (c < search.now.n) × (m < search.now.n) × (span.from ≤ span.to) × (span.to ≤ value_count search.now.range) }
     ensures { Sieved search.now.range (hits_of search.now k c) (m * search.now.n) (m * search.now.n + search.now.n) span.from span.to result }
 {
     let mut left = span;
@@ -86,15 +89,23 @@ fn row_span(search: &Search, k: usize, c: usize, m: usize, span: Span) -> Span
     left
 }
 
+// All places of the range.
+fn whole(range: u32) -> Span
+    requires { range ≤ 22 }
+    ensures { (result.from ≡ 0) × (result.to ≡ value_count range) }
+{
+    Span {
+        from: 0,
+        to: 2u32 << range,
+    }
+}
+
 // The places of the range that hit every wanted sample, for the coefficient at row k and column c.
 fn index_span(search: &Search, k: usize, c: usize) -> Span
-    requires { SearchNeeds search.now × (k < search.now.n) × (c < search.now.n) }
+    requires { (k < search.now.n) × (c < search.now.n) }
     ensures { Sieved search.now.range (hits_of search.now k c) 0 (search.now.n * search.now.n) 0 (value_count search.now.range) result }
 {
-    let mut left = Span {
-        from: 0,
-        to: 2u32 << search.range,
-    };
+    let mut left = whole(search.range);
     for m in 0..search.n {
         if left.is_empty() {
             return left;
@@ -130,7 +141,7 @@ pub fn most_of(range: u32, span: Span) -> i32
 
 // The least and the most value at every index.
 pub(crate) fn all_indices(search: &Search, least: &mut [i32], most: &mut [i32])
-    requires { SearchNeeds search.now × (search.now.n * search.now.n ≤ length least.old) × (search.now.n * search.now.n ≤ length most.old) }
+    requires { (search.now.n * search.now.n ≤ length least.old) × (search.now.n * search.now.n ≤ length most.old) }
     ensures { (least.new ≡ overwrite (search.now.n * search.now.n) (least_by (tables_of search.now) search.now.wanted.now search.now.n search.now.range search.now.shift) least.old) × (most.new ≡ overwrite (search.now.n * search.now.n) (most_by (tables_of search.now) search.now.wanted.now search.now.n search.now.range search.now.shift) most.old) }
 {
     let n = search.n;

@@ -1,5 +1,6 @@
 -- What a call hands back, case by case.
 --   rungs               the conditions of the ladder
+--   without_list        with 64 entries the ladder of a search for levels is that of a search for coefficients
 --   edits_refused       refused by the ladder
 --   edits_passed        what the ladder's answer 0 says
 --   edits_outside, edits_done   past the ladder: a coefficient outside the range, or the edits
@@ -22,7 +23,7 @@ use Rattle.h265.specs.Range.{transform_range, outside_range}
 use Rattle.h265.proofs.TransformLaws.{cell_column}
 use Rattle.refusal.specs.declared.Refusal.{Refusal}
 use Rattle.refusal.specs.declared.Refusal.TheVariants.{SizeInvalid, DepthInvalid, DstSizeInvalid, InputTooShort, OutputTooShort}
-use Rattle.refusal.specs.Condition.{size_refused, depth_refused, block_refused}
+use Rattle.refusal.specs.Condition.{size_refused, depth_refused, list_refused, block_refused}
 use Rattle.refusal.specs.Outcome.{accepted, refused, answer}
 use Rattle.refusal.proofs.RefusalLaws.{number_least}
 use Rattle.refusal.proofs.ConditionLaws.{size_accepted, depth_accepted, block_room}
@@ -33,6 +34,7 @@ use Rattle.transform_1d.specs.declared.Kind.TheVariants.{Dct, Dst}
 use Rattle.transform_1d.specs.Kinds.{dst_refused}
 use Rattle.coefficients.specs.Outside.{outside_at, first_outside, refusal_at}
 use Rattle.edit_blocks.specs.Edits.{least_edit, most_edit}
+use Rattle.edit_blocks.specs.Ladder.{level_edit_ladder}
 use Rattle.edit_blocks.specs.Work.{EditsNeeds}
 use Rattle.edit_search.specs.Found.{Found, left, wrote, Finds, edit_ladder, block_found, edits_found}
 
@@ -47,6 +49,11 @@ rungs kind n b coeff target wanted least most =
     ∷ rung (block_refused n least) OutputTooShort
     ∷ rung (block_refused n most) OutputTooShort
     ∷ []
+
+pub without_list : {A : Type 0} (stop : Refusal → A) (go : A) (kind : Kind) (n b coeff target wanted least most : ℕ)
+    → level_edit_ladder stop go kind n b 64 coeff target wanted least most ≡ edit_ladder stop go kind n b coeff target wanted least most
+unfolding level_edit_ladder edit_ladder list_refused
+without_list stop go kind n b coeff target wanted least most = refl
 
 -- a ladder that answered 0 has passed every rung
 pub answered_passed : (low high : List ℤ) (done : Found) (rs : List Rung) → (first (left low high) done rs).answer.number ≡ 0 → Passed rs

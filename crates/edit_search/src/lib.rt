@@ -6,9 +6,8 @@ ghost use Rattle.edit_search.specs.Found.{Finds, edits_found};
 use refusal::{Precision, Refusal};
 use transform_1d::Kind;
 
-mod refuse;
-
 // The least and the most value at every index, in place of the coefficient there; 1 and 0 where there is none. A sample is wanted where its byte is other than 0.
+// Kept: kind, size and precision apart: refusals, range and search each take some of them, and would take a struct apart.
 pub fn find_edits(
     kind: Kind,
     n: usize,
@@ -23,10 +22,12 @@ pub fn find_edits(
 ) -> Result<(), Refusal>
     ensures { Finds result least.new most.new (edits_found kind n precision.bit_depth precision.extended coeff.now target.now wanted.now least.old most.old) }
 {
-    refuse::edit_refusal(
+    // No list is lent, and of 64 entries row 5 refuses nothing.
+    edit_blocks::refuse::edit_refusal(
         kind,
         n,
         precision.bit_depth,
+        64,
         coeff.len(),
         target.len(),
         wanted.len(),

@@ -4,6 +4,7 @@
 // outputs. tests/edit_search_cases.py, which asks every value of the range, writes cases and text.
 #![tactic(auto)]
 
+use cases::UnknownNumber;
 use parameters::QpPrime;
 use refusal::{Precision, Refusal};
 use scaling_values::ScalingList;
@@ -18,19 +19,15 @@ enum Function {
     ListedLevels,
 }
 
-// A number that a case gives no function.
-#[derive(Clone, Copy)]
-struct UnknownFunction;
-
 impl TryFrom<u8> for Function {
-    type Error = UnknownFunction;
+    type Error = UnknownNumber;
 
-    fn try_from(number: u8) -> Result<Function, UnknownFunction> {
+    fn try_from(number: u8) -> Result<Function, UnknownNumber> {
         match number {
             0 => Ok(Function::Coefficients),
             1 => Ok(Function::Levels),
             2 => Ok(Function::ListedLevels),
-            _ => Err(UnknownFunction),
+            _ => Err(UnknownNumber),
         }
     }
 }
@@ -125,7 +122,7 @@ fn replay(rt: &impl Print, stdin: &mut impl Read) -> bool {
     if !cases::copy_text(rt, stdin) {
         return false;
     }
-    let Ok(function) = Function::try_from(cases::next::<u8>(stdin)) else {
+    let Ok(function) = Function::try_from(cases::next::<u8, _>(stdin)) else {
         return false;
     };
     let case = next_case(stdin, function);

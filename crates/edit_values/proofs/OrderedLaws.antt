@@ -26,6 +26,7 @@ use Rattle.integers.proofs.ClipLaws.{clip3_mono}
 use Rattle.h265.specs.Range.{coeff_min, clip_coeff}
 use Rattle.h265.proofs.RangeLaws.{coeff_min-≤-coeff_max}
 use Rattle.edit_values.specs.declared.Probe.{Probe}
+use Rattle.edit_values.specs.declared.interval.Span.{Span}
 use Rattle.edit_values.specs.Values.{value_at}
 use Rattle.edit_values.specs.Sample.{stage_one_by, sample_by, before, falls, past, Split, Narrowed}
 
@@ -140,23 +141,23 @@ module _ (p : Probe) where
   unfolding past
   past_hit o d e = upto_antisym (falls p) (x o) p.target e (not-true _ d)
 
-  pub split_narrowed : {from to i j : ℕ} → Split (past p false) from to i → Split (past p true) i to j → Narrowed p from to (record { from = i; to = j })
-  split_narrowed {from} {to} {i} {j} a b =
+  pub split_narrowed : {from to : ℕ} {s : Span} → Split (past p false) from to s.from → Split (past p true) s.from to s.to → Narrowed p from to s
+  split_narrowed {from} {to} {s} a b =
       record {
         least = a.least;
         ordered = b.least;
         most = b.most;
         gives = λ o h l. past_hit o (a.all o h (omega (arith, b.most))) (b.none o h l);
-        only = λ o h l e. (from_test o h e (ltb o i) refl, to_test o h l e);
+        only = λ o h l e. (from_test o h e (ltb o s.from) refl, to_test o h l e);
       }
     where
-      from_test : (o : ℕ) → from ≤ o → x o ≡ p.target → (t : Bool) → ltb o i ≡ t → i ≤ o
-      from_test o h e true d = absurd (not_both (a.none o h (ltb-true o i d)) (hit_reached o e))
-      from_test o h e false d = ltb-false o i d
+      from_test : (o : ℕ) → from ≤ o → x o ≡ p.target → (t : Bool) → ltb o s.from ≡ t → s.from ≤ o
+      from_test o h e true d = absurd (not_both (a.none o h (ltb-true o s.from d)) (hit_reached o e))
+      from_test o h e false d = ltb-false o s.from d
 
-      by_end : (o : ℕ) → o < to → x o ≡ p.target → (t : Bool) → ltb o j ≡ t → o < j
-      by_end o l e true d = ltb-true o j d
-      by_end o l e false d = absurd (not_both (hit_passed o e) (b.all o (ltb-false o j d) l))
+      by_end : (o : ℕ) → o < to → x o ≡ p.target → (t : Bool) → ltb o s.to ≡ t → o < s.to
+      by_end o l e true d = ltb-true o s.to d
+      by_end o l e false d = absurd (not_both (hit_passed o e) (b.all o (ltb-false o s.to d) l))
 
-      to_test : (o : ℕ) → from ≤ o → o < to → x o ≡ p.target → o < j
-      to_test o h l e = by_end o l e (ltb o j) refl
+      to_test : (o : ℕ) → from ≤ o → o < to → x o ≡ p.target → o < s.to
+      to_test o h l e = by_end o l e (ltb o s.to) refl

@@ -15,7 +15,7 @@ use Rattle.integers.specs.Shift.{round_shift}
 use Rattle.integers.specs.Within.{Within}
 use Rattle.h265.specs.Range.{clip_coeff}
 use Rattle.edit_values.specs.declared.Probe.{Probe}
-use Rattle.edit_values.specs.declared.Span.{Span}
+use Rattle.edit_values.specs.declared.interval.Span.{Span}
 use Rattle.edit_values.specs.Values.{value_at}
 
 unfoldable pub stage_one_by : Probe → ℤ → ℤ

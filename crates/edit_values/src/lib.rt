@@ -10,6 +10,10 @@ ghost use Rattle.h265.specs.Range.{clip_coeff};
 ghost use Rattle.edit_values.specs.Values.{value_at};
 ghost use Rattle.edit_values.specs.Sample.{sample_by, before, falls, past, Bounded, Split, Narrowed};
 
+mod interval; // an interval of places
+
+pub use interval::Span;
+
 // What a sample has of everything but the coefficient's value.
 #[derive(Clone, Copy)]
 pub struct Probe {
@@ -20,22 +24,6 @@ pub struct Probe {
     pub entry_two: i64,
     pub rest_two: i64,
     pub target: i64,
-}
-
-// Places of the range from `from` up to, and without, `to`.
-#[derive(Clone, Copy)]
-pub struct Span {
-    pub from: u32,
-    pub to: u32,
-}
-
-impl Span {
-    // Whether it has no place.
-    pub fn is_empty(self) -> bool
-        ensures { (result ≡ true → self.to ≤ self.from) × (result ≡ false → self.from < self.to) }
-    {
-        self.to <= self.from
-    }
 }
 
 // The value at a place of the range.
@@ -55,6 +43,7 @@ pub fn mac(a: i64, u: i64, v: i64) -> i64
 }
 
 // x shifted right by s, rounded.
+// Kept: beside `rounded` of tiles: the sums here are longer than 32 bits, and one function for both would take a trait of both types for two lines.
 fn round_shift(x: i64, s: u32) -> i64
     requires { Within 18312331264 x × (1 ≤ s) × (s ≤ 12) }
     ensures { result ≡ round_shift x s }
@@ -72,6 +61,7 @@ pub fn stage_one(sum: i64, range: u32) -> i64
 }
 
 // The sample.
+// Kept: Bounded p is a clause, here and below: as a ghost field of Probe, the definition probe_at of edit_blocks, which makes a probe of any tables, would have to prove it.
 fn sample(p: Probe, value: i64) -> i64
     requires { Bounded p × Within 12582912 value }
     ensures { result ≡ sample_by p value }
@@ -113,7 +103,7 @@ fn past(p: Probe, strict: bool, place: u32) -> bool
 
 // The first place that is past, and the span's end where none is.
 fn halve(p: Probe, strict: bool, span: Span) -> u32
-    requires { Bounded p × (span.from ≤ span.to) × (span.to ≤ 8388608) }
+    requires { Bounded p × (span.from ≤ span.to) }
     ensures { Split (past p strict) span.from span.to result }
 {
     let mut low = span.from;
@@ -132,7 +122,7 @@ fn halve(p: Probe, strict: bool, span: Span) -> u32
 
 // The first place that reaches the target. Mostly that is the first of all.
 fn first_reached(p: Probe, span: Span) -> u32
-    requires { Bounded p × (span.from < span.to) × (span.to ≤ 8388608) }
+    requires { Bounded p × (span.from < span.to) }
     ensures { Split (past p false) span.from span.to result }
 {
     if past(p, false, span.from) {
@@ -143,7 +133,7 @@ fn first_reached(p: Probe, span: Span) -> u32
 
 // The first place that is past the target. Mostly there is none.
 fn first_passed(p: Probe, span: Span) -> u32
-    requires { Bounded p × (span.from ≤ span.to) × (1 ≤ span.to) × (span.to ≤ 8388608) }
+    requires { Bounded p × (span.from ≤ span.to) × (1 ≤ span.to) }
     ensures { Split (past p true) span.from span.to result }
 {
     if !past(p, true, span.to - 1) {
@@ -154,7 +144,7 @@ fn first_passed(p: Probe, span: Span) -> u32
 
 // The places of a span that give the target.
 pub fn narrow(p: Probe, span: Span) -> Span
-    requires { Bounded p × (span.from < span.to) × (span.to ≤ 8388608) }
+    requires { Bounded p × (span.from < span.to) }
     ensures { Narrowed p span.from span.to result }
 {
     let from = first_reached(p, span);

@@ -1,4 +1,4 @@
-// Calls on lent buffers of any length. A case goes on with the lengths of levels, coefficients, intermediate and residual, two bytes each, and what they hold; an
+// Calls on lent buffers of any length. A case goes on with the lengths of levels, coefficients, intermediate and residual, eight bytes each, and what they hold; an
 // edit's with the column count of its record, whether it is of a level, row and column, and the value; a list's as `lists` says. The text goes on with the answer,
 // the record handed back, zeros where an opening was refused, and the four buffers.
 use crate::buffers::Buffers;
@@ -20,11 +20,11 @@ fn opening(rt: &impl Print, setting: &Setting, buffers: &mut Buffers) {
 }
 
 fn edit(rt: &impl Print, stdin: &mut impl Read, setting: &Setting, buffers: &mut Buffers) {
-    let mut block = settings::record(setting, cases::next::<usize>(stdin));
-    let level = cases::next::<u8>(stdin) != 0;
-    let row = cases::next::<usize>(stdin);
-    let column = cases::next::<usize>(stdin);
-    let value = cases::next::<i32>(stdin);
+    let mut block = settings::record(setting, cases::next::<usize, _>(stdin));
+    let level = cases::next::<u8, _>(stdin) != 0;
+    let row = cases::next::<usize, _>(stdin);
+    let column = cases::next::<usize, _>(stdin);
+    let value = cases::next::<i32, _>(stdin);
     let edit = Edit {
         row,
         column,

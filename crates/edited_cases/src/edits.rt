@@ -65,6 +65,6 @@ pub fn put_edit(rt: &impl Print, answer: Result<Limits, Refusal>) {
 // A byte each.
 pub fn read_flags(stdin: &mut impl Read, flags: &mut [bool]) {
     for flag in flags {
-        *flag = cases::next::<u8>(stdin) != 0;
+        *flag = cases::next::<u8, _>(stdin) != 0;
     }
 }

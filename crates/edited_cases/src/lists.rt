@@ -41,7 +41,7 @@ fn put_listed(rt: &impl Print, listed: Result<Listed, Refusal>) {
     cases::put(rt, listed.map_or(0, |told| told.edits));
 }
 
-// Kept: setting, buffers, edits and answers are four records already, each of use elsewhere; a fifth around them would serve these two calls alone.
+// Kept: setting, buffers, edits and answers are four records already, each of use elsewhere; a fifth around them would serve these two calls and `call` below alone.
 fn on_coefficients(
     setting: &Setting,
     buffers: &mut Buffers,

@@ -3,6 +3,7 @@
 // then what `borders` or `random` says. tests/edited_cases.py writes cases and text.
 #![tactic(auto)]
 
+use cases::UnknownNumber;
 use std::io::Read;
 
 mod borders;
@@ -19,10 +20,6 @@ enum Case {
     Borders(borders::Call),
     Random,
 }
-
-// A number that a case gives no meaning.
-#[derive(Clone, Copy)]
-pub struct UnknownNumber;
 
 impl TryFrom<u8> for Case {
     type Error = UnknownNumber;
@@ -43,7 +40,7 @@ fn replay(rt: &impl Print, stdin: &mut impl Read) -> bool {
     if !cases::copy_text(rt, stdin) {
         return false;
     }
-    let Ok(what) = Case::try_from(cases::next::<u8>(stdin)) else {
+    let Ok(what) = Case::try_from(cases::next::<u8, _>(stdin)) else {
         return false;
     };
     let Ok(setting) = settings::next(stdin) else {

@@ -134,7 +134,7 @@ fn play_list(
 // A block that is opened on coefficients or on levels. Past its n² elements the mark 7 stands.
 pub fn replay(rt: &impl Print, stdin: &mut impl Read, setting: &Setting) {
     let mut values = [7i32; 1040];
-    let count = cases::next::<usize>(stdin);
+    let count = cases::next::<usize, _>(stdin);
     cases::read_first(stdin, count, &mut values);
     let edits = next_edits(stdin);
     let (mut levels, mut coeff) = setting.begun(&values);

@@ -1,6 +1,6 @@
 // What an opening fixes, and blocks that are opened with it.
-use crate::UnknownNumber;
 use crate::buffers::Buffers;
+use cases::UnknownNumber;
 use edited_block::{EditedBlock, Source};
 use level_block::LevelsOpened;
 use parameters::QpPrime;
@@ -65,11 +65,11 @@ impl Setting {
 
 pub fn next(stdin: &mut impl Read) -> Result<Setting, UnknownNumber> {
     let kind = cases::next_kind(stdin);
-    let n = cases::next::<usize>(stdin);
+    let n = cases::next::<usize, _>(stdin);
     let precision = cases::next_precision(stdin);
-    let way = Way::try_from(cases::next::<u8>(stdin))?;
-    let qp_prime = QpPrime(cases::next::<i32>(stdin));
-    let dc = cases::next::<u8>(stdin);
+    let way = Way::try_from(cases::next::<u8, _>(stdin))?;
+    let qp_prime = QpPrime(cases::next::<i32, _>(stdin));
+    let dc = cases::next::<u8, _>(stdin);
     let count = cases::next_length(stdin, 64);
     let mut entries = [0u8; 64];
     cases::read_first(stdin, count, &mut entries);

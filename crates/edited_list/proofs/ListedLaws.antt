@@ -1,7 +1,7 @@
 -- An opening and a list of edits: after an opening that answered 0 the run is the history's, and after a refused one nothing was done.
 --   ran_is_history     the run as the history gives it, in one equation
 --   opens_held, opens_held-refused   an opening on coefficients as one of either way
---   lists_after, lists-refused       an opening and the edits after it, or a refused one, are what the call is to hand back
+--   lists_after, lists-refused, lists_given   an opening and the edits after it, or a refused one, are what the call is to hand back
 use Rattle.std.specs.Prelude.{Result, Ok, Err}
 use mathlib.Core.Path.{◌≡◌, refl, sym, ap, ap₂, subst, ◌∙◌}
 use mathlib.Core.Bool.{Bool, true, false, ◌||◌, cond}
@@ -14,7 +14,7 @@ use lib.IntN.{ℤ}
 use lib.ListN.{length, take, drop, take-append-drop}
 use Rattle.refusal.specs.declared.Refusal.TheVariants.{SizeInvalid, DepthInvalid, DstSizeInvalid, ListLengthInvalid, InputTooShort, OutputTooShort}
 use Rattle.refusal.specs.Refusal.{number}
-use Rattle.refusal.specs.Outcome.{Outcome, accepted, refused}
+use Rattle.refusal.specs.Outcome.{Outcome, accepted}
 use Rattle.refusal.specs.Condition.{size_refused, depth_refused, list_refused, block_refused}
 use Rattle.refusal.proofs.RefusalLaws.{number_least}
 use Rattle.refusal.proofs.LadderLaws.{first_both}
@@ -32,7 +32,7 @@ use Rattle.edited_history.specs.History.{Edit}
 use Rattle.edited_history.specs.Run.{uncounted, Ran, held_opened, ran_from, ran}
 use Rattle.edited_history.proofs.HistoryLaws.{edits_follow_history}
 use Rattle.edited_steps.specs.declared.Listed.{Listed}
-use Rattle.edited_steps.specs.Steps.{Slices, put, RunsAfter}
+use Rattle.edited_steps.specs.Steps.{Slices, put, RunsAfter, RunsGiven}
 use Rattle.edited_list.specs.Listed.{history_ran, listed, listed_as, Lists}
 
 -- a list by its first k elements and the others
@@ -127,7 +127,7 @@ module _ (o : Opening) (levels : List ℤ) (lent : Buffers) (es : List Edit) whe
   unfolding listed
   listed_done e = rw e
 
-  pub lists_after : (s : Slices) (r : Listed) (opened : LevelsOpened) (d₀ g₀ e₀ ls d g e : List ℤ) (told : Slices)
+  lists_after : (s : Slices) (r : Listed) (opened : LevelsOpened) (d₀ g₀ e₀ ls d g e : List ℤ) (told : Slices)
       → LevelOpens (held_opened o levels lent) (Ok opened) d₀ g₀ e₀ → RunsAfter opened levels (buffers d₀ g₀ e₀) es s r ls d g e told
       → Lists o levels lent es s (Ok r) ls (buffers d g e) told
   lists_after s r opened d₀ g₀ e₀ ls d g e told h w =
@@ -160,3 +160,12 @@ module _ (o : Opening) (levels : List ℤ) (lent : Buffers) (es : List Edit) whe
     where
       written : buffers d g e ≡ (held_opened o levels lent).buffers
       written k = record { coeff = h.coeff k; inter = h.inter k; res = h.res k }
+
+  pub lists_given : (s : Slices) (given : Result LevelsOpened Refusal) (r : Result Listed Refusal) (d₀ g₀ e₀ ls d g e : List ℤ) (told : Slices)
+      → LevelOpens (held_opened o levels lent) given d₀ g₀ e₀ → RunsGiven given levels (buffers d₀ g₀ e₀) es s r ls (buffers d g e) told
+      → Lists o levels lent es s r ls (buffers d g e) told
+  unfolding RunsGiven
+  lists_given s (Ok opened) (Ok r) d₀ g₀ e₀ ls d g e told h w = lists_after s r opened d₀ g₀ e₀ ls d g e told h w
+  lists_given s (Ok opened) (Err why) d₀ g₀ e₀ ls d g e told h w = absurd w
+  lists_given s (Err why) (Ok r) d₀ g₀ e₀ ls d g e told h w = absurd w
+  lists_given s (Err why) (Err r) d₀ g₀ e₀ ls d g e told h w = rw (w.0, w.1, w.2, w.3) (lists-refused s why d₀ g₀ e₀ h)

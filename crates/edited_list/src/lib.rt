@@ -42,15 +42,27 @@ pub fn open_and_edit(
 ) -> Result<Listed, Refusal>
     ensures { Lists (on_coefficients kind n precision.bit_depth precision.extended) levels.old (buffers coeff.old inter.old residual.old) (edits_of (edit_count (length rows.now) (length columns.now) (length values.now) (length ways.now) (slices numbers.old named.old across.old limits.old)) rows.now columns.now values.now ways.now) (slices numbers.old named.old across.old limits.old) result levels.new (buffers coeff.new inter.new residual.new) (slices numbers.new named.new across.new limits.new) }
 {
+    // Kept: by `?` and Ok: a map would take a closure with its clause for one field.
     let opening = edited_block::open_block(kind, n, precision, coeff, inter, residual);
     let opened = LevelsOpened {
         limited: 0,
         block: opening?,
     };
-    Ok(edited_steps::edit_after(
-        opened, levels, coeff, inter, residual, rows, columns, values, ways, numbers, named,
-        across, limits,
-    ))
+    edited_steps::edit_after(
+        Ok(opened),
+        levels,
+        coeff,
+        inter,
+        residual,
+        rows,
+        columns,
+        values,
+        ways,
+        numbers,
+        named,
+        across,
+        limits,
+    )
 }
 
 // The same of a block that is opened on levels.
@@ -77,9 +89,9 @@ pub fn open_levels_and_edit(
 {
     let opened = level_block::open_levels(
         kind, n, precision, qp_prime, list, levels, coeff, inter, residual,
-    )?;
-    Ok(edited_steps::edit_after(
+    );
+    edited_steps::edit_after(
         opened, levels, coeff, inter, residual, rows, columns, values, ways, numbers, named,
         across, limits,
-    ))
+    )
 }

@@ -1,12 +1,11 @@
 -- The loop over a list of edits: what is left of the run, from the record and the buffers at the loop's head, ends as the whole run does.
---   Going      its invariant; going_begins, -on and -ends are its needs
+--   Going      its invariant; going_on and -ends are its needs
 use Rattle.std.specs.Prelude.{Result}
-use mathlib.Core.Path.{◌≡◌, refl, sym, ap, ap₂, ◌∙◌}
+use mathlib.Core.Path.{◌≡◌, sym, ap, ap₂, ◌∙◌}
 use mathlib.Core.Bool.{Bool}
 use mathlib.Core.List.{List, [], ◌∷◌}
 use Prim.Native.Nat.{ℕ, suc, ◌+◌, ◌≤◌, ◌<◌}
 use native.Mathlib.Numerals.{add-one}
-use native.Mathlib.Omega.{arith}
 use lib.IntN.{ℤ}
 use lib.ListN.{length, length-set, get_or, drop, drop_of_length-le}
 use lib.Seq.{drop-cons}
@@ -35,24 +34,6 @@ pub record Going (b₀ : EditedBlock) (ls₀ : List ℤ) (lent : Buffers) (es : 
   pub levels_are : (ran_from b ls (buffers d g e) (drop i es)).levels ≡ (ran_from b₀ ls₀ lent es).levels
   pub buffers_are : (ran_from b ls (buffers d g e) (drop i es)).buffers ≡ (ran_from b₀ ls₀ lent es).buffers
   pub told_are : put s i (ran_from b ls (buffers d g e) (drop i es)).answers ≡ put s₀ 0 (ran_from b₀ ls₀ lent es).answers
-
-pub going_begins : (b : EditedBlock) (ls : List ℤ) (lent : Buffers) (es : List Edit) (s : Slices) → Going b ls lent es s ls lent.coeff lent.inter lent.res s b 0
-going_begins b ls lent es s =
-    record {
-      within = omega arith;
-      levels_long = refl;
-      coeff_long = refl;
-      inter_long = refl;
-      res_long = refl;
-      numbers_long = refl;
-      named_long = refl;
-      across_long = refl;
-      limits_long = refl;
-      block_is = refl;
-      levels_are = refl;
-      buffers_are = refl;
-      told_are = refl;
-    }
 
 -- the first edit of what is left
 ran_from-drop : (b : EditedBlock) (ls : List ℤ) (now : Buffers) (es : List Edit) (i : ℕ) (e : Edit) → i < length es → get_or es i e ≡ e

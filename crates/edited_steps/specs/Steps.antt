@@ -5,10 +5,12 @@
 --   edit_count               as many edits as every slice has
 --   edits_of k rows columns values ways   k edits; the i-th has the i-th row, column and value, and is of a level where the i-th way says so
 --   ListNeeds, RunsFrom       what the loop over the edits relies on, and what it leaves
---   RunsAfter               the same of the edits after an opening
-use Rattle.std.specs.Prelude.{◌≡◌, Bool, false, cond, List, map, ℕ, ◌≤◌, min, ℤ, pos, length, get_or, set}
+--   RunsAfter               the same of the edits after an opening that was accepted
+--   RunsGiven               the same after any opening: a refused one hands its refusal on, and leaves all as lent
+use Rattle.std.specs.Prelude.{◌≡◌, Bool, false, cond, List, map, Result, Ok, Err, ℕ, ◌≤◌, min, ℤ, pos, length, get_or, set}
 use Rattle.std.proofs.lemmas.List.Edits.{sets}
 use Rattle.integers.specs.Lists.{tabulate}
+use Rattle.refusal.specs.declared.Refusal.{Refusal}
 use Rattle.refusal.specs.Outcome.{Outcome}
 use Rattle.block_rules.specs.declared.EditedBlock.{EditedBlock}
 use Rattle.block_rules.specs.declared.Limits.{Limits}
@@ -83,3 +85,9 @@ pub record RunsAfter (opened : LevelsOpened) (levels : List ℤ) (lent : Buffers
   pub limited : r.opened.limited ≡ opened.limited
   pub edits : r.edits ≡ length (ran_from opened.block levels lent es).answers
   pub runs : RunsFrom (ran_from opened.block levels lent es) s r.opened.block ls d g e told
+
+unfoldable pub RunsGiven : Result LevelsOpened Refusal → List ℤ → Buffers → List Edit → Slices → Result Listed Refusal → List ℤ → Buffers → Slices → Type 0
+RunsGiven (Ok opened) levels lent es s (Ok r) ls after told = RunsAfter opened levels lent es s r ls after.coeff after.inter after.res told
+RunsGiven (Ok opened) levels lent es s (Err why) ls after told = ⊥
+RunsGiven (Err why) levels lent es s (Ok r) ls after told = ⊥
+RunsGiven (Err why) levels lent es s (Err r) ls after told = (r ≡ why) × (ls ≡ levels) × (after ≡ lent) × (told ≡ s)

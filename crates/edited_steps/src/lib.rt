@@ -6,7 +6,7 @@ ghost use Rattle.refusal.specs.Outcome.{outcome};
 ghost use Rattle.block_rules.specs.Edit.{buffers};
 ghost use Rattle.edited_history.specs.Run.{held_edited, ran_from};
 ghost use Rattle.block_rules.specs.Level.{no_limits, LevelEdits};
-ghost use Rattle.edited_steps.specs.Steps.{slices, limits_number, put_one, edit_count, edit_of, edits_of, ListNeeds, RunsFrom, RunsAfter};
+ghost use Rattle.edited_steps.specs.Steps.{slices, limits_number, put_one, edit_count, edit_of, edits_of, ListNeeds, RunsFrom, RunsAfter, RunsGiven};
 
 use block_rules::{EditedBlock, LevelsOpened, Limits};
 use refusal::Refusal;
@@ -40,22 +40,24 @@ struct Parts {
     limits: u8,
 }
 
-fn parts_of(given: Result<Limits, Refusal>) -> Parts
-    ensures { let o = outcome no_limits given in (result.number ≡ o.number) × (result.row ≡ o.row) × (result.column ≡ o.column) × (result.limits ≡ limits_number o.value) }
-{
-    match given {
-        Ok(done) => Parts {
-            number: 0,
-            row: 0,
-            column: 0,
-            limits: limits_number(done),
-        },
-        Err(why) => Parts {
-            number: why.number(),
-            row: why.row(),
-            column: why.column(),
-            limits: 0,
-        },
+impl From<Result<Limits, Refusal>> for Parts {
+    ghost from_gives = { λ given parts. let o = outcome no_limits given in (parts.number ≡ o.number) × (parts.row ≡ o.row) × (parts.column ≡ o.column) × (parts.limits ≡ limits_number o.value) };
+
+    fn from(given: Result<Limits, Refusal>) -> Parts {
+        match given {
+            Ok(done) => Parts {
+                number: 0,
+                row: 0,
+                column: 0,
+                limits: limits_number(done),
+            },
+            Err(why) => Parts {
+                number: why.number(),
+                row: why.row(),
+                column: why.column(),
+                limits: 0,
+            },
+        }
     }
 }
 
@@ -72,7 +74,7 @@ fn put_answer(
     requires { (i < length numbers.old) × (i < length named.old) × (i < length across.old) × (i < length limits.old) }
     ensures { (slices numbers.new named.new across.new limits.new) ≡ put_one (slices numbers.old named.old across.old limits.old) i (outcome no_limits given) }
 {
-    let parts = parts_of(given);
+    let parts = Parts::from(given);
     numbers[i] = parts.number;
     named[i] = parts.row;
     across[i] = parts.column;
@@ -101,6 +103,7 @@ fn edit_count(
 }
 
 // One edit, of a level or of a coefficient.
+// Kept: a flag, as C lends one for each edit (ways).
 // Kept: the buffers apart, here and below: a struct of lent slices would have to promise for each slice that it stays the same one (its ghost_name).
 fn edit_one(
     block: &mut EditedBlock,
@@ -153,8 +156,8 @@ fn edit_each(
     }
 }
 
-// The edits after an opening.
-pub fn edit_after(
+// The edits after an opening that was accepted.
+fn edits_made(
     opened: LevelsOpened,
     levels: &mut [i32],
     coeff: &mut [i32],
@@ -190,4 +193,29 @@ pub fn edit_after(
         opened: LevelsOpened { block, ..opened },
         edits,
     }
+}
+
+// The edits after an opening; after a refused one there is none.
+pub fn edit_after(
+    given: Result<LevelsOpened, Refusal>,
+    levels: &mut [i32],
+    coeff: &mut [i32],
+    inter: &mut [i32],
+    residual: &mut [i32],
+    rows: &[usize],
+    columns: &[usize],
+    values: &[i32],
+    ways: &[bool],
+    numbers: &mut [u8],
+    named: &mut [u8],
+    across: &mut [u8],
+    limits: &mut [u8],
+) -> Result<Listed, Refusal>
+    ensures { RunsGiven given levels.old (buffers coeff.old inter.old residual.old) (edits_of (edit_count (length rows.now) (length columns.now) (length values.now) (length ways.now) (slices numbers.old named.old across.old limits.old)) rows.now columns.now values.now ways.now) (slices numbers.old named.old across.old limits.old) result levels.new (buffers coeff.new inter.new residual.new) (slices numbers.new named.new across.new limits.new) }
+{
+    let opened = given?;
+    Ok(edits_made(
+        opened, levels, coeff, inter, residual, rows, columns, values, ways, numbers, named,
+        across, limits,
+    ))
 }

@@ -1,6 +1,5 @@
 -- What the entry points of the feed hand back.
 --   step_answer r               what an answer of `step` stands for
---   state_after s r, end_after at r   the state after it, and where its text ends; a refused one leaves both
 --   Steps s r w l m t           a call of `step` on the state s handed back t: w are the four buffers after it, l is its text's buffer before, m after
 --   Runs r l m bytes            a call of `run` on a feed, likewise
 use Rattle.std.specs.Prelude.{◌≡◌, List, ℕ, ◌≤◌, ◌<◌, length, Option, Some, None, Result, Ok, Err}
@@ -10,7 +9,7 @@ use Rattle.feed_format.specs.Room.{feed_room}
 use Rattle.feed_rules.specs.Feed.{feed_text}
 use Rattle.feed_state.specs.declared.State.{State}
 use Rattle.feed_state.specs.Buffers.{Lent}
-use Rattle.feed_state.specs.Taken.{state_of, capped}
+use Rattle.feed_state.specs.Taken.{state_of, capped, state_after, end_after}
 use Rattle.feed_history.specs.Stepping.{Room, Stepping}
 use Rattle.feed_history.specs.Stepping.Room.{too_little, enough}
 use Rattle.feed.specs.declared.StepError.{StepError}
@@ -21,14 +20,6 @@ abbrev pub step_answer : Result Taken StepError → Room (Outcome (Unit {0}))
 step_answer (Ok t) = enough (accepted tt)
 step_answer (Err (Refused e)) = enough (refused tt e)
 step_answer (Err NoRoom) = too_little
-
-abbrev pub state_after : State → Result Taken StepError → State
-state_after s (Ok t) = t.state
-state_after s (Err error) = s
-
-abbrev pub end_after : ℕ → Result Taken StepError → ℕ
-end_after at (Ok t) = t.end
-end_after at (Err error) = at
 
 pub record Steps (s : State) (r : Result Taken StepError) (w : Lent) (l m : List ℕ) (t : Stepping) : Type 0 where
   pub answered : step_answer r ≡ t.answer

@@ -22,7 +22,7 @@ fn too_short(levels: usize, coeff: usize, inter: usize, residual: usize) -> bool
 // `record_room` says; the buffers of the open block have 1,024 elements or more, and are those that the call before left. Else
 // `NoRoom` is answered before anything else, and the buffers are as given. A refused record too leaves all as given, so the offset of
 // the state that was given is that of its kind.
-// Kept: the four buffers apart, here and in the crates below: a struct of lent slices would have to promise for each that it stays the same one (its ghost_name), and a struct of four arrays would change what callers outside hand to `step`.
+// Kept: the four buffers apart, here and in the crates below: a struct of lent slices would have to promise for each that it stays the same one (its ghost_name), and a struct of four arrays would change what callers outside hand to `step`. Kind and body too: callers outside hand them so.
 pub fn step(
     state: State,
     kind: u8,

@@ -7,14 +7,14 @@ ghost use Rattle.feed_format.specs.Format.{levels_of};
 ghost use Rattle.feed_rules.specs.Block.{list_for, residual_at, block_limited, list_in};
 ghost use Rattle.feed_block.specs.Work.{Accepted, Leaves, OpensBlock};
 
-use feed_format::{Mode, Parameters};
+use feed_format::{LevelBytes, Mode, Parameters};
 use feed_state::{State, list_for, scaling_list};
 use level_block::LevelsOpened;
 use parameters::QpPrime;
 use scaling_blocks::blocks;
 
 // The residual of a block by transform skip, and how many coefficients were limited.
-// Kept: state, parameters and size apart, here and below: the size comes from the record's kind, which says it before the parameters are known to fit it, and the laws take each by itself.
+// Kept: state, parameters and size apart, and below state, parameters and body: the size comes from the record's kind, which says it before the parameters are known to fit it, and the laws take each by itself.
 fn skip(s: State, p: Parameters, n: usize, levels: &[i32], out: &mut [i32]) -> u16
     requires accepted { Accepted p n }
     requires n_in_bounds { n * n ≤ length levels.now }
@@ -27,16 +27,15 @@ fn skip(s: State, p: Parameters, n: usize, levels: &[i32], out: &mut [i32]) -> u
 }
 
 // The residual of a body's levels by transform skip, and how many coefficients were limited.
-pub fn skip_body(s: State, p: Parameters, n: usize, body: &[u8], out: &mut [i32]) -> u16
-    requires accepted { Accepted p n × (p.mode ≡ Mode.Skip) }
-    requires n_in_bounds { 4 * (n * n) ≤ length body.now }
-    requires n_in_bounds_2 { n * n ≤ length out.old }
-    ensures { Leaves (block_limited (list_in s.list) p n (levels_of n body.now)) (residual_at (list_in s.list) p n (levels_of n body.now)) (n * n) out.old out.new result }
+pub fn skip_body(s: State, p: Parameters, body: LevelBytes, out: &mut [i32]) -> u16
+    requires accepted { Accepted p body.size × (p.mode ≡ Mode.Skip) }
+    requires n_in_bounds { body.size * body.size ≤ length out.old }
+    ensures { let n = body.entry.size in Leaves (block_limited (list_in s.list) p n (levels_of n body.entry.bytes.now)) (residual_at (list_in s.list) p n (levels_of n body.entry.bytes.now)) (n * n) out.old out.new result }
 {
+    let n = body.size;
     let mut levels = [0i32; 1024];
-    let count = n * n;
-    feed_format::read_levels(body, count, &mut levels);
-    skip(s, p, n, &levels[..count], out)
+    body.read(&mut levels);
+    skip(s, p, n, &levels[..n * n], out)
 }
 
 // Opens a block on a body's levels, with the list in force: its levels and all that follows from them go to the lent buffers.
@@ -45,25 +44,22 @@ pub fn open_body(
     s: State,
     p: Parameters,
     kind: transform_1d::Kind,
-    n: usize,
-    body: &[u8],
+    body: LevelBytes,
     levels: &mut [i32],
     coeff: &mut [i32],
     inter: &mut [i32],
     residual: &mut [i32],
 ) -> LevelsOpened
-    requires accepted { Accepted p n × (p.mode ≡ Mode.Transform kind) }
-    requires n_in_bounds { 4 * (n * n) ≤ length body.now }
-    requires n_in_bounds_2 { (n * n ≤ length levels.old) × (n * n ≤ length coeff.old) × (n * n ≤ length inter.old) × (n * n ≤ length residual.old) }
-    ensures { OpensBlock (list_in s.list) p kind n body.now levels.old (buffers coeff.old inter.old residual.old) result levels.new coeff.new inter.new residual.new }
+    requires accepted { Accepted p body.size × (p.mode ≡ Mode.Transform kind) }
+    requires n_in_bounds { let n = body.size in (n * n ≤ length levels.old) × (n * n ≤ length coeff.old) × (n * n ≤ length inter.old) × (n * n ≤ length residual.old) }
+    ensures { OpensBlock (list_in s.list) p kind body.entry.size body.entry.bytes.now levels.old (buffers coeff.old inter.old residual.old) result levels.new coeff.new inter.new residual.new }
 {
-    let count = n * n;
-    feed_format::read_levels(body, count, levels);
+    body.read(levels);
     let qp_prime = QpPrime(i32::from(p.qp_prime));
     let list = scaling_list(&s.list);
     level_block::open_levels(
         kind,
-        n,
+        body.size,
         p.precision,
         qp_prime,
         list,

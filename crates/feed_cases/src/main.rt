@@ -2,23 +2,12 @@
 // case is written as a line with its number in the file and the text of its feed, by `feed::run`.
 #![tactic(auto)]
 
-ghost use Rattle.std.specs.Prelude.{◌≤◌, length};
-ghost use Rattle.text.specs.Text.{Counts};
-
 use std::io::Read;
 use std::rt::Files;
 use std::{env, fs, io};
 
 // The longest feed that is replayed.
 const LONGEST: usize = 8192;
-
-// Reads n bytes to the start of the buffer, or fewer where the file ends or a read fails.
-fn read_feed(file: &mut impl Read, n: usize, feed: &mut [u8]) -> usize
-    requires { n ≤ length feed.old }
-    ensures { Counts result feed.new }
-{
-    streams::read_full(file, &mut feed[..n])
-}
 
 fn title(rt: &impl Print, number: u64) {
     streams::write_all(rt, b"case ");
@@ -38,7 +27,8 @@ fn replay(rt: &impl Print, file: &mut impl Read, number: u64) -> bool {
     if LONGEST < n {
         return false;
     }
-    let there = read_feed(file, n, &mut feed);
+    let feed = &mut feed[..n];
+    let there = streams::read_full(file, feed);
     title(rt, number);
     match feed::run(&feed[..there], &mut out) {
         Some(end) => streams::write_all(rt, &out[..end]),
@@ -47,6 +37,7 @@ fn replay(rt: &impl Print, file: &mut impl Read, number: u64) -> bool {
 }
 
 // All cases of a file.
+// Kept: beside `cases::replay_all`, which hands on no number: here the `for` counts the cases.
 fn replay_all(rt: &impl Print, file: &mut impl Read) {
     for number in 0..u64::MAX {
         if !replay(rt, file, number) {

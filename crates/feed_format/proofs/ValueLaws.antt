@@ -1,17 +1,18 @@
 -- Laws of the values in a body.
 --   machine_is              a level from its 32 bits
---   level-at                a level from its four bytes
+--   level_in_chunk          a level from the chunk of its four bytes
 --   edit-level              the level of an edit from its four bytes
 use mathlib.Core.Path.{◌≡◌, refl, sym, ◌∙◌, ap}
 use mathlib.Core.Bool.{Bool, true, false}
 use mathlib.Core.List.{List}
-use Prim.Native.Nat.{ℕ, suc, ◌+◌, ◌-◌, ◌*◌, ◌≤◌, ◌<◌}
+use Prim.Native.Nat.{ℕ, zero, suc, ◌+◌, ◌-◌, ◌*◌, ◌≤◌, ◌<◌}
 use native.Mathlib.Omega.{arith}
 use borrow.Author.Tests.{lt-ltb, le-ltb, ltb-true, ltb-false}
 use lib.Dec.{ltb}
 use lib.IntN.{negsuc}
-use lib.ListN.{get_or, drop}
-use lib.Seq.{get_or-drop}
+use lib.ListN.{get_or, take, drop}
+use lib.Seq.{get_or-drop, get_or-take, drop-drop}
+use Rattle.std.specs.Simd.{first_chunks}
 use mir.Syntax.{w32}
 use mir.Val.{to_z}
 use mir.Facts.{to_z-neg}
@@ -38,11 +39,21 @@ machine_is u k = by_test (ltb u 2147483648) refl
     by_test true e = level_low u (ltb-true u 2147483648 e)
     by_test false e = level_high u (ltb-false u 2147483648 e) k
 
-pub level-at : (body : List ℕ) (at i : ℕ) → at ≡ 4 * i
-    → signed32 (get_or body at 0 + 256 * (get_or body (at + 1) 0 + 256 * (get_or body (at + 2) 0 + 256 * get_or body (at + 3) 0))) ≡ level_at body i
+chunk_at : (k : ℕ) (xs : List ℕ) (i : ℕ) (d : List ℕ) → i < k → get_or (first_chunks 4 k xs) i d ≡ take 4 (drop (4 * i) xs)
+chunk_at zero xs i d h = absurd (omega (arith, h))
+chunk_at (suc k) xs zero d h = refl
+chunk_at (suc k) xs (suc i) d h =
+    let e : 4 + 4 * i ≡ 4 * suc i = omega arith in
+    chunk_at k (drop 4 xs) i d (omega (arith, h)) ∙ ap (take 4) (drop-drop (4 * i) 4 xs ∙ ap (λ (j : ℕ). drop j xs) e)
+
+chunk_byte : (body : List ℕ) (i j : ℕ) → j < 4 → get_or (take 4 (drop (4 * i) body)) j 0 ≡ get_or body (4 * i + j) 0
+chunk_byte body i j h = get_or-take 4 (drop (4 * i) body) j 0 h ∙ get_or-drop (4 * i) body j 0
+
+pub level_in_chunk : (k : ℕ) (body : List ℕ) (i : ℕ) (d : List ℕ) → i < k → level_at (get_or (first_chunks 4 k body) i d) 0 ≡ level_at body i
 unfolding level_at
-level-at body at i e = rw (e, let z : 4 * i + 0 ≡ 4 * i = omega arith in z) refl
+level_in_chunk k body i d h =
+    rw (chunk_at k body i d h, chunk_byte body i 0 (omega arith), chunk_byte body i 1 (omega arith), chunk_byte body i 2 (omega arith), chunk_byte body i 3 (omega arith)) refl
 
 pub edit-level : (body : List ℕ) → signed32 (get_or body 2 0 + 256 * (get_or body 3 0 + 256 * (get_or body 4 0 + 256 * get_or body 5 0))) ≡ edit_level body
-unfolding edit_level
-edit-level body = rw (← get_or-drop 2 body 0 0, ← get_or-drop 2 body 1 0, ← get_or-drop 2 body 2 0, ← get_or-drop 2 body 3 0) (level-at (drop 2 body) 0 0 refl)
+unfolding edit_level level_at
+edit-level body = rw (← get_or-drop 2 body 0 0, ← get_or-drop 2 body 1 0, ← get_or-drop 2 body 2 0, ← get_or-drop 2 body 3 0) refl

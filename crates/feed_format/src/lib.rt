@@ -11,8 +11,9 @@ pub use format::{
 };
 use refusal::Precision;
 pub use room::feed_room;
-pub use values::{edit_level, list_of, read_levels};
+pub use values::{LevelBytes, edit_level, list_of, read_levels};
 
+// Kept: that the size in `Levels` is one of four is a clause (`size_known`), as in `refusal`: an enum has no ghost field.
 #[derive(Clone, Copy)]
 pub enum Kind {
     Parameters,

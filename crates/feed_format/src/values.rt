@@ -1,14 +1,16 @@
 // The values of a body.
-ghost use Rattle.std.specs.Prelude.{◌≡◌, ◌+◌, ◌*◌, ◌≤◌, ◌<◌, length};
+ghost use Rattle.std.specs.Prelude.{◌≡◌, ◌*◌, ◌≤◌, ◌<◌, T, length};
+ghost use Rattle.h265.specs.Range.{is_size};
 ghost use Rattle.integers.specs.Lists.{overwrite};
-ghost use Rattle.feed_format.specs.Format.{signed32, level_at, edit_level, list_of};
+ghost use Rattle.feed_format.specs.Format.{level_at, edit_level, list_of};
 
 use crate::List;
 
-fn level(a: u8, b: u8, c: u8, d: u8) -> i32
-    ensures { result ≡ signed32 (a + 256 * (b + 256 * (c + 256 * d))) }
+// The level that four bytes hold.
+fn level(bytes: [u8; 4]) -> i32
+    ensures { result ≡ level_at bytes 0 }
 {
-    i32::from_le_bytes([a, b, c, d])
+    u32::from_le_bytes(bytes).cast_signed()
 }
 
 // The first `count` levels of a body.
@@ -18,9 +20,28 @@ pub fn read_levels(body: &[u8], count: usize, levels: &mut [i32])
     requires count_in_bounds_2 { count ≤ length levels.old }
     ensures { levels.new ≡ overwrite count (level_at body.now) levels.old }
 {
-    for i in 0..count {
-        let at = 4 * i;
-        levels[i] = level(body[at], body[at + 1], body[at + 2], body[at + 3]);
+    let (chunks, _) = body.as_chunks();
+    for (i, bytes) in chunks[..count].iter().enumerate() {
+        levels[i] = level(*bytes);
+    }
+}
+
+// The levels of a block: its size, and bytes that hold as many levels as a block of that size has.
+#[derive(Clone, Copy)]
+pub struct LevelBytes<'a> {
+    pub size: usize,
+    pub bytes: &'a [u8],
+    ghost known: { T (is_size size) },
+    ghost whole: { 4 * (size * size) ≤ length bytes.now },
+}
+
+impl LevelBytes<'_> {
+    // The levels, at the start of a buffer.
+    pub fn read(self, levels: &mut [i32])
+        requires { self.size * self.size ≤ length levels.old }
+        ensures { levels.new ≡ overwrite (self.entry.size * self.entry.size) (level_at self.entry.bytes.now) levels.old }
+    {
+        read_levels(self.bytes, self.size * self.size, levels);
     }
 }
 
@@ -29,7 +50,7 @@ pub fn edit_level(body: &[u8]) -> i32
     requires { 6 ≤ length body.now }
     ensures { result ≡ edit_level body.now }
 {
-    level(body[2], body[3], body[4], body[5])
+    level([body[2], body[3], body[4], body[5]])
 }
 
 // A list: 64 entries, then DC.

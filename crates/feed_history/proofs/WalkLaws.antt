@@ -6,6 +6,7 @@
 --   going_room                     there is room for the next record, and for a line behind it
 --   effect_at w input s             what the record at the state's offset does
 --   Turn, turn_of                  what was made of one record, of which the body is handed over, as much of it as there is
+--   turn_room                      the buffer behind it has room for a line
 --   Passed, passed                 a record that is accepted, and where the next one stands
 --   going_refused, going_more      after a record that is refused, and after one that is not
 --   going_done                     after the last record
@@ -139,6 +140,11 @@ pub turn_of : {s' : State} {b' : Lent} {out out' : List ℕ} {end end' : ℕ} (w
     → Turn w Answered input s b s' b' out end out' end'
 turn_of w Answered input s b kind body f h ek eb a m t k =
     record { fits = f; inside = h; answered = rw (ek, eb) at a; state = rw (ek, eb) at m; text = rw (ek, eb) at t; buffers = k }
+
+-- the buffer behind a record has room for a line
+pub turn_room : {w : Walk} {Answered : Outcome (Effect Buffered) → Type 0} {v b b' : Lent} {input l out out' : List ℕ} {s s' : State} {end end' : ℕ}
+    → Going w v input l out s b end → Turn w Answered input s b s' b' out end out' end' → length out' ≡ length out → end' + 40 ≤ length out'
+turn_room g t same = omega (arith, t.text.bound, going_room g t.inside, g.left.long, same)
 
 -- ---- the turns of the loop
 module _ {w : Walk} {Answered : Outcome (Effect Buffered) → Type 0} {v b b' : Lent} {input l out out' : List ℕ} {s s' : State} {end end' : ℕ}

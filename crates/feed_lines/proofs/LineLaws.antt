@@ -1,5 +1,4 @@
 -- Laws of the lines that are not rows.
---   lines_wrote          what a line holds
 --   line_is, line_fits   a line's text, which has 40 bytes at most
 use mathlib.Core.Path.{◌≡◌}
 use mathlib.Core.List.{List}
@@ -8,18 +7,14 @@ use native.Mathlib.Omega.{arith}
 use lib.ListN.{length, take, drop}
 use lib.Seq.{take-append_seam, sets-eq}
 use Rattle.integers.specs.Lists.{tabulate, tabulate_from}
-use Rattle.text.specs.Text.{Wrote, WroteUpTo}
-use Rattle.text.proofs.WroteLaws.{wrote-length, counts}
+use Rattle.text.specs.Text.{Wrote}
+use Rattle.text.proofs.WroteLaws.{wrote-length}
 use Rattle.feed_lines.specs.declared.Line.{Line}
-use Rattle.feed_lines.specs.Lines.{blank_line, Lines}
-
-pub lines_wrote : {t : List ℕ} (r : Line) → WroteUpTo blank_line 0 t r.bytes r.end 40 → Lines r t
-unfolding tabulate tabulate_from
-lines_wrote r w = record { wrote = w.wrote; counts = counts r.end r.bytes (rw (wrote-length w.wrote) w.bound) }
+use Rattle.feed_lines.specs.Lines.{Lines}
 
 pub line_fits : {t : List ℕ} (r : Line) → Lines r t → length t ≤ 40
 unfolding tabulate tabulate_from
-line_fits r h = omega (arith, h.wrote.end, h.counts.0, wrote-length h.wrote)
+line_fits r h = omega (arith, h.end, r.counts.0, wrote-length h)
 
 first_is : (l t m : List ℕ) (j : ℕ) → Wrote l 0 t m j → j ≤ length m → take j m ≡ t
 first_is l t m j w h =
@@ -28,4 +23,4 @@ first_is l t m j w h =
     rw (w.is, w.end, sets-eq t l 0 long, none) (take-append_seam t (drop (length t) l))
 
 pub line_is : {t : List ℕ} (r : Line) → Lines r t → take r.end r.bytes ≡ t
-line_is {t} r h = first_is _ t r.bytes r.end h.wrote h.counts.0
+line_is {t} r h = first_is _ t r.bytes r.end h r.counts.0

@@ -7,7 +7,7 @@
 --   Lines r t                   a line holds the text t, over zeros
 use Rattle.std.specs.Prelude.{List, [], ◌∷◌, ◌++◌, ℕ}
 use Rattle.integers.specs.Lists.{tabulate}
-use Rattle.text.specs.Text.{space, line_end, unsigned_text, Wrote, Counts}
+use Rattle.text.specs.Text.{space, line_end, unsigned_text, Wrote}
 use Rattle.feed_lines.specs.declared.Line.{Line}
 
 -- ---- behind a block's rows
@@ -45,6 +45,5 @@ blocks_text n = blocks_word ++ (unsigned_text n ++ (line_end ∷ []))
 abbrev pub blank_line : List ℕ
 blank_line = tabulate 40 (λ i. 0)
 
-pub record Lines (r : Line) (t : List ℕ) : Type 0 where
-  pub wrote : Wrote blank_line 0 t r.bytes r.end
-  pub counts : Counts r.end r.bytes
+abbrev pub Lines : Line → List ℕ → Type 0
+Lines r t = Wrote blank_line 0 t r.bytes r.end

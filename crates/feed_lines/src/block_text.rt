@@ -9,6 +9,7 @@ use crate::line_text;
 use feed_format::Kind;
 
 // A block, and a line of a word and a number.
+// Kept: a buffer and the place where its text ends apart, here and below, as in `text`.
 fn put_counted(
     residual: &[i32],
     n: usize,

@@ -8,6 +8,7 @@ use crate::Line;
 use refusal::Refusal;
 
 // A number that ends a line.
+// Kept: a buffer and the place where its text ends apart, here and below, as in `text`.
 fn put_last(n: u64, out: &mut [u8], at: usize) -> usize
     requires { at + 21 ≤ length out.old }
     ensures { WroteUpTo out.old at (unsigned_text n ++ (line_end ∷ [])) out.new result (at + 21) }
@@ -45,7 +46,7 @@ pub fn put_blocks(blocks: u64, out: &mut [u8], at: usize) -> usize
     put_line(b"blocks ", blocks, out, at)
 }
 
-// The line of a refusal, with the byte offset of the refused record's kind, which the state after it holds.
+// The line of a refusal, with the byte offset of the refused record's kind, which the state before it holds.
 pub fn refusal_line(refusal: Refusal, offset: u64) -> Line
     ensures { Lines result (refused_text (number refusal) offset) }
 {

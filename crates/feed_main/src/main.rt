@@ -3,13 +3,14 @@
 #![tactic(auto)]
 
 use feed::State;
-use feed_program::{Buffers, after_step, after_write, next_record, read_failed, write_line};
+use feed_program::{Buffers, after_step, next_record, read_failed, write_last};
 use std::io::Read;
 
 // The name that it gives itself on standard error.
 const PROGRAM: &str = "feed_main";
 
 // One record: reads it, writes its text and answers the state after it, where more may come.
+// Kept: a turn of its own in each program: one for both would take the step as a closure, with a clause that its text ends inside the buffer (`after_step` asks it), and the last line.
 fn turn<R: Print + Eprint>(
     rt: &R,
     stdin: &mut impl Read,
@@ -22,8 +23,7 @@ fn turn<R: Print + Eprint>(
         return read_failed(rt, PROGRAM);
     };
     let Some((kind, body)) = record else {
-        let done = write_line(rt, feed::blocks_line(state.blocks));
-        return after_write(rt, PROGRAM, done, None);
+        return write_last(rt, PROGRAM, feed::blocks_line(state.blocks));
     };
     let Buffers {
         levels,
@@ -35,15 +35,8 @@ fn turn<R: Print + Eprint>(
     after_step(rt, PROGRAM, state.offset, answer, &out)
 }
 
-// Kept: the loop in both programs: one function for it would take `turn` as a closure, whose every call may ask something first, so that it would need a `requires` that each may be made, and an answer to it in each program.
 fn main(rt: HostRuntime) {
     let mut stdin = rt.stdin();
     let mut buffers = Buffers::new();
-    let mut state = feed::start();
-    for _ in 0..u64::MAX {
-        let Some(next) = turn(&rt, &mut stdin, state, &mut buffers) else {
-            return;
-        };
-        state = next;
-    }
+    feed_program::run(|state| turn(&rt, &mut stdin, state, &mut buffers));
 }

@@ -1,8 +1,7 @@
 // What the two programs that read a feed from standard input do around a record: `feed_main` and `scale_trace_main`. Internal.
 #![tactic(auto)]
 
-ghost use Rattle.std.specs.Prelude.{◌≤◌, length, IfOk};
-ghost use Rattle.text.specs.Text.{Counts};
+ghost use Rattle.std.specs.Prelude.{◌≡◌, ◌≤◌, length, IfOk, None};
 
 use feed::{Line, State, StepError, Taken};
 use std::io::Read;
@@ -28,31 +27,31 @@ impl Buffers {
 }
 
 // Says that a read failed; nothing more is read.
-pub fn read_failed(rt: &impl Eprint, program: &str) -> Option<State> {
+pub fn read_failed(rt: &impl Eprint, program: &str) -> Option<State>
+    ensures { result ≡ None }
+{
     let _ = eprintln!(rt; "{program}: a read of standard input failed, so this text is not whole");
     None
 }
 
-// What follows a write: nothing more where it failed.
-pub fn after_write(
-    rt: &impl Eprint,
-    program: &str,
-    done: bool,
-    next: Option<State>,
-) -> Option<State> {
-    if !done {
-        let _ = eprintln!(rt;
-            "{program}: a write to standard output failed, so this text is not whole"
-        );
-        return None;
-    }
-    next
+// Says that a write failed; nothing more is written.
+fn write_failed(rt: &impl Eprint, program: &str) -> Option<State>
+    ensures { result ≡ None }
+{
+    let _ = eprintln!(rt;
+        "{program}: a write to standard output failed, so this text is not whole"
+    );
+    None
 }
 
-pub fn write_line(rt: &impl Print, line: Line) -> bool
-    requires { Counts line.end line.bytes }
+// The last line; nothing more is read behind it.
+pub fn write_last<R: Print + Eprint>(rt: &R, program: &str, line: Line) -> Option<State>
+    ensures { result ≡ None }
 {
-    streams::write_all(rt, &line.bytes[..line.end])
+    if !streams::write_all(rt, &line.bytes[..line.end]) {
+        return write_failed(rt, program);
+    }
+    None
 }
 
 // Whether one more read says that the input has ended.
@@ -96,13 +95,25 @@ pub fn after_step<R: Print + Eprint>(
 {
     match answer {
         Ok(taken) => {
-            let done = streams::write_all(rt, &out[..taken.end]);
-            after_write(rt, program, done, Some(taken.state))
+            if !streams::write_all(rt, &out[..taken.end]) {
+                return write_failed(rt, program);
+            }
+            Some(taken.state)
         }
-        Err(StepError::Refused(why)) => {
-            let done = write_line(rt, feed::refusal_line(why, offset));
-            after_write(rt, program, done, None)
-        }
+        Err(StepError::Refused(why)) => write_last(rt, program, feed::refusal_line(why, offset)),
         Err(StepError::NoRoom) => None,
+    }
+}
+
+// The loop over the records of a feed, which ends where a turn answers no state.
+pub fn run<F: FnMut(State) -> Option<State>>(mut turn: F)
+    requires { F.IsAlwaysCallable turn }
+{
+    let mut state = feed::start();
+    for _ in 0..u64::MAX {
+        let Some(next) = turn(state) else {
+            break;
+        };
+        state = next;
     }
 }

@@ -1,5 +1,5 @@
 // The block that a feed holds open: opened by a levels record, edited, and read.
-ghost use Rattle.std.specs.Prelude.{◌≡◌, Some, Ok, ◌+◌, ◌*◌, ◌≤◌, length};
+ghost use Rattle.std.specs.Prelude.{◌≡◌, Some, Ok, ◌+◌, ◌≤◌, length};
 ghost use Rattle.feed_format.specs.Format.{text_room};
 ghost use Rattle.feed_rules.specs.Record.{levels_by, edit_effect};
 ghost use Rattle.feed_state.specs.Buffers.{lent, in_buffers};
@@ -7,18 +7,18 @@ ghost use Rattle.feed_state.specs.Taken.{state_of, Ample, Takes, Quiet};
 ghost use Rattle.feed_block.specs.Work.{Accepted};
 ghost use Rattle.feed_records.specs.Work.{Reads};
 
-use feed_format::{Kind, Mode, Parameters};
+use feed_format::{Kind, LevelBytes, Mode, Parameters};
 use feed_state::{State, Taken, with_open};
 use refusal::Refusal;
 
 // A block by a transform, which stays open.
 // Kept: the four buffers apart, here and below: a struct of lent slices would have to promise for each that it stays the same one (its ghost_name), and a struct of four arrays would be filled by a copy, since `feed::step` is lent slices.
+// Kept: a buffer and the place where its text ends apart, here and below, as in `text`.
 pub(crate) fn take_opened(
     s: State,
     p: Parameters,
     kind: transform_1d::Kind,
-    n: usize,
-    body: &[u8],
+    body: LevelBytes,
     levels: &mut [i32],
     coeff: &mut [i32],
     inter: &mut [i32],
@@ -26,16 +26,21 @@ pub(crate) fn take_opened(
     out: &mut [u8],
     at: usize,
 ) -> Taken
-    requires accepted { Accepted p n × (p.mode ≡ Mode.Transform kind) }
-    requires n_in_bounds { 4 * (n * n) ≤ length body.now }
+    requires accepted { Accepted p body.size × (p.mode ≡ Mode.Transform kind) }
     requires ample { Ample (lent levels.old coeff.old inter.old residual.old) }
-    requires n_in_bounds_2 { at + text_room (Kind.Levels n) ≤ length out.old }
-    ensures { Takes s (Ok result) (lent levels.new coeff.new inter.new residual.new) out.old at out.new (levels_by in_buffers (Some p) (state_of s (lent levels.old coeff.old inter.old residual.old)) n body.now) (text_room (Kind.Levels n)) }
+    requires n_in_bounds { at + text_room (Kind.Levels body.size) ≤ length out.old }
+    ensures { let n = body.entry.size in Takes s (Ok result) (lent levels.new coeff.new inter.new residual.new) out.old at out.new (levels_by in_buffers (Some p) (state_of s (lent levels.old coeff.old inter.old residual.old)) n body.entry.bytes.now) (text_room (Kind.Levels n)) }
 {
-    let opened = feed_block::open_body(s, p, kind, n, body, levels, coeff, inter, residual);
+    let n = body.size;
+    let opened = feed_block::open_body(s, p, kind, body, levels, coeff, inter, residual);
     let end = feed_lines::put_rows(residual, n, opened.limited, out, at);
     Taken {
-        state: with_open(s, opened.block, s.blocks.saturating_add(1), Kind::Levels(n)),
+        state: with_open(
+            s,
+            opened.block,
+            s.blocks.saturating_add(1),
+            Kind::Levels(n).body_length(),
+        ),
         end,
     }
 }
@@ -61,7 +66,7 @@ pub(crate) fn take_edit(
         &mut held, levels, coeff, inter, residual, row, column, level,
     )?;
     Ok(Taken {
-        state: with_open(s, held, s.blocks, Kind::Edit),
+        state: with_open(s, held, s.blocks, Kind::Edit.body_length()),
         end: at,
     })
 }
@@ -81,7 +86,7 @@ pub(crate) fn take_reading(
     refusal::check_size(held.size)?;
     let end = feed_lines::put_reading(residual, held.size, held.columns, out, at);
     Ok(Taken {
-        state: with_open(s, held, s.blocks, Kind::Reading),
+        state: with_open(s, held, s.blocks, Kind::Reading.body_length()),
         end,
     })
 }

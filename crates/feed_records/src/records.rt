@@ -1,6 +1,5 @@
 // What one record does: a function for each kind, below the question of room.
-ghost use Rattle.std.specs.Prelude.{◌≡◌, Ok, ◌+◌, ◌*◌, ◌≤◌, T, length};
-ghost use Rattle.h265.specs.Range.{is_size};
+ghost use Rattle.std.specs.Prelude.{◌≡◌, Ok, ◌+◌, ◌≤◌, length};
 ghost use Rattle.feed_format.specs.Format.{text_room, record_room};
 ghost use Rattle.feed_rules.specs.Record.{levels_effect, body_effect, record_effect};
 ghost use Rattle.feed_state.specs.Buffers.{lent, in_buffers};
@@ -9,20 +8,21 @@ ghost use Rattle.feed_block.specs.Work.{Accepted};
 ghost use Rattle.feed_records.specs.Work.{Whole, Skips};
 
 use crate::open_block;
-use feed_format::{Kind, Mode, Parameters};
+use feed_format::{Kind, LevelBytes, Mode, Parameters};
 use feed_state::{State, Taken, with_closed};
 use refusal::Refusal;
 
 // A block by transform skip.
-// Kept: state, parameters, size and body apart, here and below, and in `take_opened`: state, size and body come before the parameters are known to be there, and the laws take each by itself.
-fn take_skipped(s: State, p: Parameters, n: usize, body: &[u8], out: &mut [u8], at: usize) -> Taken
-    requires accepted { Accepted p n × (p.mode ≡ Mode.Skip) }
-    requires n_in_bounds { 4 * (n * n) ≤ length body.now }
-    requires n_in_bounds_2 { at + text_room (Kind.Levels n) ≤ length out.old }
-    ensures { Skips s p (Ok result) n body.now out.old at out.new }
+// Kept: state, parameters and body apart, here and in `take_opened`: state and body come before the parameters are known to be there, and the laws take each by itself.
+// Kept: a buffer and the place where its text ends apart, here and below, as in `text`.
+fn take_skipped(s: State, p: Parameters, body: LevelBytes, out: &mut [u8], at: usize) -> Taken
+    requires accepted { Accepted p body.size × (p.mode ≡ Mode.Skip) }
+    requires n_in_bounds { at + text_room (Kind.Levels body.size) ≤ length out.old }
+    ensures { Skips s p (Ok result) body.entry.size body.entry.bytes.now out.old at out.new }
 {
+    let n = body.size;
     let mut residual = [0i32; 1024];
-    let limited = feed_block::skip_body(s, p, n, body, &mut residual);
+    let limited = feed_block::skip_body(s, p, body, &mut residual);
     let end = feed_lines::put_rows(&residual, n, limited, out, at);
     Taken {
         state: with_closed(s, n),
@@ -34,8 +34,7 @@ fn take_skipped(s: State, p: Parameters, n: usize, body: &[u8], out: &mut [u8], 
 // Kept: the four buffers apart, here and below: a struct of lent slices would have to promise for each that it stays the same one (its ghost_name), and a struct of four arrays would be filled by a copy, since `feed::step` is lent slices.
 fn take_levels(
     s: State,
-    n: usize,
-    body: &[u8],
+    body: LevelBytes,
     levels: &mut [i32],
     coeff: &mut [i32],
     inter: &mut [i32],
@@ -43,20 +42,21 @@ fn take_levels(
     out: &mut [u8],
     at: usize,
 ) -> Result<Taken, Refusal>
-    requires t { T (is_size n) }
-    requires n_in_bounds { 4 * (n * n) ≤ length body.now }
     requires ample { Ample (lent levels.old coeff.old inter.old residual.old) }
-    requires n_in_bounds_2 { at + text_room (Kind.Levels n) ≤ length out.old }
-    ensures { Takes s result (lent levels.new coeff.new inter.new residual.new) out.old at out.new (levels_effect in_buffers (state_of s (lent levels.old coeff.old inter.old residual.old)) n body.now) (text_room (Kind.Levels n)) }
+    requires n_in_bounds { at + text_room (Kind.Levels body.size) ≤ length out.old }
+    ensures { let n = body.entry.size in Takes s result (lent levels.new coeff.new inter.new residual.new) out.old at out.new (levels_effect in_buffers (state_of s (lent levels.old coeff.old inter.old residual.old)) n body.entry.bytes.now) (text_room (Kind.Levels n)) }
 {
     let p = s.given.ok_or(Refusal::LevelsBeforeParameters)?;
     refusal::check_depth(p.precision.bit_depth)?;
-    refusal::check(feed_format::dst_refused(p.mode, n), Refusal::DstSizeInvalid)?;
+    refusal::check(
+        feed_format::dst_refused(p.mode, body.size),
+        Refusal::DstSizeInvalid,
+    )?;
     match p.mode {
         Mode::Transform(kind) => Ok(open_block::take_opened(
-            s, p, kind, n, body, levels, coeff, inter, residual, out, at,
+            s, p, kind, body, levels, coeff, inter, residual, out, at,
         )),
-        Mode::Skip => Ok(take_skipped(s, p, n, body, out, at)),
+        Mode::Skip => Ok(take_skipped(s, p, body, out, at)),
     }
 }
 
@@ -81,7 +81,10 @@ fn take_body(
         Kind::Parameters => feed_state::take_parameters(s, body, at),
         Kind::List => Ok(feed_state::take_list(s, body, at)),
         Kind::NoList => Ok(feed_state::take_no_list(s, at)),
-        Kind::Levels(n) => take_levels(s, n, body, levels, coeff, inter, residual, out, at),
+        Kind::Levels(size) => {
+            let bytes = LevelBytes { size, bytes: body };
+            take_levels(s, bytes, levels, coeff, inter, residual, out, at)
+        }
         Kind::Edit => open_block::take_edit(s, body, levels, coeff, inter, residual, at),
         Kind::Reading => open_block::take_reading(s, residual, out, at),
     }

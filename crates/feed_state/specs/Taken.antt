@@ -1,7 +1,7 @@
 -- What a record that was taken leaves.
 --   state_of s w             what a state of the code and the four buffers stand for
 --   capped s                a state as the code holds it: blocks and offset stop at the largest 64-bit number, which no input reaches
---   state_after s r, end_after at r    state and end of a record's text, by what was handed back: a refused one leaves both
+--   state_after s r, end_after at r    state and end of a record's text, by what was handed back: one that was not taken leaves both
 --   told r                   that without them
 --   answer_of o              number and place without the values
 --   Ample w                 each of the four buffers has room for the largest block
@@ -38,13 +38,13 @@ capped s =
       offset = min s.offset 18446744073709551615;
     }
 
-abbrev pub state_after : State → Result Taken Refusal → State
+abbrev pub state_after : {E : Type 0} → State → Result Taken E → State
 state_after s (Ok t) = t.state
-state_after s (Err why) = s
+state_after s (Err error) = s
 
-abbrev pub end_after : ℕ → Result Taken Refusal → ℕ
+abbrev pub end_after : {E : Type 0} → ℕ → Result Taken E → ℕ
 end_after at (Ok t) = t.end
-end_after at (Err why) = at
+end_after at (Err error) = at
 
 abbrev pub told : Result Taken Refusal → Result (Unit {0}) Refusal
 told (Ok t) = Ok tt

@@ -28,7 +28,7 @@ pub fn take_parameters(s: State, body: &[u8], at: usize) -> Result<Taken, Refusa
     let state = State {
         given: Some(p),
         held: None,
-        offset: behind(s.offset, Kind::Parameters),
+        offset: behind(s.offset, Kind::Parameters.body_length()),
         ..s
     };
     Ok(Taken { state, end: at })
@@ -41,7 +41,7 @@ pub fn take_list(s: State, body: &[u8], at: usize) -> Taken
     let state = State {
         list: Some(list_of(body)),
         held: None,
-        offset: behind(s.offset, Kind::List),
+        offset: behind(s.offset, Kind::List.body_length()),
         ..s
     };
     Taken { state, end: at }
@@ -53,7 +53,7 @@ pub fn take_no_list(s: State, at: usize) -> Taken
     let state = State {
         list: None,
         held: None,
-        offset: behind(s.offset, Kind::NoList),
+        offset: behind(s.offset, Kind::NoList.body_length()),
         ..s
     };
     Taken { state, end: at }

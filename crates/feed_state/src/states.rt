@@ -2,7 +2,6 @@
 ghost use Rattle.std.specs.Prelude.{◌≡◌, Some, ◌+◌, min, T};
 ghost use Rattle.h265.specs.Range.{is_size};
 ghost use Rattle.scaling_values.specs.Given.{list_of, entries_of};
-ghost use Rattle.feed_format.specs.Format.{size_known, body_length};
 ghost use Rattle.feed_rules.specs.Block.{list_in, list_for};
 ghost use Rattle.feed_rules.specs.Record.{counted};
 ghost use Rattle.feed_rules.specs.Feed.{beginning};
@@ -49,24 +48,21 @@ pub fn list_for(list: &Option<List>, mode: Mode, n: usize) -> ScalingList
     scaling_list(list)
 }
 
-// The offset behind a record of this kind; it stops before it would wrap.
-pub(crate) fn behind(offset: u64, kind: Kind) -> u64
-    requires { T (size_known kind) }
-    ensures { result ≡ min (offset + 1 + body_length kind) 18446744073709551615 }
+// The offset behind a record with a body of this length; it stops before it would wrap.
+pub(crate) fn behind(offset: u64, length: usize) -> u64
+    ensures { result ≡ min (offset + 1 + length) 18446744073709551615 }
 {
-    let length = kind.body_length();
     offset.saturating_add(1).saturating_add(length as u64)
 }
 
-// The state with an open block, behind a record of this kind.
-pub fn with_open(s: State, block: EditedBlock, blocks: u64, kind: Kind) -> State
-    requires { T (size_known kind) }
-    ensures { result ≡ record { given = s.given; list = s.list; held = Some block; blocks = blocks; offset = min (s.offset + 1 + body_length kind) 18446744073709551615 } }
+// The state with an open block, behind a record with a body of this length.
+pub fn with_open(s: State, block: EditedBlock, blocks: u64, length: usize) -> State
+    ensures { result ≡ record { given = s.given; list = s.list; held = Some block; blocks = blocks; offset = min (s.offset + 1 + length) 18446744073709551615 } }
 {
     State {
         held: Some(block),
         blocks,
-        offset: behind(s.offset, kind),
+        offset: behind(s.offset, length),
         ..s
     }
 }
@@ -79,7 +75,7 @@ pub fn with_closed(s: State, n: usize) -> State
     State {
         held: None,
         blocks: s.blocks.saturating_add(1),
-        offset: behind(s.offset, Kind::Levels(n)),
+        offset: behind(s.offset, Kind::Levels(n).body_length()),
         ..s
     }
 }

@@ -1,5 +1,5 @@
 // Integers by code: what the definitions of specs/ say, on 64 bits. Internal: the crates above call these and meet what they require.
-// Kept: `pow2`, `shift_right` and `magnitude` are one operator or method each, under the name that the rules have for it; the operator at each caller is no plainer.
+// Kept: `pow2`, `shift_right` and `magnitude` are one operator or method each, under the name that the rules have for it: that the operator is the rules' function is shown here once, and callers cite it.
 #![tactic(auto)]
 
 ghost use Rattle.std.specs.Prelude.{◌≡◌, ◌<◌, nat_abs};

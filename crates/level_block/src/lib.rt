@@ -19,7 +19,6 @@ use scaling_values::ScalingList;
 use transform_1d::Kind;
 
 // The rows that refuse a level edit, lowest first; but for 10 before 8. It cannot meet 9 or 19: scaling limits.
-// Kept: the rows but the levels', 10 and 8 are block_work's `block_refusal` too, and the levels' stands amid them: what is read is measured before what is written.
 // Kept: the buffers apart, here and below: a struct of lent slices would have to promise for each slice that it stays the same one (its ghost_name).
 // Kept: row, column and level apart, here and below: C gives them so, and a struct of them would be made for one call and taken apart in it.
 fn check_edit(
@@ -35,17 +34,17 @@ fn check_edit(
 {
     let n = block.size;
     let source = block.source;
-    refusal::check_size(n)?;
-    refusal::check_depth(block.precision.bit_depth)?;
-    refusal::check(
-        transform_1d::dst_refused(block.kind, n),
-        Refusal::DstSizeInvalid,
-    )?;
     let held = looked_at(source.levels, levels.len(), coeff.len());
-    refusal::check_room(n, held, Refusal::InputTooShort)?;
-    refusal::check_room(n, coeff.len(), Refusal::InputTooShort)?;
-    refusal::check_room(n, inter.len(), Refusal::OutputTooShort)?;
-    refusal::check_room(n, residual.len(), Refusal::OutputTooShort)?;
+    level_refusal(
+        block.kind,
+        n,
+        block.precision.bit_depth,
+        64,
+        held,
+        coeff.len(),
+        inter.len(),
+        residual.len(),
+    )?;
     refusal::check(!source.levels, Refusal::WayMismatched)?;
     check_place(n, row, column)
 }

@@ -42,9 +42,10 @@ use Rattle.scaling_values.specs.Given.{entries_of}
 use Rattle.level_search.specs.Work.{Invertible}
 use Rattle.least_level.proofs.LevelLaws.{inside_range}
 use Rattle.level_search.proofs.FoundLaws.{dequant_of_invertible}
+use Rattle.edit_blocks.specs.Ladder.{level_edit_ladder}
 use Rattle.edit_search.specs.Found.{Found, left, wrote, Finds}
 use Rattle.edit_search.proofs.FoundLaws.{answered_passed}
-use Rattle.level_edits.specs.Levels.{least_level_edit, most_level_edit, level_edit_ladder, level_edits_found}
+use Rattle.level_edits.specs.Levels.{least_level_edit, most_level_edit, level_edits_found}
 use Rattle.level_edits.specs.Work.{least_level_by, most_level_by, LevelsNeeds}
 use Rattle.level_edits.proofs.BlockLaws.{least_is, most_is}
 

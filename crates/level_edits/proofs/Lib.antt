@@ -3,3 +3,4 @@ pub mod PlaceLaws
 pub mod BlockLaws
 pub mod FoundLaws
 pub mod BetweenLaws
+pub mod SixteensLaws

@@ -15,7 +15,7 @@ use Rattle.integers.proofs.OrderLaws.{≤ℤ_trans}
 use Rattle.integers.proofs.MachineLaws.{lt_z_true, lt_z_false, lt_z_of_lt, lt_z_of_le}
 use Rattle.integers.proofs.LinearLaws.{lt_in, le_in, lt_out}
 use Rattle.least_level.specs.Level.{Scales}
-use Rattle.edit_values.specs.declared.Span.{Span}
+use Rattle.edit_values.specs.declared.interval.Span.{Span}
 use Rattle.edit_values.specs.Values.{value_count, value_at}
 use Rattle.edit_values.proofs.OrderedLaws.{not_both, places_ordered}
 use Rattle.edit_blocks.specs.Work.{least_of, most_of}
@@ -73,7 +73,7 @@ module _ {f : ℤ → ℤ} {r : ℕ} {low high : ℤ} {s : Span} (h : LevelSpan 
 
   -- an empty span in place of one whose ends are turned round
   abbrev empty : Span
-  empty = record { from = s.to; to = s.to }
+  empty = record { from = s.to; to = s.to; inside = s.inside }
 
   pub span_least_is : least_of r s ≡ least_scaling f r low high
   unfolding least_of least_scaling

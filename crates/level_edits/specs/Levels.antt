@@ -3,23 +3,19 @@
 --   scaled_block           the n² coefficients of a block of levels
 --   level_gives            with v in place of the level at index i the residual has the target at every wanted sample
 --   least_level_edit, most_level_edit   the least and the most level of the range that do so, asked of every level; 1 and 0 where none does
---   level_edit_ladder       the conditions by size, depth, kind and lengths, lowest number first
 --   level_edits_found       the edits of a block of levels
-use Rattle.std.specs.Prelude.{Bool, cond, List, ℕ, ◌*◌, ℤ, length, set}
+use Rattle.std.specs.Prelude.{Bool, List, ℕ, ◌*◌, ℤ, length, set}
 use Rattle.integers.specs.Lists.{tabulate, overwrite}
 use Rattle.h265.specs.Range.{transform_range}
 use Rattle.h265.specs.Scaling.{scaled_at}
 use Rattle.h265.specs.ScalingFactor.{ScalingList}
 use Rattle.h265.specs.Transform.{residual}
-use Rattle.refusal.specs.declared.Refusal.{Refusal}
-use Rattle.refusal.specs.declared.Refusal.TheVariants.{SizeInvalid, DepthInvalid, DstSizeInvalid, ListLengthInvalid, InputTooShort, OutputTooShort}
-use Rattle.refusal.specs.Condition.{size_refused, depth_refused, list_refused, block_refused}
 use Rattle.transform_1d.specs.declared.Kind.{Kind}
-use Rattle.transform_1d.specs.Kinds.{dst_refused}
 use Rattle.transform_1d.specs.MatrixOf.{matrix_of}
 use Rattle.scaling_values.specs.Given.{entries_of}
 use Rattle.edit_values.specs.Values.{least_where, most_where}
 use Rattle.edit_blocks.specs.Edits.{has_target}
+use Rattle.edit_blocks.specs.Ladder.{level_edit_ladder}
 use Rattle.edit_search.specs.Found.{Found, left, wrote}
 
 unfoldable pub scaled_block : ScalingList → ℕ → ℕ → Bool → ℤ → List ℤ → List ℤ
@@ -34,19 +30,6 @@ least_level_edit list kind n b x q levels target wanted i = least_where (transfo
 
 unfoldable pub most_level_edit : ScalingList → Kind → ℕ → ℕ → Bool → ℤ → List ℤ → List ℤ → List ℕ → ℕ → ℤ
 most_level_edit list kind n b x q levels target wanted i = most_where (transform_range b x) (level_gives list kind n b x q levels target wanted i)
-
--- by the lengths of list and buffers; `stop` makes something of a refusal
-unfoldable pub level_edit_ladder : {A : Type 0} → (Refusal → A) → A → Kind → ℕ → ℕ → ℕ → ℕ → ℕ → ℕ → ℕ → ℕ → A
-level_edit_ladder stop go kind n b entries levels target wanted least most =
-    cond (size_refused n) (stop SizeInvalid)
-    (cond (depth_refused b) (stop DepthInvalid)
-    (cond (dst_refused kind n) (stop DstSizeInvalid)
-    (cond (list_refused entries) (stop ListLengthInvalid)
-    (cond (block_refused n levels) (stop InputTooShort)
-    (cond (block_refused n target) (stop InputTooShort)
-    (cond (block_refused n wanted) (stop InputTooShort)
-    (cond (block_refused n least) (stop OutputTooShort)
-    (cond (block_refused n most) (stop OutputTooShort) go))))))))
 
 unfoldable pub level_edits_found : ScalingList → Kind → ℕ → ℤ → ℕ → Bool → List ℤ → List ℤ → List ℕ → List ℤ → List ℤ → Found
 level_edits_found list kind n q b x levels target wanted least most =

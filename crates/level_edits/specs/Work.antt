@@ -18,7 +18,7 @@ use Rattle.transform_1d.specs.declared.Kind.TheVariants.{Dst}
 use Rattle.scaling_values.specs.Factor.{WholeList}
 use Rattle.scaling_values.specs.Level.{listed_level}
 use Rattle.level_search.specs.Work.{scaling_by, Invertible}
-use Rattle.edit_values.specs.declared.Span.{Span}
+use Rattle.edit_values.specs.declared.interval.Span.{Span}
 use Rattle.edit_values.specs.Values.{value_count, value_at, least_where, most_where}
 use Rattle.edit_values.specs.Sample.{Split}
 use Rattle.edit_blocks.specs.Edits.{gives_target}

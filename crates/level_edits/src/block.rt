@@ -13,6 +13,8 @@ use scaling_values::ScalingList;
 use transform_1d::Kind;
 
 // The coefficients of the levels.
+// Kept: Invertible is a clause, here and below, as in level_search, and the range a number with its bound, as in coefficients.
+// Kept: tables of the largest size with n beside them, here and below: there is no heap, and n stands once for all tables of a block.
 fn scale(levels: &[i32], n: usize, by: DequantParams, list: ScalingList, out: &mut [i32; 1024])
     requires { Invertible by × WholeList (entries_of (list_of list)) n × (n * n ≤ length levels.now) × (length out.old ≡ 1024) }
     ensures { out.new ≡ overwrite (n * n) (λ i. scaling_by by (list_of list.entry) n i (get_or levels.now i (pos 0))) out.old }

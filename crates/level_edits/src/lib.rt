@@ -12,10 +12,10 @@ use transform_1d::Kind;
 
 mod block;
 mod places;
-mod refuse;
 
 // The least and the most level at every index.
 // Kept: target and wanted, least and most are slices of their own, here and in block.rt: C lends each with a length of its own, and rows 6 and 7 measure each.
+// Kept: kind, size and precision apart, here and in block.rt: refusals, numbers of the block, range and search each take some of them, and would take a struct apart.
 pub fn find_level_edits(
     kind: Kind,
     n: usize,
@@ -30,7 +30,7 @@ pub fn find_level_edits(
 ) -> Result<(), Refusal>
     ensures { Finds result least.new most.new (level_edits_found (list_of list.entry) kind n qp_prime.0 precision.bit_depth precision.extended levels.now target.now wanted.now least.old most.old) }
 {
-    refuse::level_edit_refusal(
+    edit_blocks::refuse::edit_refusal(
         kind,
         n,
         precision.bit_depth,

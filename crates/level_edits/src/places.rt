@@ -21,6 +21,7 @@ pub(crate) fn scaled_value(given: i32, m: u8, by: DequantParams) -> i32
 }
 
 // Whether the level at a place scales to `end` or above; strict: above.
+// Kept: the range is a number with its bound, here and below, as in coefficients; Manageable is a clause, as in scaling_values, and Invertible, as in level_search.
 // Kept: `strict` is a yes or a no, and a bool says that; an enum of two names would be matched at the same place.
 // Kept: `as i32`: the value at a place fits 32 bits, and `try_from` would give a branch for an error that never comes.
 fn beyond(m: u8, by: DequantParams, range: u32, end: i32, strict: bool, place: u32) -> bool

@@ -3,3 +3,4 @@ pub mod NearestLaws
 pub mod BlockLaws
 pub mod FoundLaws
 pub mod InverseLaws
+pub mod SixteensLaws

@@ -14,6 +14,8 @@ use parameters::DequantParams;
 use refusal::Refusal;
 use scaling_values::ScalingList;
 
+// Kept: coefficients, size, numbers and list apart, here and below, with Invertible, WholeList and Room as clauses: a struct of them would be made for the one call of find_block and
+// opened at each index; one with the lent levels would have to promise too that it stays the same one (its ghost_name).
 // The levels of a block up to the first coefficient that no level gives, whose index is the result.
 fn search(
     coeff: &[i32],
@@ -25,7 +27,6 @@ fn search(
     requires invertible { Invertible by }
     requires whole_list { WholeList (entries_of (list_of list)) n }
     requires n_in_bounds { n * n ≤ length coeff.now }
-    requires found_len { length found.old ≡ 1024 }
     ensures { Searched by (list_of list.entry) n coeff.now found.old found.new result }
 {
     for i in 0..n * n {

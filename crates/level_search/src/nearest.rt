@@ -46,7 +46,7 @@ fn reaches(x: i32, size: u32, m: u8, by: DequantParams) -> bool
     x <= value
 }
 
-// The least size that does.
+// The least size that does, and the end of the side where none does.
 fn nearest_size(x: i32, m: u8, by: DequantParams) -> u32
     requires { Invertible by }
     ensures { result ≡ nearest_size by (listed_level by m) x }

@@ -18,7 +18,7 @@ struct Case {
 }
 
 fn next_case(stdin: &mut impl Read) -> Case {
-    let listed = cases::next::<u8>(stdin) != 0;
+    let listed = cases::next::<u8, _>(stdin) != 0;
     Case {
         n: cases::next(stdin),
         qp: QpPrime(cases::next(stdin)),
@@ -27,6 +27,7 @@ fn next_case(stdin: &mut impl Read) -> Case {
     }
 }
 
+// Kept: lent buffers, which a struct would only carry to the call; so below.
 fn call(case: Case, entries: &[u8], coeff: &[i32], levels: &mut [i32]) -> Result<(), Refusal> {
     let list = match case.dc {
         Some(dc) => ScalingList::Listed(entries, dc),

@@ -7,6 +7,8 @@ use refusal::Refusal;
 use transform_1d::Kind;
 
 // The lowest row that applies, by the lengths of the list and of the buffers.
+// Kept: each length is a number of its own, which one line measures.
+// Kept: the rows but 5 and the levels' are block_work's too; level_ladder and block_ladder are two definitions, and one function would take a law between them.
 #[tactic(auto, unfolding(block_rules::specs::Level::level_ladder))]
 pub fn level_refusal(
     kind: Kind,

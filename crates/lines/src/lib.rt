@@ -1,5 +1,6 @@
 // Lines of 2 to 32 points by even and odd parts, at twice their value, on 16-bit data. x holds the first values of a line, and those past its
-// end are zero: all of a line, or its first quarter. A line of n points reads every st-th value, and is one function for each length of x.
+// end are zero: all of a line, or its first part (half of 8 points, a quarter of 16 and 32). A line of n points reads every st-th value, and is one
+// function for each length of x.
 #![tactic(auto)]
 
 ghost use Rattle.std.specs.Prelude.{◌≡◌, ◌*◌, ◌≤◌, pos, ◌+ℤ◌, ◌*ℤ◌, get_or};

@@ -7,7 +7,7 @@ use Rattle.std.specs.Prelude.{Ok, Err, Some}
 use mathlib.Core.Path.{◌≡◌, refl, sym, ap, ◌∙◌}
 use mathlib.Core.Bool.{Bool, true, false, ◌||◌}
 use mathlib.Core.List.{List, [], ◌∷◌}
-use Prim.Native.Nat.{ℕ, ◌+◌, ◌*◌}
+use Prim.Native.Nat.{ℕ, ◌+◌, ◌*◌, ◌<◌}
 use lib.Dec.{ltb}
 use lib.ListN.{length, get_or, set}
 use lib.Seq.{paste}
@@ -24,7 +24,7 @@ use Rattle.list_places.specs.Stream.Place.{held}
 use Rattle.list_places.specs.Table.{entries_at, stream_of, short}
 use Rattle.list_table.specs.Calls.{not_found, found_at, store_ladder, store_answer, find_answer, stored_table, dropped_table}
 use Rattle.list_table.specs.Answers.{Stores, Drops, Finds}
-use Rattle.list_places.proofs.TableLaws.{held_place}
+use Rattle.list_places.proofs.TableLaws.{number-inside, held_place}
 
 or_false : (t : Bool) → t || false ≡ t
 or_false true = refl
@@ -72,6 +72,9 @@ module _ (table : List ℕ) (d i : ℕ) where
   pub number_held : {v : Unit {0}} → accepted v ≡ number_answer (short table) d (stream_of table d) i → Held
   unfolding number_ladder number_answer
   number_held {v} h = let p = (first_accepted tt tt v number_rungs h).0 in record { room = p.0; present = p.1.0 }
+
+  pub held_inside : Held → (d < 2) × (i < 12)
+  held_inside h = number-inside table d i h.present
 
 -- ---- a drop
 module _ (table : List ℕ) (d i : ℕ) where

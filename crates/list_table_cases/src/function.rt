@@ -1,4 +1,5 @@
 // What a call is of, and what is amiss with what it lends, by the numbers of its bytes.
+use cases::UnknownNumber;
 
 #[derive(Clone, Copy)]
 pub enum Function {
@@ -24,10 +25,6 @@ pub enum Amiss {
     ShortLevels,
     ShortOut,
 }
-
-// A number that stands for nothing that a call asks.
-#[derive(Clone, Copy)]
-pub struct UnknownNumber;
 
 impl TryFrom<u8> for Function {
     type Error = UnknownNumber;

@@ -2,6 +2,7 @@
 use refusal::Refusal;
 use std::fmt::Display;
 
+// Kept: beside the three of `cases`, which write row and column too: one for both would take the zeros and the writer of a refusal as parameters.
 pub fn put_answer(rt: &impl Print, answer: Result<(), Refusal>) {
     match answer {
         Ok(()) => {

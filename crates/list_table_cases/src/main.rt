@@ -5,7 +5,8 @@
 #![tactic(auto)]
 
 use calls::Asked;
-use function::{Amiss, Function, UnknownNumber};
+use cases::UnknownNumber;
+use function::{Amiss, Function};
 use parameters::QpPrime;
 use refusal::Precision;
 use std::io::Read;
@@ -145,23 +146,6 @@ fn turn(
     true
 }
 
-// All calls, then the table.
-fn replay(
-    rt: &impl Print,
-    stdin: &mut impl Read,
-    table: &mut [u8],
-    pattern: &[u8],
-    levels: &[i32],
-) {
-    for _ in 0..u64::MAX {
-        if !turn(rt, stdin, table, pattern, levels) {
-            break;
-        }
-    }
-    cases::put_each(rt, table);
-    cases::put_end(rt);
-}
-
 fn main(rt: HostRuntime) {
     let mut stdin = rt.stdin();
     let mut pattern = [0u8; 512];
@@ -169,5 +153,7 @@ fn main(rt: HostRuntime) {
     let mut table = [0u8; 1585];
     streams::read_full(&mut stdin, &mut pattern);
     fill(&mut levels);
-    replay(&rt, &mut stdin, &mut table, &pattern, &levels);
+    cases::replay_all(|| turn(&rt, &mut stdin, &mut table, &pattern, &levels));
+    cases::put_each(&rt, &table);
+    cases::put_end(&rt);
 }

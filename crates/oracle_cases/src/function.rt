@@ -1,4 +1,5 @@
 // The functions that a case can be of, by the recorder's numbers.
+use cases::UnknownNumber;
 
 #[derive(Clone, Copy)]
 pub enum Function {
@@ -31,15 +32,11 @@ pub enum Transform {
     Dst16,
 }
 
-// A number that the recorder gives no function.
-#[derive(Clone, Copy)]
-pub struct UnknownFunction;
-
 impl TryFrom<u8> for Function {
-    type Error = UnknownFunction;
+    type Error = UnknownNumber;
 
     #[rattlefmt::skip]
-    fn try_from(number: u8) -> Result<Function, UnknownFunction> {
+    fn try_from(number: u8) -> Result<Function, UnknownNumber> {
         match number {
             0 => Ok(Function::Range),
             1 => Ok(Function::Dequant),
@@ -60,7 +57,7 @@ impl TryFrom<u8> for Function {
             16 => Ok(Function::Invert(Transform::DstExtended)),
             17 => Ok(Function::Invert(Transform::Dct16)),
             18 => Ok(Function::Invert(Transform::Dst16)),
-            _ => Err(UnknownFunction),
+            _ => Err(UnknownNumber),
         }
     }
 }

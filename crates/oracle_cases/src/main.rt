@@ -180,15 +180,15 @@ fn replay(rt: &impl Print, stdin: &mut impl Read) -> bool {
     if !cases::copy_text(rt, stdin) {
         return false;
     }
-    let Ok(function) = Function::try_from(cases::next::<u8>(stdin)) else {
+    let Ok(function) = Function::try_from(cases::next::<u8, _>(stdin)) else {
         return false;
     };
     let case = Case {
         bit_depth: cases::next(stdin),
-        extended_precision: cases::next::<u8>(stdin) != 0,
+        extended_precision: cases::next::<u8, _>(stdin) != 0,
         byte: cases::next(stdin),
-        n: cases::next::<u16>(stdin) as usize,
-        count: cases::next::<u16>(stdin) as usize,
+        n: cases::next::<u16, _>(stdin) as usize,
+        count: cases::next::<u16, _>(stdin) as usize,
         qp: cases::next(stdin),
         level: cases::next(stdin),
     };

@@ -112,7 +112,7 @@ fn skip_add(t: i32) -> i32
     0
 }
 
-// The same of transform skip.
+// What transform skip needs besides.
 fn skip_params_of(log2n: u32, qp_prime: i32, precision: Precision) -> TransformSkipParams
     requires { KnownSize log2n precision.bit_depth }
     ensures { result ≡ transform_skip_of log2n qp_prime precision.bit_depth precision.extended }
@@ -155,7 +155,7 @@ pub fn qp_prime(qp: Qp, bit_depth: u8) -> Result<QpPrime, Refusal>
 }
 
 // The numbers by which a block of a size is scaled.
-// Kept: size, QP' and precision stay apart: the ported Rust and C give each apart, and rows 1 to 3 are of size and precision without QP'.
+// Kept: size, QP' and precision stay apart, here and in the crates above, levels and output with them: the ported Rust and C give each apart, and rows 1 to 3 are of size and precision without QP'.
 #[tactic(auto, using(crate::proofs::ParametersLaws::known_accepted), unfolding(crate::specs::Parameters::dequant_params))]
 pub fn dequant_params(
     n: usize,

@@ -3,6 +3,7 @@
 // values. tests/parameters_cases.py writes cases and text.
 #![tactic(auto)]
 
+use cases::UnknownNumber;
 use parameters::{DequantParams, Qp, QpPrime};
 use refusal::Precision;
 use std::io::Read;
@@ -17,21 +18,17 @@ enum Function {
     TransformSkip,
 }
 
-// A number that a case gives no function.
-#[derive(Clone, Copy)]
-struct UnknownFunction;
-
 impl TryFrom<u8> for Function {
-    type Error = UnknownFunction;
+    type Error = UnknownNumber;
 
-    fn try_from(number: u8) -> Result<Function, UnknownFunction> {
+    fn try_from(number: u8) -> Result<Function, UnknownNumber> {
         match number {
             0 => Ok(Function::Range),
             1 => Ok(Function::Offset),
             2 => Ok(Function::QpPrime),
             3 => Ok(Function::Dequant),
             4 => Ok(Function::TransformSkip),
-            _ => Err(UnknownFunction),
+            _ => Err(UnknownNumber),
         }
     }
 }
@@ -68,11 +65,11 @@ fn replay(rt: &impl Print, stdin: &mut impl Read) -> bool {
     if !cases::copy_text(rt, stdin) {
         return false;
     }
-    let Ok(which) = Function::try_from(cases::next::<u8>(stdin)) else {
+    let Ok(which) = Function::try_from(cases::next::<u8, _>(stdin)) else {
         return false;
     };
-    let n = cases::next::<usize>(stdin);
-    let qp = cases::next::<i32>(stdin);
+    let n = cases::next::<usize, _>(stdin);
+    let qp = cases::next::<i32, _>(stdin);
     let precision = cases::next_precision(stdin);
     let bit_depth = precision.bit_depth;
     match which {

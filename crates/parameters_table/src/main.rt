@@ -5,6 +5,7 @@ use parameters::{Qp, QpPrime};
 use refusal::{Precision, Refusal};
 use std::fmt::Display;
 
+// Kept: beside those of `cases`: a tab before each value, and a refusal by its number alone.
 fn put<T: Display + Drop>(rt: &impl Print, value: T) {
     streams::write_all(rt, b"\t");
     streams::print(rt, value);

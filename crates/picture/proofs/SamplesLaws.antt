@@ -5,13 +5,13 @@
 --   placed_none, placed_more   a row of which c samples are put
 --   Rows, rows_none, rows_more, rows_all            a block of which k rows are put
 --   rebuilt_stands             where a sample of the block stands in the plane
---   below_some, below_le, below_none, below_more    fewer samples, a larger bound, no sample, bits gathered from one more
+--   below_more                 bits gathered from one sample more
 use mathlib.Core.Path.{◌≡◌, refl, sym, ap, ap₂, subst, ◌∙◌}
 use mathlib.Core.Bool.{Bool, true, false, ◌&&◌, cond}
 use mathlib.Core.List.{List}
 use mathlib.Core.Logic.{◌⊎◌, ⊎_elim, inl, inr}
 use Prim.Native.Nat.{ℕ, ◌+◌, ◌-◌, ◌*◌, ◌/◌, ◌%◌, ◌≤◌, ◌<◌}
-use native.Mathlib.Nat.{div-add-mod', le_trans, not-suc-le-zero}
+use native.Mathlib.Nat.{div-add-mod', le_trans}
 use native.Mathlib.Decide.{ℕ_discrete, dec_lt}
 use native.Mathlib.Omega.{arith}
 use borrow.Author.Tests.{lt-ltb, le-ltb, le-leb, lt-leb}
@@ -69,15 +69,6 @@ module _ (top p : ℕ) (z : ℤ) where
       by_tests true v e d = rw (clip3_low (pos 0 -ℤ pos p) (pos top -ℤ pos p) z (lt_z_true e), clip3_low (pos 0) (pos top) (pos p +ℤ z) (below e)) (back (pos 0))
       by_tests false true e d = rw (clip3_high (pos 0 -ℤ pos p) (pos top -ℤ pos p) z (lt_z_false e) (lt_z_true d), clip3_high (pos 0) (pos top) (pos p +ℤ z) (sum_least e) (above d)) (back (pos top))
       by_tests false false e d = rw (clip3_id (pos 0 -ℤ pos p) (pos top -ℤ pos p) z (lt_z_false e) (lt_z_false d), clip3_id (pos 0) (pos top) (pos p +ℤ z) (sum_least e) (sum_most d))
-
-pub below_some : {top k : ℕ} {xs : List ℕ} (m : ℕ) → m ≤ k → Below top k xs → Below top m xs
-below_some m h f = record { at = λ i l. f.at i (omega arith) }
-
-pub below_le : {top most k : ℕ} {xs : List ℕ} → top ≤ most → Below top k xs → Below most k xs
-below_le h f = record { at = λ i l. le_trans (f.at i l) h }
-
-pub below_none : {top : ℕ} {xs : List ℕ} → Below top 0 xs
-below_none = record { at = λ i l. absurd (not-suc-le-zero l) }
 
 or_le : (a b : ℕ) → (a ≤ bit_or a b) × (b ≤ bit_or a b)
 or_le a b = (omega (arith, or_add_and a b, and_le_r a b), omega (arith, or_add_and a b, and_le_l a b))

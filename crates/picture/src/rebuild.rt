@@ -45,7 +45,7 @@ fn rebuild_row(
 }
 
 // The rows of the block.
-// Kept: size and depth, then column and row, apart: `rebuild_block` is called with them apart, and the definition takes each by itself.
+// Kept: size and depth, column and row, residual and prediction apart: `rebuild_block` is called with them apart, as C hands them over, and the definition takes each by itself.
 fn rebuild_rows(
     n: usize,
     bit_depth: u8,

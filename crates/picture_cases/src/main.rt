@@ -4,6 +4,7 @@
 // The text goes on with the answer, and the plane afterwards or the checksum. tests/picture_cases.py writes cases and text.
 #![tactic(auto)]
 
+use cases::UnknownNumber;
 use planes::Extent;
 use std::io::Read;
 
@@ -14,18 +15,14 @@ enum Function {
     Checksum,
 }
 
-// A number that a case gives no function.
-#[derive(Clone, Copy)]
-struct UnknownFunction;
-
 impl TryFrom<u8> for Function {
-    type Error = UnknownFunction;
+    type Error = UnknownNumber;
 
-    fn try_from(number: u8) -> Result<Function, UnknownFunction> {
+    fn try_from(number: u8) -> Result<Function, UnknownNumber> {
         match number {
             0 => Ok(Function::Rebuild),
             1 => Ok(Function::Checksum),
-            _ => Err(UnknownFunction),
+            _ => Err(UnknownNumber),
         }
     }
 }
@@ -67,6 +64,7 @@ fn fill(first: u16, step: u16, plane: &mut [u16]) {
     }
 }
 
+// Kept: residual and prediction apart, here and below: `rebuild_block` takes them so, as C hands them over.
 fn rebuild(rt: &impl Print, case: Case, residual: &[i32], prediction: &[u16], plane: &mut [u16]) {
     cases::put_answer(
         rt,
@@ -95,8 +93,8 @@ fn call(rt: &impl Print, case: Case, residual: &[i32], prediction: &[u16], plane
 }
 
 fn make(stdin: &mut impl Read, plane: &mut [u16]) {
-    let first = cases::next::<u16>(stdin);
-    let step = cases::next::<u16>(stdin);
+    let first = cases::next::<u16, _>(stdin);
+    let step = cases::next::<u16, _>(stdin);
     fill(first, step, plane);
     let count = cases::next_length(stdin, 1024);
     cases::read_first(stdin, count, plane);
@@ -120,7 +118,7 @@ fn replay(rt: &impl Print, stdin: &mut impl Read) -> bool {
     if !cases::copy_text(rt, stdin) {
         return false;
     }
-    let Ok(function) = Function::try_from(cases::next::<u8>(stdin)) else {
+    let Ok(function) = Function::try_from(cases::next::<u8, _>(stdin)) else {
         return false;
     };
     let case = next_case(stdin, function);

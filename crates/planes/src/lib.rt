@@ -30,6 +30,7 @@ fn passes(first: usize, k: usize, side: usize) -> bool
 }
 
 // A picture in a plane: the sample of column x and row y stands at y × stride + x.
+// Kept: the plane beside it: one call reads it, another writes it, and a struct of a slice that is written would have to promise that it stays the same one (its ghost_name).
 #[derive(Clone, Copy)]
 pub struct Extent {
     pub width: usize,

@@ -37,6 +37,7 @@ pub enum Refusal {
 
 // A refusal's number in the table, and the place that it names: one number (an index or an offset), or the row and column of a
 // coefficient; 0 where it names none.
+// Kept: numbers, and 0 where there is no place: so docs/RULES.md, C and the programs' texts have them. `parts` is a method and no From, since the four below it read one part each.
 #[derive(Clone, Copy)]
 pub struct RefusalParts {
     number: u8,

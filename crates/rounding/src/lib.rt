@@ -11,6 +11,7 @@ use refusal::{Precision, Refusal};
 use transform_1d::Kind;
 
 // The largest sum of absolute entries over one output of the n-point DCT.
+// Kept: a size as a number, here and below, as in refusal.
 fn dct_sum(n: usize) -> u32
     requires { T (is_size n) }
     ensures { result ≡ dct_sum n }
@@ -33,6 +34,7 @@ fn entry_sum(kind: Kind, n: usize) -> u32
     }
 }
 
+// Kept: kind, size and precision apart, here and below: refusals, range and sums each take some of them, and would take a struct apart.
 fn bound_of(kind: Kind, n: usize, precision: Precision) -> u32
     requires { T (is_size n) × (8 ≤ precision.bit_depth) × (precision.bit_depth ≤ 16) }
     ensures { result ≡ rounding_bound kind n precision.bit_depth precision.extended }

@@ -10,7 +10,7 @@ fn replay(rt: &impl Print, stdin: &mut impl Read) -> bool {
         return false;
     }
     let kind = cases::next_kind(stdin);
-    let n = cases::next::<usize>(stdin);
+    let n = cases::next::<usize, _>(stdin);
     let precision = cases::next_precision(stdin);
     cases::put_value(rt, rounding::rounding_bound(kind, n, precision));
     cases::put_end(rt);

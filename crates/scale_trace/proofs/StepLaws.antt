@@ -28,11 +28,11 @@ use Rattle.feed_format.specs.Format.{kind_of, record_room}
 use Rattle.feed_format.proofs.FormatLaws.{Sized, kind_size, room_most}
 use Rattle.feed_rules.specs.Record.{FeedState, Effect, record_effect}
 use Rattle.feed_state.specs.Buffers.{Lent, Buffered, in_buffers}
-use Rattle.feed_state.specs.Taken.{state_of, capped, answer_of}
+use Rattle.feed_state.specs.Taken.{state_of, capped, state_after, end_after, answer_of}
 use Rattle.feed.specs.declared.StepError.{StepError}
 use Rattle.feed.specs.declared.StepError.TheVariants.{Refused, NoRoom}
 use Rattle.feed_state.specs.declared.Taken.{Taken}
-use Rattle.feed.specs.Answers.{step_answer, state_after, end_after, Steps}
+use Rattle.feed.specs.Answers.{step_answer, Steps}
 use Rattle.feed_history.specs.Stepping.{Room, Stepping, too_short, stepping_by, stepping}
 use Rattle.feed_history.specs.Stepping.Room.{too_little, enough}
 use Rattle.scale_trace_rules.specs.Block.{lines_from, block_lines}

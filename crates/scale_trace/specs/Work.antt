@@ -11,12 +11,12 @@ use Rattle.feed_lines.specs.Lines.{refused_text}
 use Rattle.feed_rules.specs.Record.{FeedState}
 use Rattle.feed_state.specs.declared.State.{State}
 use Rattle.feed_state.specs.Buffers.{Lent, Buffered, in_buffers}
-use Rattle.feed_state.specs.Taken.{state_of, capped}
+use Rattle.feed_state.specs.Taken.{state_of, capped, state_after, end_after}
 use Rattle.feed_history.specs.Stepping.{Stepping, stepping_by}
 use Rattle.feed.specs.declared.StepError.{StepError}
 use Rattle.feed.specs.declared.StepError.TheVariants.{Refused, NoRoom}
 use Rattle.feed_state.specs.declared.Taken.{Taken}
-use Rattle.feed.specs.Answers.{step_answer, state_after, end_after}
+use Rattle.feed.specs.Answers.{step_answer}
 use Rattle.scale_trace_rules.specs.Trace.{trace_effect, list_room, trace_text, listing_room}
 
 abbrev pub tracing : FeedState Buffered → ℕ → List ℕ → ℕ → Stepping

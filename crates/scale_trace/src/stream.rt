@@ -13,6 +13,7 @@ use feed::{StepError, Taken};
 use feed_state::State;
 
 // The lines of a block, by the parameters; a block of size 0 has none.
+// Kept: a buffer and the place where its text ends apart, here and below, as in `text`.
 #[tactic(auto, using(text::proofs::WroteLaws::wrote_none))]
 fn put_levels(state: State, n: usize, out: &mut [u8], at: usize) -> usize
     requires t { 0 < n → T (is_size n) }

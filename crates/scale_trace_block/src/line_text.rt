@@ -9,6 +9,8 @@ ghost use Rattle.scale_trace_block.specs.Work.{source_is, position_of};
 use crate::{Source, rule};
 use feed_format::{List, Mode};
 
+// Kept: no Display, here and below, as in `text`: a format answers a Result, and no clause of std says that it is Ok, even where there is room.
+// Kept: a buffer and the place where its text ends apart, here and below, as in `text`.
 fn put_reason(source: Source, out: &mut [u8], at: usize) -> usize
     requires { at + 6 ≤ length out.old }
     ensures { WroteUpTo out.old at (reason_text (source_is source)) out.new result (at + 6) }

@@ -6,6 +6,8 @@ ghost use Rattle.scale_trace_rules.specs.Trace.{block_size, size_of, list_room, 
 use feed_format::Kind;
 
 // The size of a kind's block; 0 where a kind has none.
+// Kept: 0 and no Option, here, in `line_text` and in `scale_trace`: the definitions have it so (20 n² is then 0, and a block of size 0 has no lines), and a None would
+// be one arm more in each.
 fn block_size(kind: Kind) -> usize
     ensures { result ≡ block_size kind }
 {

@@ -9,7 +9,7 @@ use crate::Source;
 use feed_format::{List, Mode};
 
 // The rule at an index.
-// Kept: list, mode and size apart, here and in `line_text`: theorems and definitions take them one by one, and a struct of the three would be taken apart in each contract.
+// Kept: list, mode and size apart, here and in `line_text`: theorems and definitions take them one by one, and a struct of the three would be taken apart in each contract. An index stays a number and its bound a clause, since a loop counts it, and so does a position, since an enum has no ghost field.
 #[tactic(auto, using(crate::proofs::RuleLaws::source_none, crate::proofs::RuleLaws::source_skip, crate::proofs::RuleLaws::source_four, crate::proofs::RuleLaws::source_eight, crate::proofs::RuleLaws::source_dc, crate::proofs::RuleLaws::source_repeat, crate::proofs::RuleLaws::position_is))]
 pub(crate) fn source_of(list: Option<List>, mode: Mode, n: usize, index: usize) -> Source
     requires { T (is_size n) × (index < n * n) }

@@ -10,6 +10,7 @@ use std::io::Read;
 const PROGRAM: &str = "scale_trace_main";
 
 // One record: reads it, writes its lines and answers the state after it, where more may come.
+// Kept: a turn of its own in each program: one for both would take the step as a closure, with a clause that its text ends inside the buffer (`after_step` asks it), and the last line.
 fn turn<R: Print + Eprint>(
     rt: &R,
     stdin: &mut impl Read,
@@ -21,9 +22,7 @@ fn turn<R: Print + Eprint>(
     let Ok(record) = next_record(stdin, &mut room) else {
         return read_failed(rt, PROGRAM);
     };
-    let Some((kind, body)) = record else {
-        return None;
-    };
+    let (kind, body) = record?;
     let Buffers {
         levels,
         coeff,
@@ -34,15 +33,8 @@ fn turn<R: Print + Eprint>(
     after_step(rt, PROGRAM, state.offset, answer, &out)
 }
 
-// Kept: the loop in both programs: one function for it would take `turn` as a closure, whose every call may ask something first, so that it would need a `requires` that each may be made, and an answer to it in each program.
 fn main(rt: HostRuntime) {
     let mut stdin = rt.stdin();
     let mut buffers = Buffers::new();
-    let mut state = feed::start();
-    for _ in 0..u64::MAX {
-        let Some(next) = turn(&rt, &mut stdin, state, &mut buffers) else {
-            return;
-        };
-        state = next;
-    }
+    feed_program::run(|state| turn(&rt, &mut stdin, state, &mut buffers));
 }

@@ -4,6 +4,7 @@
 --   output_within                          what an output holds, 32 bits hold
 --   by_entry_same, by_entry_fits, by_entry_listed   what is written and counted by the m at every index: the same by equal m, fitting, the block's
 --   flat_listed                            without a list every m is 16
+--   laid_small, laid_few                   its size, and how often an entry is repeated
 --   row_position                           the position of an index of a row
 --   shared_row                             a row that is not the first of those that share their entries has the quotient of the row above
 --   stored_rest                            a place that a loop has not come to is as lent
@@ -45,7 +46,8 @@ use Rattle.scaling_values.proofs.CountLaws.{count_cong}
 use Rattle.std.proofs.lemmas.List.{map-set, get_or_append_left, get_or-append_right, get_or-drop}
 use Rattle.scaling_blocks.specs.Blocks.{output_width}
 use Rattle.scaling_blocks.specs.Each.{by_entry}
-use Rattle.scaling_blocks.specs.Spread.{Copied}
+use Rattle.h265.proofs.RangeLaws.{size_bound, log2_size_bound}
+use Rattle.scaling_blocks.specs.Spread.{Laid, Copied}
 use Rattle.scaling_values.proofs.FlatLaws.{base_eq}
 use Rattle.scaling_values.proofs.SkipLaws.{ts_residual_fits}
 use Rattle.scaling_values.proofs.LevelLaws.{flat_level_within, listed_level_fits, listed_level_within}
@@ -214,3 +216,10 @@ module _ (p : DequantParams) (f : ℕ → ℤ → ℤ) where
         out = c.out ∙ overwrite_cong k (by_entry f (scaling_factor list n) levels) (listed_at p list n levels) xs (λ i a. v (scaling_factor list n i) (get_or levels i (pos 0)));
         count = c.count ∙ count_cong (by_entry g (scaling_factor list n) levels) (listed_limited_at p list n levels) k (λ i a. l (scaling_factor list n i) (get_or levels i (pos 0)));
       }
+
+-- ---- the numbers that a list is laid out by
+pub laid_small : {len n r places : ℕ} → Laid len n r places → n ≤ 32
+laid_small {n = n} l = (size_bound n l.rows.size).1
+
+pub laid_few : {len n r places : ℕ} → Laid len n r places → r ≤ 2
+laid_few {n = n} l = omega (arith, l.rows.repeats, log2_size_bound n l.rows.size)

@@ -13,6 +13,7 @@ use refusal::{Precision, Refusal};
 use scaling_values::ScalingList;
 
 // The coefficients of a block.
+// Kept: levels and output apart, here and in `each`, and `Room` a clause: a struct with the lent output would have to promise that it stays the same one (its ghost_name).
 #[inline(always)]
 pub fn dequantize<R: Residual>(
     levels: &[i32],

@@ -22,6 +22,7 @@ use scaling_values::{FlatParams, flat, listed, long, skip};
 
 // The coefficients of a block without a list, and how many were limited.
 // Kept: a loop of its own beside `scale_entries`: `FlatParams` takes no m, so that one loop for both would take a closure of index and level; with its clauses it is longer than this loop.
+// Kept: the count beside the slices, here and below: `Counted` and `overwrite` say too what stands behind the block, which the caller would have to work out of a part of each slice.
 fn scale_flat<R: Residual>(levels: &[i32], count: usize, by: FlatParams, out: &mut [R]) -> u16
     requires short { Short by }
     requires room { Room count (length levels.now) (length out.old) }
@@ -123,6 +124,7 @@ pub(crate) fn flat_block<R: Residual>(
 }
 
 // A block with a list that is not refused. It works its numbers out beside the loops, so that they stay in registers.
+// Kept: beside `flat_block`, each with `dequant_params` and the clause that no row applies: handed down in memory, the numbers of a block took 432 instructions at size 4 in place of 375 (docs/BENCHMARKS.md).
 pub(crate) fn listed_block<R: Residual>(
     levels: &[i32],
     n: usize,

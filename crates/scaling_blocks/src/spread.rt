@@ -7,6 +7,7 @@ ghost use Rattle.scaling_values.specs.Work.{spread_at, Fills};
 ghost use Rattle.scaling_blocks.specs.Spread.{Laid, Copied};
 
 // A row by the list.
+// Kept: list, size and repeats apart, here and below, with `Laid` as a clause: a struct with the lent entries would have to promise that they stay the same ones (its ghost_name).
 fn spread_row(list: &[u8], row: usize, n: usize, repeats: u32, entries: &mut [u8])
     requires laid { Laid (length list.now) n repeats (length entries.old) }
     requires row_lt_n { row < n }

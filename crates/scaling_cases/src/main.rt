@@ -4,6 +4,7 @@
 // throughout. The text goes on with the answer, and the value with what was limited, or the count of limited coefficients and the output. tests/scaling_cases.py writes cases and text.
 #![tactic(auto)]
 
+use cases::UnknownNumber;
 use parameters::QpPrime;
 use refusal::{Precision, Refusal};
 use std::fmt::Display;
@@ -27,14 +28,10 @@ enum Scaling {
     SkipListed,
 }
 
-// A number that a case gives no function.
-#[derive(Clone, Copy)]
-struct UnknownFunction;
-
 impl TryFrom<u8> for Function {
-    type Error = UnknownFunction;
+    type Error = UnknownNumber;
 
-    fn try_from(number: u8) -> Result<Function, UnknownFunction> {
+    fn try_from(number: u8) -> Result<Function, UnknownNumber> {
         match number {
             0 => Ok(Function::Factor),
             1 => Ok(Function::Level),
@@ -46,7 +43,7 @@ impl TryFrom<u8> for Function {
             7 => Ok(Function::Narrow(Scaling::Listed)),
             8 => Ok(Function::Narrow(Scaling::SkipFlat)),
             9 => Ok(Function::Narrow(Scaling::SkipListed)),
-            _ => Err(UnknownFunction),
+            _ => Err(UnknownNumber),
         }
     }
 }
@@ -152,7 +149,7 @@ fn replay(rt: &impl Print, stdin: &mut impl Read) -> bool {
     if !cases::copy_text(rt, stdin) {
         return false;
     }
-    let Ok(function) = Function::try_from(cases::next::<u8>(stdin)) else {
+    let Ok(function) = Function::try_from(cases::next::<u8, _>(stdin)) else {
         return false;
     };
     let case = next_case(stdin);

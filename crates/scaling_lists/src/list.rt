@@ -1,6 +1,6 @@
 // One list, and its place among those read.
 ghost use Rattle.std.specs.Prelude.{◌≡◌, ◌+◌, ◌≤◌, ◌<◌, IfOk};
-ghost use Rattle.scaling_lists_codes.specs.Syntax.{blank, list_code};
+ghost use Rattle.scaling_lists_codes.specs.Syntax.{list_code};
 ghost use Rattle.scaling_lists_taken.specs.Lent.{lent_lists};
 ghost use Rattle.scaling_lists.specs.Work.{read_as, listed, one_more, lists_held};
 
@@ -9,16 +9,18 @@ use crate::{coded, taken};
 use refusal::Refusal;
 use scaling_lists_taken::DefaultLists;
 
-// List j, from its flag on: DC and the offset behind it. `entries` is lent as zeros.
+// Kept: defaults and held apart, here, in taken.rt and in reader.rt: held grows, so that a struct with it would promise at each step that the defaults are the same, or, of a lent
+// held, be made anew for each list.
+// List j, from its flag on: DC and the offset behind it.
 fn read_list(
     bytes: &[u8],
     at: usize,
     j: usize,
     defaults: DefaultLists,
     held: &Lists,
-    entries: &mut [u8],
+    entries: &mut [u8; 64],
 ) -> Result<(u8, usize), Refusal>
-    requires { (j < 20) × (entries.old ≡ blank) × (at ≤ 1048576) }
+    requires { (j < 20) × (at ≤ 1048576) }
     ensures { (listed entries.new result ≡ list_code (lent_lists defaults.entry) bytes.now (lists_held j held.now) at) × IfOk result (λ r. r.1 ≤ at + 4226) }
 {
     refusal::check(!bits::is_there(bytes, at), Refusal::BitsEnded(at))?;

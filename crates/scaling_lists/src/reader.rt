@@ -21,6 +21,7 @@ fn read_all(bytes: &[u8], defaults: DefaultLists, held: &mut Lists) -> Result<us
     Ok(at)
 }
 
+// Kept: defaults, lists and DC numbers are slices of their own, as C lends them.
 // Reads scaling list data from the first bit of `bytes` on: list j of the 20 goes to `lists` from index 64 × j on, its entries in row
 // order, and its DC to `dcs` at index j. A refused call changes neither.
 #[tactic(auto, unfolding(crate::specs::Answers::lists_read, crate::specs::Answers::room_refused))]

@@ -14,9 +14,9 @@ fn fill_referred(
     delta: usize,
     defaults: DefaultLists,
     held: &Lists,
-    entries: &mut [u8],
+    entries: &mut [u8; 64],
 ) -> u8
-    requires { (j < 20) × (length entries.old ≡ 64) × (delta ≤ matrix_id j / matrix_step (size_id j)) }
+    requires { (j < 20) × (delta ≤ matrix_id j / matrix_step (size_id j)) }
     ensures { record { entries = entries.new; dc = result } ≡ referred (lent_lists defaults.entry) (lists_held j held.now) (size_id j) (matrix_id j) delta }
 {
     entries.copy_from_slice(scaling_lists_taken::list_taken(defaults, &held.entries, j, delta));
@@ -33,9 +33,9 @@ pub(crate) fn taken_over(
     j: usize,
     defaults: DefaultLists,
     held: &Lists,
-    entries: &mut [u8],
+    entries: &mut [u8; 64],
 ) -> Result<(u8, usize), Refusal>
-    requires { (j < 20) × (length entries.old ≡ 64) × (at ≤ 1152921504606846976) }
+    requires { (j < 20) × (at ≤ 1152921504606846976) }
     ensures { (listed entries.new result ≡ taken_over (lent_lists defaults.entry) bytes.now (lists_held j held.now) (size_id j) (matrix_id j) at) × IfOk result (λ r. r.1 ≤ at + 65) }
 {
     let matrix_id = scaling_lists_taken::matrix_of(j);

@@ -15,6 +15,7 @@ use std::{env, fs, io};
 const LONGEST: usize = 8192;
 
 // What is amiss with the slices that a case lends.
+// Kept: beside that of the other program on scaling lists: variants and their numbers are of each file.
 #[derive(Clone, Copy)]
 enum Amiss {
     Nothing,
@@ -140,6 +141,7 @@ fn replay(rt: &impl Print, file: &mut impl Read, number: u64, defaults: Defaults
 }
 
 // All cases of a file.
+// Kept: beside `cases::replay_all`, which hands on no number: here the `for` counts the cases.
 fn replay_all(rt: &impl Print, file: &mut impl Read) {
     let defaults = Defaults::read(file);
     for number in 0..u64::MAX {

@@ -77,17 +77,17 @@ module _ {b n : List ℕ} {i r : ℕ} (lent : Defaults) (lists : List FactorList
   unfolding list_bits form_of form_bits
   list_default h w = record { wrote = rw h w.wrote; bound = omega (arith, w.bound) }
 
-  pub list_back : (d : ℕ) → is_default lent lists j ≡ false → d ≡ nearest lists j → d < earlier j → WroteUpTo b i (0 ∷ unsigned_bits (d + 1)) n r (i + 18)
+  pub list_back : (d : ℕ) → is_default lent lists j ≡ false → nearest lists j ≡ d → d < earlier j → WroteUpTo b i (0 ∷ unsigned_bits (d + 1)) n r (i + 18)
       → WroteUpTo b i (list_bits lent lists j) n r (i + 1106)
   unfolding list_bits form_of form_bits
   list_back d h e g w =
-      record { wrote = rw (h, ← e, lt-ltb d (earlier j) g) w.wrote; bound = omega (arith, w.bound) }
+      record { wrote = rw (h, e, lt-ltb d (earlier j) g) w.wrote; bound = omega (arith, w.bound) }
 
-  pub list_full : (d : ℕ) → is_default lent lists j ≡ false → d ≡ nearest lists j → earlier j ≤ d → WroteUpTo (set b i 1) (i + 1) (full_bits (size_id j) (list_at lists j)) n r (i + 1 + 1105)
+  pub list_full : is_default lent lists j ≡ false → nearest lists j ≡ earlier j → WroteUpTo (set b i 1) (i + 1) (full_bits (size_id j) (list_at lists j)) n r (i + 1 + 1105)
       → WroteUpTo b i (list_bits lent lists j) n r (i + 1106)
   unfolding list_bits form_of form_bits
-  list_full d h e g w =
-      record { wrote = rw (h, ← e, le-ltb d (earlier j) g) (wrote_more (wrote_one b i 1) w.wrote); bound = omega (arith, w.bound) }
+  list_full h e w =
+      record { wrote = rw (h, e, le-ltb (earlier j) (earlier j) (omega arith)) (wrote_more (wrote_one b i 1) w.wrote); bound = omega (arith, w.bound) }
 
 pub lists_more : {b m n : List ℕ} {i r : ℕ} (lent : Defaults) (lists : List FactorList) (j : ℕ) → Wrote b 0 (written_up_to lent lists j) m i
     → Wrote m i (list_bits lent lists j) n r → Wrote b 0 (written_up_to lent lists (j + 1)) n r

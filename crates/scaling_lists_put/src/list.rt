@@ -19,7 +19,9 @@ fn put_taken(back: usize, bits: &mut [u8], at: usize) -> usize
     bits_written::put_code(back as u64, bits, at + 1)
 }
 
+// Kept: set and defaults apart, here, in same.rt and in the crate above: only is_default asks both, and a struct of both would be taken apart there.
 // List j: the default, else the nearest reference, else in full.
+#[tactic(auto, unfolding(scaling_lists_written::specs::Written::earlier))]
 fn put_list(set: ListSet, defaults: DefaultLists, j: usize, bits: &mut [u8], at: usize) -> usize
     requires { (j < 20) × (at + 1106 ≤ length bits.old) }
     ensures { WroteUpTo bits.old at (list_bits (lent_lists defaults.entry) (set_lists set.entry) j) bits.new result (at + 1106) }
@@ -27,8 +29,7 @@ fn put_list(set: ListSet, defaults: DefaultLists, j: usize, bits: &mut [u8], at:
     if same::is_default(set, defaults, j) {
         return put_taken(0, bits, at);
     }
-    let between = same::nearest(set, j);
-    if between < j % 6 {
+    if let Some(between) = same::nearest(set, j) {
         return put_taken(between + 1, bits, at);
     }
     bits[at] = 1;

@@ -3,8 +3,8 @@ ghost use Rattle.std.specs.Prelude.{◌≡◌, true, cond, ◌≤◌, ◌<◌, e
 ghost use Rattle.scaling_lists_codes.specs.Syntax.{size_id, matrix_id};
 ghost use Rattle.scaling_lists_taken.specs.Lent.{lent_lists};
 ghost use Rattle.scaling_lists_written.specs.Same.{has_dc, used_count, same_list, list_at};
-ghost use Rattle.scaling_lists_written.specs.Written.{default_list, nearest};
-ghost use Rattle.scaling_lists_put.specs.Lists.{factor_list, set_lists};
+ghost use Rattle.scaling_lists_written.specs.Written.{default_list};
+ghost use Rattle.scaling_lists_put.specs.Lists.{factor_list, set_lists, Nearest};
 
 use crate::set::{HeldList, ListSet};
 use scaling_lists_taken::DefaultLists;
@@ -50,16 +50,16 @@ pub(crate) fn is_default(set: ListSet, defaults: DefaultLists, j: usize) -> bool
     same_list(set.list(j), default, j)
 }
 
-// How many lists stand between list j and the nearest earlier one of its size that is the same.
-pub(crate) fn nearest(set: ListSet, j: usize) -> usize
+// How many lists stand between list j and the nearest earlier one of its size that is the same, if one is.
+pub(crate) fn nearest(set: ListSet, j: usize) -> Option<usize>
     requires { j < 20 }
-    ensures { (result ≡ nearest (set_lists set.entry) j) × (result ≤ 5) }
+    ensures { Nearest (set_lists set.entry) j result }
 {
     let earlier = j % 6;
     for d in 0..earlier {
         if same_list(set.list(j), set.list(j - 1 - d), j) {
-            return d;
+            return Some(d);
         }
     }
-    earlier
+    None
 }

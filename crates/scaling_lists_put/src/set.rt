@@ -1,6 +1,7 @@
 // The lists that are to be written.
 ghost use Rattle.std.specs.Prelude.{◌≡◌, ◌≤◌, length};
 
+// Kept: entries and DC numbers side by side, as the two slices that C lends.
 // The 20 lists, one behind the other, and their DC numbers.
 #[derive(Clone, Copy)]
 pub struct ListSet<'a> {

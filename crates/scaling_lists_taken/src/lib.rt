@@ -12,7 +12,8 @@ mod lent;
 pub use lent::DefaultLists;
 use refusal::Refusal;
 
-// Kept: a list's number j stays a plain number, here and in the crates above, and j < 20 a clause: loops count it, and size and matrix are j / 6 and j % 6.
+// Kept: a list's number j, and the delta of a reference from it, stay plain numbers, here, where the code is read (scaling_lists_codes) and in the crates above, and their bounds
+// clauses: loops count j, size and matrix are j / 6 and j % 6, and delta's bound goes by j.
 
 impl<'a> DefaultLists<'a> {
     // Row 5: a default has not 64 entries.

@@ -23,6 +23,7 @@ fn write_within(set: ListSet, defaults: DefaultLists, out: &mut [u8]) -> Result<
     Ok(count)
 }
 
+// Kept: defaults, lists and DC numbers are slices of their own, as C lends them.
 // Writes the 20 lists as scaling list data from the first bit of `out` on: list j stands in `lists` from index 64 × j on, its entries in
 // row order, and its DC in `dcs` at index j, as the reader leaves them. The rest of the last byte is 0, and the bytes behind it stay. A
 // refused call changes nothing.

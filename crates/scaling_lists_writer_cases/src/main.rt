@@ -13,6 +13,7 @@ use std::io::Read;
 const LARGEST: usize = 3000;
 
 // What is amiss with the slices that a case lends.
+// Kept: beside that of the other program on scaling lists: variants and their numbers are of each file.
 #[derive(Clone, Copy)]
 enum Amiss {
     Nothing,
@@ -146,6 +147,7 @@ fn replay(rt: &impl Print, stdin: &mut impl Read, number: u64, defaults: Default
 fn main(rt: HostRuntime) {
     let mut stdin = rt.stdin();
     let defaults = Defaults::read(&mut stdin);
+    // Kept: beside `cases::replay_all`, which hands on no number: here the `for` counts the cases.
     for number in 0..u64::MAX {
         if !replay(&rt, &mut stdin, number, defaults) {
             return;

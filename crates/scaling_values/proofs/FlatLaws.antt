@@ -5,6 +5,7 @@
 --   short-limited                 a level past the two of a block is one that is limited, or whose result is
 --   short_value                   between them, and past them, the coefficient is the block's
 --   flat_counted                  the same of a whole block, in the terms of its numbers
+--   short_numbers                 32 bits hold the numbers of a block
 --   flat_for_short                 32 bits hold every product and sum
 --   flat_for_fits                  an output holds every coefficient where it holds the ends of the range
 --   dequant_of_regular             the numbers of every block are regular
@@ -26,7 +27,7 @@ use Rattle.integers.specs.Shift.{pow2, shift_right}
 use Rattle.integers.specs.Within.{Within}
 use Rattle.integers.proofs.LinearLaws.{parts_neg, lt_out, split, ring, diff_ext}
 use Rattle.integers.proofs.OrderLaws.{shr_shift}
-use Rattle.integers.proofs.BoundLaws.{within_pos, within_eq, within_neg}
+use Rattle.integers.proofs.BoundLaws.{within_fits, within_le, within_pos, within_eq, within_neg}
 use Rattle.integers.proofs.MachineLaws.{lt_z_true, lt_z_false}
 use Rattle.integers.proofs.ListsLaws.{overwrite_cong}
 use Rattle.integers.proofs.TestLaws.{all_below, all_below_at}
@@ -42,7 +43,7 @@ use Rattle.scaling_values.specs.Level.{level_by, flat_level, listed_level, resul
 use Rattle.scaling_values.specs.Flat.{short_level, short_limited, short_at, short_limited_at, Regular, Exact, TopOf, LowOf, FlatFor, Short, ShortFits}
 use Rattle.scaling_values.specs.Work.{flat_at, flat_limited_at, Counted}
 use Rattle.scaling_values.proofs.CountLaws.{count_cong}
-use Rattle.scaling_values.proofs.LevelLaws.{level_by_fits, listed_level_within}
+use Rattle.scaling_values.proofs.LevelLaws.{NumbersFit, level_by_fits, listed_level_within}
 use Rattle.scaling_values.proofs.ThresholdLaws.{coeff_max_pos, limited_exact, value_between, value_above, value_below}
 
 -- ---- shifts
@@ -242,4 +243,14 @@ dequant_of_regular l q b x k =
       together = omega (arith, k, transform_range_depth b x k.deep);
       least = refl;
       most = refl;
+    }
+
+-- ---- the numbers of a block
+pub short_numbers : {k : FlatParams} → Short k → NumbersFit k.base k.add k.low k.top
+short_numbers s =
+    record {
+      base = within_fits {b = 8388608} tt (within_le s.factors s.base);
+      add = within_fits tt s.add;
+      low = within_fits {b = 16777216} tt (within_le s.levels s.low);
+      top = within_fits {b = 16777216} tt (within_le s.levels s.top);
     }

@@ -1,6 +1,8 @@
 -- Laws of one level by the machine's numbers.
 --   between_fits, clip3_fits, level_by_fits     what is limited to ends that fit a width fits it: the one law under both output widths
+--   NumbersFit                    32 bits hold what a level is multiplied by, its rounding, and the two bounds of a block
 --   manageable_ends               32 bits hold the ends of every range
+--   manageable_wide               64 bits hold them, what a level is multiplied by, and its rounding
 --   level_by_within                a coefficient is at most 2^22 in size
 --   flat_level-…, listed_level-…    the same of a level without a list, and of one with the m of a list
 --   moved_outside                 a limit changes what lies outside its ends, and nothing else
@@ -15,7 +17,7 @@ use native.Mathlib.Omega.{arith}
 use lib.IntN.{ℤ, pos, negsuc, nat_abs, ◌*ℤ◌, *ℤ_comm, pos-*ℤ-pos}
 use lib.Pow.{pow_mono}
 use lib.Signed.{lt_z, ◌≤ℤ◌, ≤ℤ_refl}
-use mir.Syntax.{Width, w32}
+use mir.Syntax.{Width, w32, w64}
 use mir.Val.{SFits}
 use Rattle.integers.specs.Clip.{clip3}
 use Rattle.integers.specs.Shift.{shift_right, round_shift}
@@ -47,8 +49,23 @@ pub level_by_fits : {w : Width} {p : DequantParams} (f level : ℤ) → Ends w p
 unfolding level_by
 level_by_fits {p = p} f level e = clip3_fits p.clip_min p.clip_max _ e.least e.most
 
+pub record NumbersFit (factor rounding lowest highest : ℤ) : Type 0 where
+  pub base : SFits w32 factor
+  pub add : SFits w32 rounding
+  pub low : SFits w32 lowest
+  pub top : SFits w32 highest
+
 pub manageable_ends : {p : DequantParams} → Manageable p → Ends w32 p
 manageable_ends m = record { least = within_fits tt m.least; most = within_fits tt m.most }
+
+pub record WideNumbers (p : DequantParams) : Type 0 where
+  pub factor : SFits w64 p.factor
+  pub add : SFits w64 p.add
+  pub ends : Ends w64 p
+
+pub manageable_wide : {p : DequantParams} → Manageable p → WideNumbers p
+manageable_wide m =
+    record { factor = within_fits tt m.factor; add = within_fits tt m.add; ends = record { least = within_fits tt m.least; most = within_fits tt m.most } }
 
 pub level_by_within : {p : DequantParams} (f level : ℤ) → Manageable p → Within 4194304 (level_by p f level)
 unfolding level_by

@@ -5,6 +5,8 @@
 --   compact_clip, compact_fits      the coefficient is the result limited, and fits 16 bits
 --   compact_between                 between the two bounds it is the result shifted up
 --   limited_below, -above, -between whether level or result was limited, by where the result lies
+--   zeros_by_is, odd_by_is          what m is multiplied by, and its odd part, as they are worked out
+--   compact_numbers, factor_within  32 bits hold the numbers of a block, and 16 what a level is multiplied by
 --   lowered_by_for, raised_by_for     the numbers of a block
 --   compact_counted            what is written and counted by them is the block's
 --   factor_is, scale_is        what m is multiplied by in every block
@@ -28,10 +30,11 @@ use mir.Syntax.{w16, w32}
 use mir.Val.{SFits, to_z, of_z}
 use Rattle.integers.specs.Clip.{clip3}
 use Rattle.integers.specs.Shift.{pow2, shift_right}
+use Rattle.integers.specs.Within.{Within}
 use Rattle.integers.proofs.LinearLaws.{parts_add, le_out, lt_out}
 use Rattle.integers.proofs.OrderLaws.{*ℤ_assoc, *ℤ-+ℤ, one-*ℤ, shr_unique}
 use Rattle.integers.proofs.ShiftLaws.{le_shift_right, shift_right_zero, shift_right_within}
-use Rattle.integers.proofs.BoundLaws.{within_pos}
+use Rattle.integers.proofs.BoundLaws.{within_fits, within_eq, within_pos, within_mul}
 use Rattle.integers.proofs.MachineLaws.{round_trip, lt_z_true, lt_z_false}
 use Rattle.integers.proofs.ListsLaws.{overwrite_cong}
 use Rattle.integers.proofs.ClipLaws.{clip3_within}
@@ -48,7 +51,7 @@ use Rattle.scaling_values.specs.Level.{level_by, listed_level, outside_by, resul
 use Rattle.scaling_values.specs.Listed.{compact_result, compact_level, compact_limited, compact_at, compact_limited_at, scale_by, zeros_by, odd_by, lowered_by, raised_by, Listable, Compact, ListedFor}
 use Rattle.scaling_values.specs.Work.{direct_at, direct_limited_at, Counted}
 use Rattle.scaling_values.proofs.CountLaws.{count_cong}
-use Rattle.scaling_values.proofs.LevelLaws.{clip3_fits}
+use Rattle.scaling_values.proofs.LevelLaws.{NumbersFit, clip3_fits}
 use Rattle.scaling_values.proofs.FlatLaws.{shr_z_shr_z}
 use Rattle.scaling_values.proofs.ThresholdLaws.{coeff_max_pos}
 
@@ -356,3 +359,23 @@ module _ (l : ℕ) (q : ℤ) (b : ℕ) (x : Bool) (k : KnownSize l b) where
           least = ap coeff_min range_15;
           most = e;
         }
+
+-- ---- the numbers of a block, as they are worked out
+pub zeros_by_is : (p : DequantParams) {k : ℕ} → k ≡ scale_by p → count_trailing_zeros 32 k ≡ zeros_by p
+zeros_by_is p e = ap (count_trailing_zeros 32) e
+
+pub odd_by_is : (p : DequantParams) {k : ℕ} {z : ℤ} → z ≡ pos (k / 2 ^ count_trailing_zeros 32 k % 64) → k ≡ scale_by p → odd_by p < 64 → z ≡ pos (odd_by p)
+odd_by_is p d e h = d ∙ ap (λ (i : ℕ). pos (i / 2 ^ count_trailing_zeros 32 i % 64)) e ∙ ap pos (mod-eq_of_lt h)
+
+-- ---- what 32 bits hold
+pub compact_numbers : {k : ListedParams} → Compact k → NumbersFit k.base k.add k.low k.top
+compact_numbers {k} c =
+    record {
+      base = within_fits tt c.base;
+      add = within_fits tt c.add;
+      low = within_fits tt c.lowest;
+      top = within_fits {b = 32767} tt (within_eq c.top (shift_right_within k.up (record { within = omega arith })));
+    }
+
+pub factor_within : {m : ℕ} {z : ℤ} → m ≤ 255 → Within 63 z → Within (255 * 63) (pos m *ℤ z)
+factor_within h w = within_mul {a = 255} (within_pos h) w

@@ -7,6 +7,7 @@
 --   long_between                    between the two bounds it is the product shifted
 --   long_below, -above, -inside     whether level or result was limited, by where the product lies
 --   lowered_for, raised_for         the numbers of a block
+--   long_numbers                    32 bits hold them
 --   lowered_end_is, raised_end_is   where its range ends, as it is worked out
 --   long_counted                    what is written and counted by them is the block's
 --   dequant_of-listed                the numbers of every block are long, and listable where R = 15
@@ -48,8 +49,7 @@ use Rattle.scaling_values.specs.Listed.{zeros_by, odd_by}
 use Rattle.scaling_values.specs.Long.{long_product, long_level, long_limited, long_at, long_limited_at, rest_of, long_by, Near, Longable, Listed, Long, LongFor}
 use Rattle.scaling_values.specs.Work.{direct_at, direct_limited_at, Counted}
 use Rattle.scaling_values.proofs.CountLaws.{count_cong}
-use Rattle.scaling_values.proofs.LevelLaws.{between_fits, clip3_fits}
-use Rattle.scaling_values.proofs.FlatLaws.{}
+use Rattle.scaling_values.proofs.LevelLaws.{NumbersFit, between_fits, clip3_fits}
 use Rattle.scaling_values.proofs.ThresholdLaws.{coeff_max_pos}
 use Rattle.scaling_values.proofs.ListedLaws.{lt_z_iff, scaled_back, lowered_by_lem, raised_by_lem, or_true, or_false, zeros_of, scale_odd, scale_whole, qp_depth, factor_is, scale_is, dequant_of_listable}
 
@@ -429,3 +429,13 @@ module _ (l : ℕ) (q : ℤ) (b : ℕ) (x : Bool) (k : KnownSize l b) where
   pub dequant_of-listed : Listed (dequant_of l q b x)
   unfolding dequant_of
   dequant_of-listed = record { short = λ e. dequant_of_listable l q b x k e; long = dequant_of_longable }
+
+-- ---- what 32 bits hold
+pub long_numbers : {k : LongParams} → Long k → NumbersFit k.base k.add k.low k.top
+long_numbers {k} c =
+    record {
+      base = within_fits tt c.base;
+      add = within_fits tt c.add;
+      low = between_fits (negsuc 16777215) (pos 0) k.low (record { sfits = lit< tt }) (record { sfits = lit< tt }) c.low c.lowest;
+      top = between_fits (pos 0) (pos 16777215) k.top (record { sfits = lit< tt }) (record { sfits = lit< tt }) c.topmost c.top;
+    }

@@ -8,6 +8,7 @@ use crate::{FlatLevel, FlatParams, level};
 use parameters::DequantParams;
 
 // The largest level that nothing limits.
+// Kept: the four numbers apart, here and below: both functions have one caller, where they are locals.
 fn top_level(base: u32, add: u32, most: u32, shift: u32) -> u32
     requires { Divided base add shift most }
     ensures { TopOf base add shift most result }
@@ -26,7 +27,7 @@ fn low_level(base: u32, add: u32, most: u32, shift: u32) -> u32
 }
 
 // The numbers of a block: the 4 bits of m = 16 are shifted out of factor and rounding.
-// Kept: `Manageable` is a clause here and in `level`, `listed` and `long`: as a ghost field of `DequantParams` it is an import cycle, since functions in the struct's file have clauses that speak of the struct.
+// Kept: `Manageable` is a clause here and in `level`, `listed` and `long`: callers may make a `DequantParams` of any numbers, and as a ghost field it would ask each of them that they fit.
 pub fn flat_params(by: DequantParams) -> FlatParams
     requires manageable { Manageable by }
     requires regular { Regular by }

@@ -14,6 +14,7 @@ mod range;
 pub mod skip;
 
 // What gives the scaling factor m: nothing, so that it is 16 throughout, or a list with its DC number.
+// Kept: an enum of its own and no Option of a pair: without a list m is 16, which None would not say, and it has the two cases of clause 8.6's own type (`ScalingList` of h265).
 #[derive(Clone, Copy)]
 pub enum ScalingList<'a> {
     Flat,
@@ -63,7 +64,7 @@ pub struct FlatParams {
 
 // The numbers of a block with a list where R = 15, without the power of two that the factor and the shift share: `base` is the odd part of what
 // m is multiplied by, and a product is shifted `down` with the rounding `add`, or `up` with none; between `low` and `top` nothing limits it.
-// Kept: apart from `LongParams`: the loop over these has 35 instructions for four levels, the loop over those 47.
+// Kept: apart from `LongParams`: the loop over these has 35 instructions for four levels, the loop over those 47, a third more for each block with a list where R = 15.
 #[derive(Clone, Copy)]
 pub struct ListedParams {
     pub base: i32,

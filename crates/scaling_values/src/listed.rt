@@ -88,7 +88,7 @@ fn compact_result(level: i32, m: u8, by: ListedParams) -> i32
 }
 
 // A level with the m of a list.
-// Kept: apart from `scaled_long` as `ListedParams` from `LongParams`: one product, where that puts two together.
+// Kept: apart from `scaled_long` as `ListedParams` from `LongParams` (see there for the instructions): one product, where that puts two together.
 pub fn scaled_compact(level: i32, m: u8, by: ListedParams) -> FlatLevel
     requires { Compact by }
     ensures { CompactScaled by m level result }

@@ -3,8 +3,7 @@
 --   pass_needs_row        each row ends inside the block
 --   line_sums_halves    the sums of a line have room
 --   filled_line        one line more
---   outputs_fit        what fits for a line fits for the outputs of its sums
-use mathlib.Core.Path.{sym, ap, subst}
+use mathlib.Core.Path.{ap}
 use mathlib.Core.List.{List}
 use Prim.Native.Nat.{ℕ, ◌+◌, ◌*◌, ◌≤◌, ◌<◌}
 use native.Mathlib.Nat.{add_comm}
@@ -37,9 +36,3 @@ pub filled_line : (f : ℤ → ℤ) {n : ℕ} {t x : List ℤ} {c groups : ℕ} 
     → Filled n n (λ r j. f (line_sum t x r n groups j)) c xs ys → Placed (c * n) n (λ j. f (lane_output z j)) ys zs
     → Filled n n (λ r j. f (line_sum t x r n groups j)) (c + 1) xs zs
 filled_line f h s p q = filled_suc (omega arith) p (placed_cong (λ j l. ap f (s.output j (omega arith))) q)
-
--- what fits for a line fits for the outputs of its sums
-module _ (P : ℤ → Type 0) (f : ℤ → ℤ) {n : ℕ} {t x : List ℤ} {m groups : ℕ} {z : List ℤ} (s : LineSums t x m n groups z) (l : n ≤ 32)
-    (fits : (j : ℕ) → j < n → P (f (line_sum t x m n groups j))) where
-  pub outputs_fit : (j : ℕ) → j < n → P (f (lane_output z j))
-  outputs_fit j h = subst (λ (y : ℤ). P y) (sym (ap f (s.output j (omega arith)))) (fits j h)

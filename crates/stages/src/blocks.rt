@@ -10,7 +10,7 @@ ghost use Rattle.transform_1d.specs.MatrixOf.{matrix_of};
 ghost use Rattle.stages.specs.Passes.{shifted_residual, BlockNeeds};
 
 use crate::finish::clipped;
-use crate::passes::{columns_4, rows_4};
+use crate::passes::lines_4;
 use crate::sample::Sample;
 use crate::scan::narrow;
 use tiles::{Stage, fill, half, rounded};
@@ -39,8 +39,8 @@ pub fn block_4<V: Sample>(kind: Kind, coeff: &[V], nx: usize, s: u32, out: &mut 
     let mut a = [0i16; 16];
     let mut d = [0i16; 16];
     narrow(coeff, &mut a[..]);
-    columns_4(&t[..], &a[..], nx, &mut d[..]);
-    rows_4(&t[..], &d[..], s, out);
+    lines_4(&t[..], &a[..], nx, 7, &mut d[..]);
+    lines_4(&t[..], &d[..], 4, s, out);
 }
 
 // The DCT of a block of which the first S.ROWS rows and columns are used: A coefficients.

@@ -2,6 +2,7 @@
 --   column-place, column-inside     the places of a column are apart, and inside the block
 --   column_placed_zero, -suc, -put, -all   no row; one row more, also by another name of its place; all rows
 --   column_placed_cong               a column of equal values
+--   column_of_length                 a column by another name of its length
 --   column_placed_replaced           a whole column: the list with that column replaced
 --   filled_columns_zero, -all       no column; the same columns by another name of their number
 --   filled-column                   one column more of a block
@@ -50,6 +51,10 @@ column_placed_all {n} {c} m {f = f} {xs} {ys} e p = subst (λ (k : ℕ). ColumnP
 
 pub column_placed_cong : {n c m : ℕ} {f g : ℕ → ℤ} {xs ys : List ℤ} → ((k : ℕ) → k < m → f k ≡ g k) → ColumnPlaced n c f m xs ys → ColumnPlaced n c g m xs ys
 column_placed_cong e p = record { long = p.long; done = λ k i. p.done k i ∙ e k i; kept = p.kept }
+
+-- a column by another name of its length
+pub column_of_length : {n m c : ℕ} {f : ℕ → ℤ} {xs ys : List ℤ} → m ≡ n → ColumnPlaced m c f m xs ys → ColumnPlaced n c f n xs ys
+column_of_length {c = c} {f} {xs} {ys} e p = subst (λ (k : ℕ). ColumnPlaced k c f k xs ys) e p
 
 pub filled-column : {n c : ℕ} {g : ℕ → ℕ → ℤ} {xs ys zs : List ℤ}
     → c < n → Filled n c g n xs ys → ColumnPlaced n c (λ m. g m c) n ys zs → Filled n (c + 1) g n xs zs

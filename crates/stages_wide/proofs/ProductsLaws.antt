@@ -10,7 +10,7 @@
 use mathlib.Core.Path.{◌≡◌, refl, sym, ap, ◌∙◌}
 use mathlib.Core.List.{List, [], ◌∷◌}
 use Prim.Native.Nat.{ℕ, zero, suc, ◌+◌, ◌*◌, ◌^◌, ◌≤◌, ◌<◌}
-use native.Mathlib.Nat.{not-suc-le-zero, zero-add}
+use native.Mathlib.Nat.{not-suc-le-zero}
 use native.Mathlib.Decide.{dec_lt}
 use native.Mathlib.Omega.{arith}
 use borrow.Author.Tests.{lt-ltb, le-ltb}
@@ -31,7 +31,7 @@ use Rattle.stages_wide.specs.Parts.{limited_at, stage_of, ColumnPlaced}
 use Rattle.stages_wide.specs.Products.{limited_up_to, matrix_value, Picked, RoundNeeds, ProductsNeeds, LimitedNeeds}
 use Rattle.stages_wide.proofs.PartsLaws.{limited_within}
 use Rattle.stages_wide.proofs.StageLaws.{place-column, place_inside}
-use Rattle.stages_wide.proofs.ColumnLaws.{column_placed_cong}
+use Rattle.stages_wide.proofs.ColumnLaws.{column_placed_cong, column_of_length}
 
 pub limited_up_to_in : (r : ℕ) (xs : List ℤ) (w i : ℕ) → i < w → limited_up_to r xs w i ≡ limited_at r xs i
 unfolding limited_up_to
@@ -138,14 +138,13 @@ pub column_values : {n r : ℕ} (coeff : List ℤ) (column : ℕ) {x₀ x : List
 column_values coeff column h p = record { at = λ k i. within_eq (placed_run p k i) (limited_within _ h) }
 
 pub put_line : (t : ℕ → ℕ → ℤ) (n r : ℕ) (coeff : List ℤ) {column : ℕ} {x₀ x z r₀ y i₀ i : List ℤ} → Placed 0 n (λ k. limited_at r coeff (k * n + column)) x₀ x
-    → WideOutputs t n x z → Placed 0 n (λ j. round_shift (get_or z j (pos 0)) 7) r₀ y → ColumnPlaced n column (λ m. limited_at r y (0 + m)) n i₀ i
+    → WideOutputs t n x z → Placed 0 n (λ j. round_shift (get_or z j (pos 0)) 7) r₀ y → length y ≡ n → ColumnPlaced (length y) column (limited_at r y) (length y) i₀ i
     → ColumnPlaced n column (λ m. intermediate t n r (limited_block r n coeff) m column) n i₀ i
 unfolding block_at intermediate stage_one_value stage_one_sum
-put_line t n r coeff {column} {x = x} {y = y} p o q f =
+put_line t n r coeff {column} {x = x} {y = y} p o q e f =
     column_placed_cong
-    (λ m a. ap (limited_at r y) (zero-add m)
-    ∙ ap (clip_coeff r)
+    (λ m a. ap (clip_coeff r)
     (placed_run q m a
     ∙ ap (λ (v : ℤ). round_shift v 7)
     (o.output m a ∙ transform_line_cong t t n (λ k. get_or x k (pos 0)) (λ k. limited_at r coeff (k * n + column)) m (λ k i. refl) (λ k i. placed_run p k i))))
-    f
+    (column_of_length e f)

@@ -15,7 +15,8 @@ use tiles_32::Whole32;
 use tiles_quarter::{Quarter8, Quarter16, Quarter32};
 use transform_1d::Kind;
 
-// Kept: no twins of the functions of these names in `stages`: their stages are others, and every value is limited as it is read.
+// Kept: no twins of `dc_fill`, `dct_sized` and `dct_plain` in `stages`: their stages are others, and every value is limited as it is read.
+// Kept: a size as a number, as in `refusal`; shift, range and nx apart, as in products.rt.
 // A DCT's block whose only coefficient is the first: row 0 of every DCT's matrix is 64, so that all outputs are equal.
 fn dc_fill(n: usize, shift: u32, range: u32, coeff: &[i32], out: &mut [i32])
     requires { T (is_size n) × StagesNeeds n shift range 1 (length coeff.now) (length out.old) × RowsUsed coeff.now n 1 1 }
@@ -41,6 +42,7 @@ fn dct_sized(n: usize, shift: u32, range: u32, nx: usize, coeff: &[i32], out: &m
 }
 
 // Both stages of the n-point DCT; one coefficient alone fills its block.
+// Kept: `rows_used` for one column, beside `first_row_alone` of `stages`: it is a public function of `coefficients`, which would go with its clause and its wrong program; and `first_row_alone` says nothing where it answers false.
 pub fn stages_dct(n: usize, shift: u32, range: u32, nx: usize, coeff: &[i32], out: &mut [i32])
     requires { T (is_size n) × StagesNeeds n shift range nx (length coeff.now) (length out.old) }
     ensures { Filled n n (both_stages (trans_matrix n) n shift range nx coeff.now) n out.old out.new }

@@ -6,7 +6,7 @@
 mod parts; // values limited to the range
 mod products; // lines of 4 points in 32-bit products
 mod moves; // blocks turned over, columns taken and put
-mod sizes; // stages of a block, a function for each size
+mod sizes; // stages of a block, over the size
 mod blocks; // both stages of a block of any size, and a block with one coefficient
 
 ghost use Rattle.std.specs.Prelude.{◌≡◌, ◌+◌, ◌*◌, ◌<◌, ◌≤◌, length};
@@ -50,9 +50,9 @@ pub fn intermediate_of(kind: Kind, n: usize, range: u32, coeff: &[i32], inter: &
 {
     match n {
         4 => sizes::columns_4(kind, coeff, range, inter),
-        8 => sizes::columns::<Whole8, 64, 8>(coeff, range, inter),
-        16 => sizes::columns::<Whole16, 256, 16>(coeff, range, inter),
-        _ => sizes::columns::<Whole32, 1024, 32>(coeff, range, inter),
+        8 => sizes::columns::<Whole8, 64>(coeff, range, inter),
+        16 => sizes::columns::<Whole16, 256>(coeff, range, inter),
+        _ => sizes::columns::<Whole32, 1024>(coeff, range, inter),
     }
 }
 
@@ -64,9 +64,9 @@ pub fn residual_of(kind: Kind, n: usize, bit_depth: u8, range: u32, inter: &[i32
     let shift = stage_two_shift(bit_depth, range);
     match n {
         4 => sizes::rows_4(kind, inter, range, shift, out),
-        8 => sizes::rows::<Whole8, 64, 8>(inter, range, shift, out),
-        16 => sizes::rows::<Whole16, 256, 16>(inter, range, shift, out),
-        _ => sizes::rows::<Whole32, 1024, 32>(inter, range, shift, out),
+        8 => sizes::rows::<Whole8, 64>(inter, range, shift, out),
+        16 => sizes::rows::<Whole16, 256>(inter, range, shift, out),
+        _ => sizes::rows::<Whole32, 1024>(inter, range, shift, out),
     }
 }
 

@@ -40,6 +40,7 @@ impl Moved for i16 {
 }
 
 // One column of a block, as row c of g.
+// Kept: c beside the slices: it is the column of s, and of g cut to its row it would be asked all the same.
 fn turn_column<V: Moved>(s: &[i32], n: usize, c: usize, g: &mut [V])
     requires { ColumnOf n c (length s.now) × (n * n ≤ length g.old) × (V.short ≡ true → Narrow (n * n) s.now) }
     ensures { Placed (c * n) n (λ k. get_or s.now (k * n + c) (pos 0)) (map V.value g.old) (map V.value g.new) }
@@ -59,7 +60,7 @@ pub fn turn<V: Moved>(s: &[i32], n: usize, g: &mut [V])
     }
 }
 
-// Whether the values of one column all fit 16 bits.
+// `true` only where the values of one column all fit 16 bits; `false` says nothing.
 // Kept: a loop with no early end, of which the compiler tests several values at a time; `all`, compiled, tests one at a time.
 pub fn column_narrow(s: &[i32], n: usize, column: usize) -> bool
     requires { ColumnOf n column (length s.now) }
@@ -95,13 +96,14 @@ pub fn limited_column(s: &[i32], n: usize, range: u32, column: usize, x: &mut [i
     }
 }
 
-// n values of r from place base on, limited, down one column.
-pub fn put_column(r: &[i32], base: usize, n: usize, range: u32, inter: &mut [i32], column: usize)
-    requires { (range ≤ 22) × ColumnOf n column (length inter.old) × (base + n ≤ length r.now) }
-    ensures { ColumnPlaced n column (λ m. limited_at range r.now (base + m)) n inter.old inter.new }
+// The values of r, limited, down one column of a block of as many rows.
+pub fn put_column(r: &[i32], range: u32, inter: &mut [i32], column: usize)
+    requires { (range ≤ 22) × ColumnOf (length r.now) column (length inter.old) }
+    ensures { ColumnPlaced (length r.now) column (limited_at range r.now) (length r.now) inter.old inter.new }
 {
+    let n = r.len();
     for m in 0..n {
-        inter[m * n + column] = limited(r[base + m], range);
+        inter[m * n + column] = limited(r[m], range);
     }
 }
 
@@ -111,6 +113,6 @@ pub fn put_columns(g: &[i32], n: usize, range: u32, inter: &mut [i32])
     ensures { Filled n n (λ m c. limited_at range g.now (c * n + m)) n inter.old inter.new }
 {
     for c in 0..n {
-        put_column(g, c * n, n, range, inter, c);
+        put_column(&g[c * n..c * n + n], range, inter, c);
     }
 }

@@ -1,5 +1,5 @@
 // Values limited to the range.
-// Kept: the range as a number with its bound, here and in moves.rt: it comes as a number through every crate, and a type would be taken apart here.
+// Kept: the range as a number with its bound, here, in moves.rt and in products.rt: it comes as a number through every crate, and a type would be taken apart here.
 ghost use Rattle.std.specs.Prelude.{◌≡◌, ◌≤◌};
 ghost use Rattle.h265.specs.Range.{coeff_min, coeff_max, clip_coeff};
 

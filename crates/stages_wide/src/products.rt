@@ -11,24 +11,24 @@ use lines_wide::line_4;
 use tiles::rounded;
 use transform_1d::Kind;
 
-// The first w values, limited.
-// Kept: w beside the buffers, here and below, as in `wide_parts`: what is lent is longer than what is read or written.
-fn limit(s: &[i32], w: usize, range: u32, x: &mut [i32])
-    requires { (range ≤ 22) × (w ≤ length s.now) × (w ≤ length x.old) }
-    ensures { Placed 0 w (limited_at range s.now) x.old x.new }
+// The first values, limited: as many as x has.
+fn limit(s: &[i32], range: u32, x: &mut [i32])
+    requires { (range ≤ 22) × (length x.old ≤ length s.now) }
+    ensures { Placed 0 (length x.old) (limited_at range s.now) x.old x.new }
 {
-    for j in 0..w {
+    for j in 0..x.len() {
         x[j] = limited(s[j], range);
     }
 }
 
-// w sums, rounded, from place at on.
+// A line's sums, rounded, from place at on.
 // Kept: no twin of `put_rounded` in `stages`, whose sums stand in two halves that are added first.
-pub fn put_rounded(z: &[i32], w: usize, shift: u32, out: &mut [i32], at: usize)
-    requires { RoundNeeds w z.now shift × (at + w ≤ length out.old) }
-    ensures { Placed at w (λ j. round_shift (get_or z.now j (pos 0)) shift) out.old out.new }
+// Kept: at beside the slice: of a part of out that is lent, each clause would say too that what is around it stays.
+pub fn put_rounded<const W: usize>(z: &[i32; W], shift: u32, out: &mut [i32], at: usize)
+    requires { RoundNeeds W z.now shift × (at + W ≤ length out.old) }
+    ensures { Placed at W (λ j. round_shift (get_or z.now j (pos 0)) shift) out.old out.new }
 {
-    for j in 0..w {
+    for j in 0..W {
         out[at + j] = rounded(z[j], shift);
     }
 }
@@ -42,7 +42,7 @@ fn columns_4(kind: Kind, x: &[i32], nx: usize, shift: u32, out: &mut [i32])
     for c in 0..nx {
         let v = [x[c], x[c + 4], x[c + 8], x[c + 12]];
         let z = line_4(kind, v);
-        put_rounded(&z[..], 4, shift, out, c * 4);
+        put_rounded(&z, shift, out, c * 4);
     }
 }
 
@@ -52,11 +52,13 @@ pub fn stage_4(kind: Kind, s: &[i32], range: u32, nx: usize, shift: u32, out: &m
     ensures { Filled 4 4 (matrix_value (matrix_of kind 4) 4 (limited_up_to range s.now 16) 1 4 shift) nx out.old out.new }
 {
     let mut x = [0i32; 16];
-    limit(s, 16, range, &mut x[..]);
+    limit(s, range, &mut x[..]);
     columns_4(kind, &x[..], nx, shift, out);
 }
 
 // Both stages of 4 points.
+// Kept: shift, range and nx apart, here, in blocks.rt and in sizes.rt: the first stage takes range and nx, the second shift and range, and each would
+// take a struct apart.
 pub fn both_4(kind: Kind, shift: u32, range: u32, nx: usize, coeff: &[i32], out: &mut [i32])
     requires { StagesNeeds 4 shift range nx (length coeff.now) (length out.old) }
     ensures { Filled 4 4 (both_stages (matrix_of kind 4) 4 shift range nx coeff.now) 4 out.old out.new }

@@ -1,5 +1,5 @@
 // Stages of a block, over the size, with buffers of the size's own length: clearing those of size 32 would take longer than a block of size 8.
-// From 8 points on S is the size: A is the number of its values, and N of its points.
+// From 8 points on S is the size: A is the number of its values, and N of its points where an array takes it.
 ghost use Rattle.std.specs.Prelude.{◌≡◌, ◌+◌, ◌*◌, ◌<◌, ◌≤◌, length};
 ghost use Rattle.h265.specs.Matrix.{trans_matrix};
 ghost use Rattle.h265.specs.Transform.{intermediate, stage_two};
@@ -49,11 +49,12 @@ pub fn column_4(kind: Kind, coeff: &[i32], range: u32, column: usize, inter: &mu
     let mut r = [0i32; 4];
     limited_column(coeff, 4, range, column, &mut x[..]);
     let z = line_4(kind, x);
-    put_rounded(&z[..], 4, 7, &mut r[..], 0);
-    put_column(&r[..], 0, 4, range, inter, column);
+    put_rounded(&z, 7, &mut r[..], 0);
+    put_column(&r[..], range, inter, column);
 }
 
 // Both stages of a block of which the first S.ROWS rows and columns are used: A of its G values.
+// Kept: shift, range and nx apart, as in products.rt.
 fn both<S: Stage, const A: usize, const G: usize>(
     shift: u32,
     range: u32,
@@ -88,54 +89,41 @@ pub fn stages<W: Stage, Q: Stage, const A: usize, const B: usize>(
 }
 
 // Stage two over an intermediate in row order, in two parts where its values take more than 16 bits.
-fn wide_rows<S: Stage, const A: usize, const N: usize>(
-    inter: &[i32],
-    range: u32,
-    shift: u32,
-    out: &mut [i32],
-)
-    requires { SizeNeeds N range shift (length inter.now) (length out.old) × WholeStage S.ROWS S.POINTS N A }
-    ensures { Filled N N (stage_two (trans_matrix N) N shift (limited_block range N inter.now)) N out.old out.new }
+fn wide_rows<S: Stage, const A: usize>(inter: &[i32], range: u32, shift: u32, out: &mut [i32])
+    requires { SizeNeeds S.POINTS range shift (length inter.now) (length out.old) × WholeStage S.ROWS S.POINTS S.POINTS A }
+    ensures { Filled S.POINTS S.POINTS (stage_two (trans_matrix S.POINTS) S.POINTS shift (limited_block range S.POINTS inter.now)) S.POINTS out.old out.new }
 {
     let mut g = [0i32; A];
-    turn(inter, N, &mut g[..]);
-    pass::<S, A, A>(&g[..], range, N, shift, out);
+    turn(inter, S::POINTS, &mut g[..]);
+    pass::<S, A, A>(&g[..], range, S::POINTS, shift, out);
 }
 
 // The same; values that fit 16 bits are narrowed as they are turned over.
-pub fn rows<S: Stage, const A: usize, const N: usize>(
-    inter: &[i32],
-    range: u32,
-    shift: u32,
-    out: &mut [i32],
-)
-    requires { SizeNeeds N range shift (length inter.now) (length out.old) × WholeStage S.ROWS S.POINTS N A }
-    ensures { Filled N N (stage_two (trans_matrix N) N shift (limited_block range N inter.now)) N out.old out.new }
+pub fn rows<S: Stage, const A: usize>(inter: &[i32], range: u32, shift: u32, out: &mut [i32])
+    requires { SizeNeeds S.POINTS range shift (length inter.now) (length out.old) × WholeStage S.ROWS S.POINTS S.POINTS A }
+    ensures { Filled S.POINTS S.POINTS (stage_two (trans_matrix S.POINTS) S.POINTS shift (limited_block range S.POINTS inter.now)) S.POINTS out.old out.new }
 {
     if all_narrow(inter, A) {
         let mut l = [0i16; A];
-        turn(inter, N, &mut l[..]);
-        S::stage(&l[..], N, half(shift), shift, out);
+        turn(inter, S::POINTS, &mut l[..]);
+        S::stage(&l[..], S::POINTS, half(shift), shift, out);
     } else {
-        wide_rows::<S, A, N>(inter, range, shift, out);
+        wide_rows::<S, A>(inter, range, shift, out);
     }
 }
 
 // Stage one, in row order.
-pub fn columns<S: Stage, const A: usize, const N: usize>(
-    coeff: &[i32],
-    range: u32,
-    inter: &mut [i32],
-)
-    requires { SizeNeeds N range 7 (length coeff.now) (length inter.old) × WholeStage S.ROWS S.POINTS N A }
-    ensures { Filled N N (intermediate (trans_matrix N) N range (limited_block range N coeff.now)) N inter.old inter.new }
+pub fn columns<S: Stage, const A: usize>(coeff: &[i32], range: u32, inter: &mut [i32])
+    requires { SizeNeeds S.POINTS range 7 (length coeff.now) (length inter.old) × WholeStage S.ROWS S.POINTS S.POINTS A }
+    ensures { Filled S.POINTS S.POINTS (intermediate (trans_matrix S.POINTS) S.POINTS range (limited_block range S.POINTS coeff.now)) S.POINTS inter.old inter.new }
 {
     let mut g = [0i32; A];
-    pass::<S, A, A>(coeff, range, N, 7, &mut g[..]);
-    put_columns(&g[..], N, range, inter);
+    pass::<S, A, A>(coeff, range, S::POINTS, 7, &mut g[..]);
+    put_columns(&g[..], S::POINTS, range, inter);
 }
 
-// Kept: one function for this and `column_4` would take a trait over their lines with two impls, longer than both.
+// Kept: one function for this and `column_4` would take a trait over their lines with two impls, longer than both; as a closure the line would take
+// two clauses, on what it is asked and what it gives.
 // One column of stage one of 8 points.
 pub fn column_8(coeff: &[i32], range: u32, column: usize, inter: &mut [i32])
     requires { SizeNeeds 8 range 7 (length coeff.now) (length inter.old) × (column < 8) }
@@ -145,8 +133,8 @@ pub fn column_8(coeff: &[i32], range: u32, column: usize, inter: &mut [i32])
     let mut r = [0i32; 8];
     limited_column(coeff, 8, range, column, &mut x[..]);
     let z = line_8(x);
-    put_rounded(&z[..], 8, 7, &mut r[..], 0);
-    put_column(&r[..], 0, 8, range, inter, column);
+    put_rounded(&z, 7, &mut r[..], 0);
+    put_column(&r[..], range, inter, column);
 }
 
 // One column of stage one, in two parts where its values take more than 16 bits.
@@ -163,7 +151,7 @@ fn wide_column<S: Stage, const A: usize, const N: usize>(
     let mut r = [0i32; N];
     take_column(coeff, N, column, &mut x[..]);
     pass::<S, A, A>(&x[..], range, 1, 7, &mut r[..]);
-    put_column(&r[..], 0, N, range, inter, column);
+    put_column(&r[..], range, inter, column);
 }
 
 // The same; values that fit 16 bits are narrowed before they stand in a block.
@@ -181,7 +169,7 @@ pub fn column<S: Stage, const A: usize, const N: usize>(
         let mut r = [0i32; N];
         take_column(coeff, N, column, &mut l[..]);
         S::stage(&l[..], 1, 64, 7, &mut r[..]);
-        put_column(&r[..], 0, N, range, inter, column);
+        put_column(&r[..], range, inter, column);
     } else {
         wide_column::<S, A, N>(coeff, range, column, inter);
     }

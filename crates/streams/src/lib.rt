@@ -10,6 +10,7 @@ use std::fmt::Display;
 use std::io::Read;
 
 // Writes all bytes; answers whether that could be done. If not, some may have been written.
+// Kept: a bool, here and below: no caller reads why a write failed, and most go on without it.
 pub fn write_all(rt: &impl Print, bytes: &[u8]) -> bool {
     rt.write_all(bytes).is_ok()
 }

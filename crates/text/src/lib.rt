@@ -1,5 +1,5 @@
-// Text written into a lent buffer at a place; each function answers where the text ends. Internal: callers see that there is room,
-// for which 12 bytes a number are enough.
+// Text written into a lent buffer at a place; each function answers where the text ends. Internal: callers see that there is room: 12 bytes are
+// enough for a signed number of 32 bits and what follows it, 20 for one without a sign.
 #![tactic(auto)]
 
 ghost use Rattle.std.specs.Prelude.{◌≡◌, cond, ◌+◌, ◌*◌, ◌≤◌, ◌<◌, ltb, length};
@@ -7,6 +7,7 @@ ghost use Rattle.text.specs.Text.{unsigned_text, signed_text, row_text, block_te
 
 // Kept: a buffer and the place where its text ends stand apart, here and in the crates above: a struct of both would have to promise for the buffer that it stays the same one
 // (its ghost_name), a clause more for each.
+// Kept: no Display, for numbers, rows and blocks: a format answers a Result, and no clause of std says that it is Ok, even where there is room; these calls cannot fail.
 
 // Bytes as they are.
 pub fn put_bytes(bytes: &[u8], out: &mut [u8], at: usize) -> usize
@@ -19,6 +20,7 @@ pub fn put_bytes(bytes: &[u8], out: &mut [u8], at: usize) -> usize
 }
 
 // A number without a sign: at most 20 digits.
+// Kept: digits by hand: the kit's itoa makes the text in a buffer of its own, to be copied from there, and says it by std's decimal, which a law would have to bring to `unsigned_text`: no shorter than these lines.
 pub fn put_unsigned(n: u64, out: &mut [u8], at: usize) -> usize
     requires { at + length (unsigned_text n) ≤ length out.old }
     ensures { Wrote out.old at (unsigned_text n) out.new result }

@@ -28,6 +28,7 @@ pub trait Output: Copy {
     fn of(x: i32) -> Self
         ensures { value result ≡ made x };
 
+    // `true` only where the number is 0; `false` says nothing.
     fn is_zero(self) -> bool
         ensures { result ≡ true → value self ≡ pos 0 };
 }
@@ -139,6 +140,8 @@ fn column<const A: usize, const Q: usize, const N: usize>(a: &[i16; A], c: usize
 }
 
 // Eight of a line's outputs, from output `from` on, rounded, from place at on.
+// Kept: places beside the arrays and slices, here and below: an array is lent as an array, and a part of a slice that is handed on costs the
+// compiler its vectors (crate `stages`).
 #[inline(always)]
 fn put_part<const V: usize, const N: usize>(
     v: &mut [i32; V],
@@ -253,7 +256,7 @@ pub trait Stage {
 
     ghost ROWS: { ℕ };
 
-    // Kept: half and s as two numbers: the calls differ in both (`half(s)` and s, half of another shift, 64 and 7, 0 and 0), and a type of both would be made at
+    // Kept: half and s as two numbers, here and above: the calls differ in both (`half(s)` and s, half of another shift, 64 and 7, 0 and 0), and a type of both would be made at
     // each of them.
     fn stage<T: Output>(a: &[i16], count: usize, half: i32, s: u32, out: &mut [T])
         requires { StageNeeds ROWS POINTS a.now count half s (length out.old) }

@@ -23,7 +23,7 @@ fn parts<S: Stage, const A: usize, const G: usize>(
     let mut h = [0i16; A];
     let mut l = [0i16; A];
     let mut g = [0i32; G];
-    split(s, A, range - 15, &mut h[..], &mut l[..]);
+    split(s, range - 15, &mut h[..], &mut l[..]);
     S::stage(&h[..], count, 0, 0, &mut g[..]);
     S::stage(&l[..], count, half(shift), range - 15, out);
     join(&g[..], count * S::POINTS, shift + 15 - range, out);
@@ -42,7 +42,7 @@ pub fn pass<S: Stage, const A: usize, const G: usize>(
 {
     if all_narrow(s, A) {
         let mut l = [0i16; A];
-        narrow(s, A, &mut l[..]);
+        narrow(s, &mut l[..]);
         S::stage(&l[..], count, half(shift), shift, out);
     } else {
         parts::<S, A, G>(s, range, count, shift, out);

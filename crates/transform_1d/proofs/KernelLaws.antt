@@ -147,13 +147,13 @@ module _ (t s : List ℤ) (base stride : ℕ) where
           ]
 
 -- four rows, which are all of a line of 4 points
-pub half_sums_four : {t s : List ℤ} {base : ℕ} {y : List ℤ}
-    → Added (row_pair t 0 (get_or s base (pos 0)) (get_or s (base + 4) (pos 0)) (get_or s (base + 8) (pos 0)) (get_or s (base + 12) (pos 0))) (replicate 32 (pos 0)) 16 y
-    → HalfSums t s base 4 1 y
-half_sums_four {t} {s} {base} {y} a =
-    let e : base ≡ base + 4 * 0 * 4 = omega arith in
-    half_sums_suc t s base 4 0 (half_sums_zero t s base 4)
-    (subst (λ (k : ℕ). Added (row_pair t 0 (get_or s k (pos 0)) (get_or s (k + 4) (pos 0)) (get_or s (k + 8) (pos 0)) (get_or s (k + 12) (pos 0))) (replicate 32 (pos 0)) 16 y) e a)
+pub half_sums_four : {t s : List ℤ} {base stride : ℕ} {y : List ℤ}
+    → Added (row_pair t 0 (get_or s base (pos 0)) (get_or s (base + stride) (pos 0)) (get_or s (base + 2 * stride) (pos 0)) (get_or s (base + 3 * stride) (pos 0))) (replicate 32 (pos 0)) 16 y
+    → HalfSums t s base stride 1 y
+half_sums_four {t} {s} {base} {stride} {y} a =
+    let e : base ≡ base + 4 * 0 * stride = omega arith in
+    half_sums_suc t s base stride 0 (half_sums_zero t s base stride)
+    (subst (λ (k : ℕ). Added (row_pair t 0 (get_or s k (pos 0)) (get_or s (k + stride) (pos 0)) (get_or s (k + 2 * stride) (pos 0)) (get_or s (k + 3 * stride) (pos 0))) (replicate 32 (pos 0)) 16 y) e a)
 
 -- ---- both halves
 mirrored_even : (i : ℕ) (x : ℤ) → mirrored (2 * i) x ≡ x

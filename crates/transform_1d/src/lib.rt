@@ -135,12 +135,21 @@ fn add_rows(z: &mut [i32; 32], t: &[i16], a: i16, b: i16, d: i16, f: i16)
     }
 }
 
-// The 4-point line over s[base], s[base + 4], ..; with the DST's layout, the DST's.
-pub fn idct_raw_4(t: &[i16], s: &[i16], base: usize) -> [i32; 32]
-    requires { LineNeeds 4 t.now s.now base 4 1 }
-    ensures { LineSums t.now s.now base 4 1 result }
+// The 4-point line over s[base], s[base + stride], ..; with the DST's layout, the DST's. It has one group of four rows, or none.
+pub fn idct_raw_4(t: &[i16], s: &[i16], base: usize, stride: usize, groups: usize) -> [i32; 32]
+    requires { LineNeeds 4 t.now s.now base stride groups }
+    ensures { LineSums t.now s.now base stride groups result }
 {
     let mut z = [0i32; 32];
-    add_rows(&mut z, t, s[base], s[base + 4], s[base + 8], s[base + 12]);
+    if groups == 1 {
+        add_rows(
+            &mut z,
+            t,
+            s[base],
+            s[base + stride],
+            s[base + 2 * stride],
+            s[base + 3 * stride],
+        );
+    }
     z
 }

@@ -15,6 +15,7 @@ use transform_1d::Kind;
 
 // The refusals of both widths, lowest number first, by the lengths of the buffers. Row 3 is of 16-bit output alone.
 // Kept: a flag for row 3, which stands in the middle of the order: two functions would each repeat what is before it and after it.
+// Kept: each length is a number of its own, which one line measures.
 fn block_refusal(
     narrow: bool,
     n: usize,

@@ -4,7 +4,7 @@
 // the output. tests/transform_cases.py writes cases and text.
 #![tactic(auto)]
 
-use cases::Number;
+use cases::{Number, UnknownNumber};
 use refusal::Refusal;
 use std::fmt::Display;
 use std::io::Read;
@@ -30,14 +30,10 @@ enum Narrow {
     Dst,
 }
 
-// A number that a case gives no function.
-#[derive(Clone, Copy)]
-struct UnknownFunction;
-
 impl TryFrom<u8> for Function {
-    type Error = UnknownFunction;
+    type Error = UnknownNumber;
 
-    fn try_from(number: u8) -> Result<Function, UnknownFunction> {
+    fn try_from(number: u8) -> Result<Function, UnknownNumber> {
         match number {
             0 => Ok(Function::Wide(Wide::Dct)),
             1 => Ok(Function::Wide(Wide::DctExtended)),
@@ -45,7 +41,7 @@ impl TryFrom<u8> for Function {
             3 => Ok(Function::Wide(Wide::DstExtended)),
             4 => Ok(Function::Narrow(Narrow::Dct)),
             5 => Ok(Function::Narrow(Narrow::Dst)),
-            _ => Err(UnknownFunction),
+            _ => Err(UnknownNumber),
         }
     }
 }
@@ -113,7 +109,7 @@ fn replay(rt: &impl Print, stdin: &mut impl Read) -> bool {
     if !cases::copy_text(rt, stdin) {
         return false;
     }
-    let Ok(function) = Function::try_from(cases::next::<u8>(stdin)) else {
+    let Ok(function) = Function::try_from(cases::next::<u8, _>(stdin)) else {
         return false;
     };
     let case = Case {

@@ -15,7 +15,7 @@ use native.Mathlib.Nat.{not-suc-le-zero, zero-add, mul-le-mul_left, mul-add}
 use native.Mathlib.Decide.{ℕ_discrete}
 use native.Mathlib.Omega.{arith}
 use lib.IntN.{ℤ, pos, negsuc, neg_ℤ, ◌+ℤ◌, ◌-ℤ◌, ◌*ℤ◌}
-use lib.ListN.{get_or}
+use lib.ListN.{length, get_or}
 use lib.Pow.{pow_pos, pow-add, pow_mono}
 use lib.Signed.{shr_z, lt_z, ◌≤ℤ◌, ◌<ℤ◌}
 use mir.Syntax.{w16, w32}
@@ -181,16 +181,16 @@ pub placed_run : {w : ℕ} {f : ℕ → ℤ} {xs ys : List ℤ} → Placed 0 w f
 placed_run {ys = ys} p i h = ap (λ (k : ℕ). get_or ys k (pos 0)) (sym (zero-add i)) ∙ p.done i h
 
 -- what is left, limited once more
-pub lows_over : {w : ℕ} (k : ℕ) (xs : List ℤ) {l₀ l₁ l₂ : List ℤ} {most : ℤ} → k ≤ 7 → most ≡ pow2 k -ℤ pos 1
-    → Placed 0 w (λ j. clip_coeff 15 (get_or xs j (pos 0) -ℤ pow2 k *ℤ high_of k (get_or xs j (pos 0)))) l₀ l₁
-    → Placed 0 w (λ j. clip3 (pos 0) most (get_or l₁ j (pos 0))) l₁ l₂ → Placed 0 w (λ j. low_of k (get_or xs j (pos 0))) l₀ l₂
-lows_over {w} k xs {l₀} {l₁} {l₂} {most} h e p q =
+pub lows_over : (k : ℕ) (xs : List ℤ) {l₀ l₁ l₂ : List ℤ} {most : ℤ} → k ≤ 7 → most ≡ pow2 k -ℤ pos 1
+    → Placed 0 (length l₀) (λ j. clip_coeff 15 (get_or xs j (pos 0) -ℤ pow2 k *ℤ high_of k (get_or xs j (pos 0)))) l₀ l₁
+    → Placed 0 (length l₁) (λ j. clip3 (pos 0) most (get_or l₁ j (pos 0))) l₁ l₂ → Placed 0 (length l₀) (λ j. low_of k (get_or xs j (pos 0))) l₀ l₂
+lows_over k xs {l₀} {l₁} {l₂} {most} h e p q =
     record {
       long = q.long ∙ p.long;
       done = λ j i.
-          q.done j i
+          q.done j (omega (arith, p.long))
           ∙ ap (clip3 (pos 0) most) (placed_run p j i)
           ∙ ap (λ (z : ℤ). clip3 (pos 0) z (clip_coeff 15 (get_or xs j (pos 0) -ℤ pow2 k *ℤ high_of k (get_or xs j (pos 0))))) e
           ∙ low_rest k (get_or xs j (pos 0)) h;
-      kept = λ i a. q.kept i a ∙ p.kept i a;
+      kept = λ i a. q.kept i (λ j l. a j (omega (arith, p.long))) ∙ p.kept i a;
     }

@@ -12,17 +12,17 @@ ghost use Rattle.h265.specs.Range.{clip_coeff};
 ghost use Rattle.transform_1d.specs.Rows.{Placed};
 ghost use Rattle.wide_parts.specs.Split.{high_of, low_of, Narrow, JoinNeeds};
 
-// Whether x takes more than 16 bits.
+// `false` only where x fits 16 bits; `true` says nothing.
 pub fn is_wide(x: i32) -> bool
     ensures { result ≡ false → SFits w16 x }
 {
     i16::try_from(x).is_err()
 }
 
-// Whether the first w values all fit 16 bits.
+// `true` only where the first w values all fit 16 bits; `false` says nothing.
 // Kept: a loop with no early end, here and in `stages_wide`, of which the compiler tests several at a time; `all`, compiled, tests one at a time.
-// Kept: w beside the slices, here and below. What is lent is longer than what is read, and a part of a slice that is handed on costs the
-// compiler its vectors (crate `stages`).
+// Kept: w beside the slices, here, in `all_narrow` and in `join`: a block is longer than the values that are read, and a part of a slice that is
+// handed on costs the compiler its vectors (crate `stages`).
 fn narrow_run(s: &[i32], w: usize) -> bool
     requires { w ≤ length s.now }
     ensures { result ≡ true → Narrow w s.now }
@@ -36,7 +36,7 @@ fn narrow_run(s: &[i32], w: usize) -> bool
     fits
 }
 
-// The same, with a look at an eighth of the values first: where values take more than 16 bits, one of those mostly does.
+// The same, `false` saying nothing, with a look at an eighth of the values first: where values take more than 16 bits, one of those mostly does.
 pub fn all_narrow(s: &[i32], w: usize) -> bool
     requires { w ≤ length s.now }
     ensures { result ≡ true → Narrow w s.now }
@@ -47,19 +47,20 @@ pub fn all_narrow(s: &[i32], w: usize) -> bool
     narrow_run(s, w)
 }
 
-// The first w values, in 16 bits.
+// The first values, in 16 bits: as many as l has.
+// Kept: by the index, here and below, in `stages` and in `stages_wide`: the clause speaks of the places, which a zip of both slices would not name.
 // Kept: no twin of `narrow` in `stages`, which limits values of any size: these fit as they stand, and none is limited.
-pub fn narrow(s: &[i32], w: usize, l: &mut [i16])
-    requires { (w ≤ length s.now) × (w ≤ length l.old) × Narrow w s.now }
-    ensures { Placed 0 w (λ j. get_or s.now j (pos 0)) l.old l.new }
+pub fn narrow(s: &[i32], l: &mut [i16])
+    requires { (length l.old ≤ length s.now) × Narrow (length l.old) s.now }
+    ensures { Placed 0 (length l.old) (λ j. get_or s.now j (pos 0)) l.old l.new }
 {
-    for j in 0..w {
+    for j in 0..l.len() {
         l[j] = s[j] as i16;
     }
 }
 
 // The high part of x.
-// Kept: k as a number with its bound in each contract: a type for it would be made once, in `tiles_wide`, and taken apart at every shift.
+// Kept: k as a number with its bound in each contract: high_of and low_of speak of k, so that each clause would name the field of a type for it.
 fn high(x: i32, k: u32) -> i16
     requires { k ≤ 7 }
     ensures { result ≡ high_of k x }
@@ -67,12 +68,12 @@ fn high(x: i32, k: u32) -> i16
     tiles::limited(x >> k)
 }
 
-// The high parts of the first w values.
-fn highs(s: &[i32], w: usize, k: u32, h: &mut [i16])
-    requires { (k ≤ 7) × (w ≤ length s.now) × (w ≤ length h.old) }
-    ensures { Placed 0 w (λ j. high_of k (get_or s.now j (pos 0))) h.old h.new }
+// The high parts of the first values: as many as h has.
+fn highs(s: &[i32], k: u32, h: &mut [i16])
+    requires { (k ≤ 7) × (length h.old ≤ length s.now) }
+    ensures { Placed 0 (length h.old) (λ j. high_of k (get_or s.now j (pos 0))) h.old h.new }
 {
-    for j in 0..w {
+    for j in 0..h.len() {
         h[j] = high(s[j], k);
     }
 }
@@ -85,12 +86,12 @@ fn rest(x: i32, h: i16, k: u32) -> i16
     tiles::limited(x - (1i32 << k) * (h as i32))
 }
 
-// What is left of the first w values.
-fn rests(s: &[i32], h: &[i16], w: usize, k: u32, l: &mut [i16])
-    requires { (k ≤ 7) × (w ≤ length s.now) × (w ≤ length h.now) × (w ≤ length l.old) × ((j : ℕ) → j < w → get_or h.now j (pos 0) ≡ high_of k (get_or s.now j (pos 0))) }
-    ensures { Placed 0 w (λ j. clip_coeff 15 (get_or s.now j (pos 0) -ℤ pow2 k *ℤ high_of k (get_or s.now j (pos 0)))) l.old l.new }
+// What is left of the first values: as many as l has.
+fn rests(s: &[i32], h: &[i16], k: u32, l: &mut [i16])
+    requires { (k ≤ 7) × (length l.old ≤ length s.now) × (length l.old ≤ length h.now) × ((j : ℕ) → j < length l.old → get_or h.now j (pos 0) ≡ high_of k (get_or s.now j (pos 0))) }
+    ensures { Placed 0 (length l.old) (λ j. clip_coeff 15 (get_or s.now j (pos 0) -ℤ pow2 k *ℤ high_of k (get_or s.now j (pos 0)))) l.old l.new }
 {
-    for j in 0..w {
+    for j in 0..l.len() {
         l[j] = rest(s[j], h[j], k);
     }
 }
@@ -103,13 +104,13 @@ fn between(x: i16, most: i16) -> i16
     x.clamp(0, most)
 }
 
-// The first w values limited to 0 .. most, in a pass of its own: in one with what is before it the compiler leaves its 16-bit limits.
-fn bounded(l: &mut [i16], w: usize, most: i16)
-    requires { (pos 0 ≤ℤ most) × (w ≤ length l.old) }
-    ensures { Placed 0 w (λ j. clip3 (pos 0) most (get_or l.old j (pos 0))) l.old l.new }
+// All values limited to 0 .. most, in a pass of its own: in one with what is before it the compiler leaves its 16-bit limits.
+fn bounded(l: &mut [i16], most: i16)
+    requires { pos 0 ≤ℤ most }
+    ensures { Placed 0 (length l.old) (λ j. clip3 (pos 0) most (get_or l.old j (pos 0))) l.old l.new }
 {
-    for j in 0..w {
-        l[j] = between(l[j], most);
+    for x in l.iter_mut() {
+        *x = between(*x, most);
     }
 }
 
@@ -121,23 +122,23 @@ fn low_most(k: u32) -> i16
     ((1i32 << k) - 1) as i16
 }
 
-// The low parts of the first w values.
-fn lows(s: &[i32], h: &[i16], w: usize, k: u32, l: &mut [i16])
-    requires { (k ≤ 7) × (w ≤ length s.now) × (w ≤ length h.now) × (w ≤ length l.old) × ((j : ℕ) → j < w → get_or h.now j (pos 0) ≡ high_of k (get_or s.now j (pos 0))) }
-    ensures { Placed 0 w (λ j. low_of k (get_or s.now j (pos 0))) l.old l.new }
+// The low parts of the first values: as many as l has.
+fn lows(s: &[i32], h: &[i16], k: u32, l: &mut [i16])
+    requires { (k ≤ 7) × (length l.old ≤ length s.now) × (length l.old ≤ length h.now) × ((j : ℕ) → j < length l.old → get_or h.now j (pos 0) ≡ high_of k (get_or s.now j (pos 0))) }
+    ensures { Placed 0 (length l.old) (λ j. low_of k (get_or s.now j (pos 0))) l.old l.new }
 {
-    rests(s, h, w, k, l);
-    bounded(l, w, low_most(k));
+    rests(s, h, k, l);
+    bounded(l, low_most(k));
 }
 
-// Both parts of the first w values.
-pub fn split(s: &[i32], w: usize, k: u32, h: &mut [i16], l: &mut [i16])
-    requires { (k ≤ 7) × (w ≤ length s.now) × (w ≤ length h.old) × (w ≤ length l.old) }
-    ensures placed { Placed 0 w (λ j. high_of k (get_or s.now j (pos 0))) h.old h.new }
-    ensures placed_2 { Placed 0 w (λ j. low_of k (get_or s.now j (pos 0))) l.old l.new }
+// Both parts of the first values: as many as h and l have.
+pub fn split(s: &[i32], k: u32, h: &mut [i16], l: &mut [i16])
+    requires { (k ≤ 7) × (length h.old ≤ length s.now) × (length l.old ≡ length h.old) }
+    ensures placed { Placed 0 (length h.old) (λ j. high_of k (get_or s.now j (pos 0))) h.old h.new }
+    ensures placed_2 { Placed 0 (length l.old) (λ j. low_of k (get_or s.now j (pos 0))) l.old l.new }
 {
-    highs(s, w, k, h);
-    lows(s, h, w, k, l);
+    highs(s, k, h);
+    lows(s, h, k, l);
 }
 
 // (l + h) >> by.

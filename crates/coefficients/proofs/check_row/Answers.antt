@@ -8,7 +8,7 @@ use mir.Syntax.{w32}
 use mir.Val.{SFits}
 use Rattle.integers.specs.Search.{first_where}
 use Rattle.integers.proofs.MachineLaws.{round_trip}
-use Rattle.integers.proofs.SearchLaws.{none_zero, none_suc, first_where-none, first_where_found}
+use Rattle.integers.proofs.SearchLaws.{first_where-none, first_where_found}
 use Rattle.h265.specs.Range.{outside_range}
 use Rattle.coefficients.proofs.check_row.Goals as goal
 use Rattle.coefficients.proofs.check_row.Goals.{After-is_outside}

@@ -1,9 +1,9 @@
 -- `coefficients::check_rows` meets its contract: each row that passes leaves none in its columns, and the first that does not is the search's.
 use mathlib.Core.Path.{◌≡◌}
-use native.Mathlib.Nat.{mul-le-mul_right, zero-mul}
+use native.Mathlib.Nat.{mul-le-mul_right}
 use native.Mathlib.Omega.{arith}
 use Rattle.std.proofs.Common.{rules, Err}
-use Rattle.integers.proofs.SearchLaws.{none_zero, none_le}
+use Rattle.integers.proofs.SearchLaws.{none_le}
 use Rattle.h265.proofs.RangeLaws.{size_bound}
 use Rattle.coefficients.proofs.OutsideLaws.{row_passes, row_refuses, none_passes}
 use Rattle.coefficients.proofs.RowsLaws.{row_slice, row_slice-long, row_slice-same}

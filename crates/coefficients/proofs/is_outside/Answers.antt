@@ -1,18 +1,14 @@
 -- `coefficients::is_outside` meets its contract: the ends of the range that is searched are those of the definition.
 use mathlib.Core.Path.{◌≡◌, refl}
 use mathlib.Core.Bool.{Bool, true, false, not, ◌&&◌, ◌||◌}
-use Prim.Native.Nat.{◌*◌, ◌%◌, ◌^◌}
-use native.Mathlib.Omega.{arith}
-use lib.IntN.{ℤ, pos, ◌-ℤ◌}
+use lib.IntN.{ℤ}
 use lib.Signed.{lt_z}
-use mir.Syntax.{w32}
-use mir.Val.{to_z}
 use Rattle.std.specs.Ordering.{int_cmp, is_le}
-use Rattle.integers.proofs.MachineLaws.{round_trip, shl_one, lt_z_of_le, lt_z_true}
+use Rattle.integers.proofs.MachineLaws.{round_trip, lt_z_of_le, lt_z_true}
 use Rattle.integers.proofs.OrderLaws.{<ℤ-≤ℤ}
 use Rattle.h265.specs.Range.{coeff_min, coeff_max, outside_range}
-use Rattle.h265.proofs.RangeLaws.{coeff_min_within, coeff_max_within, coeff_min_eq, coeff_max_eq}
-use Rattle.coefficients.proofs.OutsideLaws.{range_fits}
+use Rattle.h265.proofs.RangeLaws.{coeff_min_within, coeff_max_within}
+use Rattle.coefficients.proofs.OutsideLaws.{range_fits, low_end, high_end}
 use Rattle.coefficients.proofs.is_outside.Goals as goal
 use Rattle.coefficients.proofs.is_outside.Goals.{Start}
 
@@ -32,17 +28,11 @@ outside_is lo hi x = rw (le_is lo x, le_is x hi) (either (lt_z x lo) (lt_z hi x)
     either false true = refl
     either false false = refl
 
-low_is : (c : Start) → pos 0 -ℤ to_z w32 ((1 * 2 ^ c.args.range) % 4294967296) ≡ coeff_min c.args.range
-low_is c = coeff_min_eq _ c.args.range (shl_one w32 c.args.range (omega (arith, c.requires)))
-
-high_is : (c : Start) → to_z w32 ((1 * 2 ^ c.args.range) % 4294967296) -ℤ pos 1 ≡ coeff_max c.args.range
-high_is c = coeff_max_eq _ c.args.range (shl_one w32 c.args.range (omega (arith, c.requires)))
-
 pub overflow_sub-end : goal.overflow_sub-end
-overflow_sub-end c = rw (low_is c) (range_fits c.args.range c.requires (coeff_min_within c.args.range))
+overflow_sub-end c = rw (low_end c.args.range c.requires) (range_fits c.args.range c.requires (coeff_min_within c.args.range))
 
 pub overflow_sub-end-2 : goal.overflow_sub-end-2
-overflow_sub-end-2 c = rw (high_is (goal.at.overflow_sub-end-2 c).Start) (range_fits c.args.range c.requires (coeff_max_within c.args.range))
+overflow_sub-end-2 c = rw (high_end c.args.range c.requires) (range_fits c.args.range c.requires (coeff_max_within c.args.range))
 
 pub returns : goal.returns
 unfolding outside_range
@@ -54,7 +44,7 @@ returns c =
       c.new.ensures.exhausted,
       round_trip c.ranges.x,
       round_trip (overflow_sub-end (goal.at.returns c).Start),
-      low_is (goal.at.returns c).Start,
+      low_end c.args.range c.requires,
       round_trip (overflow_sub-end-2 (goal.at.returns c).Start),
-      high_is (goal.at.returns c).Start,
+      high_end c.args.range c.requires,
     ) (outside_is (coeff_min c.args.range) (coeff_max c.args.range) c.args.x)

@@ -10,7 +10,7 @@ use Rattle.h265.proofs.RangeLaws.{transform_range_least, transform_range_most, t
 use Rattle.edit_tables.specs.Tables.{StageNeeds}
 use Rattle.edit_blocks.proofs.FindLaws.{range_within, stage_ask, one_within, between_within, Prepared, prepared_ask, written_least, written_most}
 use Rattle.edit_blocks.proofs.find.Goals as goal
-use Rattle.edit_blocks.proofs.find.Goals.{After-all_indices-arg-2-1, After-d-1, After-transform_range-range, Start}
+use Rattle.edit_blocks.proofs.find.Goals.{After-twos-1, After-d-1, After-transform_range-range, Start}
 
 module _ (c : After-transform_range-range) where
   abbrev r : ℕ
@@ -56,11 +56,11 @@ along_rows-twos-requires c =
     stage_ask s.args.kind s.requires.size m.matrix-t.ensures g.limited-between.ensures (λ i j hi hj. between_within _ _ (range_is (goal.at.along_rows-twos-requires c).After-transform_range-range).1)
 
 -- where the range was worked out
-abbrev range_at : After-all_indices-arg-2-1 → After-transform_range-range
-range_at c = (goal.at.all_indices-requires c).After-transform_range-range
+abbrev range_at : After-twos-1 → After-transform_range-range
+range_at c = (goal.at.invariant_of-search c).After-transform_range-range
 
 -- the tables
-prepared : (c : After-all_indices-arg-2-1)
+prepared : (c : After-twos-1)
     → let y = c in
     let g = y in
     let o = g in
@@ -78,7 +78,7 @@ prepared c =
     record {
       size = s.requires.size;
       range = (range_is (range_at c)).1;
-      inside = coeff_within (goal.at.all_indices-requires c).Start;
+      inside = coeff_within (goal.at.invariant_of-search c).Start;
       matrix = m.matrix-t.ensures;
       coeff = w.widened-d.ensures;
       one = o.down_columns-ones.ensures;
@@ -86,26 +86,20 @@ prepared c =
       two = y.along_rows-twos.ensures;
     }
 
-shift_within : (c : After-all_indices-arg-2-1) → (1 ≤ c.stage_two_shift-shift.result) × (c.stage_two_shift-shift.result ≤ 12)
+shift_within : (c : After-twos-1) → (1 ≤ c.stage_two_shift-shift.result) × (c.stage_two_shift-shift.result ≤ 12)
 unfolding stage_two_shift
 shift_within c = rw c.stage_two_shift-shift.ensures (omega (arith, range_is (range_at c), c.requires.depth), omega (arith, range_is (range_at c)))
 
-pub all_indices-requires : goal.all_indices-requires
-all_indices-requires c =
-    let t = range_at c in
-    let s = t in (
-      prepared_ask (prepared c) (shift_within c) s.requires.targets s.requires.wants,
-      s.requires.leasts,
-      s.requires.mosts,
-    )
+pub invariant_of-search : goal.invariant_of-search
+invariant_of-search c = record { ready = prepared_ask (prepared c) (shift_within c) c.requires.targets c.requires.wants }
 
 pub returns : goal.returns
 returns c =
     let d = c in
     let g = d in
-    let t = range_at (goal.at.returns c).After-all_indices-arg-2-1 in
+    let t = range_at (goal.at.returns c).After-twos-1 in
     let s = t in
     let a = s.args in (
-      (rw d.stage_two_shift-shift.ensures at d.all_indices.ensures.0) ∙ written_least a.precision.bit_depth a.precision.extended t.transform_range-range.ensures (prepared (goal.at.returns c).After-all_indices-arg-2-1) a.target.now a.wanted.now s.requires.coeff a.least.now,
-      (rw d.stage_two_shift-shift.ensures at d.all_indices.ensures.1) ∙ written_most a.precision.bit_depth a.precision.extended t.transform_range-range.ensures (prepared (goal.at.returns c).After-all_indices-arg-2-1) a.target.now a.wanted.now s.requires.coeff a.most.now,
+      (rw d.stage_two_shift-shift.ensures at d.all_indices.ensures.0) ∙ written_least a.precision.bit_depth a.precision.extended t.transform_range-range.ensures (prepared (goal.at.returns c).After-twos-1) a.target.now a.wanted.now s.requires.coeff a.least.now,
+      (rw d.stage_two_shift-shift.ensures at d.all_indices.ensures.1) ∙ written_most a.precision.bit_depth a.precision.extended t.transform_range-range.ensures (prepared (goal.at.returns c).After-twos-1) a.target.now a.wanted.now s.requires.coeff a.most.now,
     )

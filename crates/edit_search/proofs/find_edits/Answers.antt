@@ -7,7 +7,7 @@ use Rattle.h265.proofs.RangeLaws.{transform_range_most}
 use Rattle.refusal.specs.Outcome.{answer}
 use Rattle.refusal.proofs.ConditionLaws.{size_accepted, depth_accepted, block_room}
 use Rattle.refusal.proofs.LadderLaws.{Passed}
-use Rattle.edit_search.proofs.FoundLaws.{rungs, edits_refused, edits_passed, edits_outside, edits_done, edits_ask}
+use Rattle.edit_search.proofs.FoundLaws.{rungs, without_list, edits_refused, edits_passed, edits_outside, edits_done, edits_ask}
 use Rattle.edit_search.proofs.find_edits.Goals as goal
 use Rattle.edit_search.proofs.find_edits.Goals.{In_ok-edit_refusal}
 
@@ -18,7 +18,7 @@ passed : (c : In_ok-edit_refusal)
 passed c =
     let a = c.args in
     edits_passed a.kind a.n a.precision.bit_depth a.precision.extended a.coeff.now a.target.now a.wanted.now a.least.now a.most.now
-    (ap answer (sym c.in_ok-edit_refusal.was) ∙ c.edit_refusal.ensures)
+    (ap answer (sym c.in_ok-edit_refusal.was) ∙ c.edit_refusal.ensures ∙ without_list _ _ _ _ _ _ _ _ _ _)
 
 pub transform_range-range-requires : goal.transform_range-range-requires
 transform_range-range-requires c = (depth_accepted c.args.precision.bit_depth (passed c).1.0).1
@@ -58,4 +58,4 @@ returns-in_err-edit_refusal c =
     let a = c.args in
     let told : c.from_residual.result ≡ Err c.in_err-edit_refusal.field-0.0 = search rules in
     rw told
-    (edits_refused a.kind a.n a.precision.bit_depth a.precision.extended a.coeff.now a.target.now a.wanted.now a.least.now a.most.now c.in_err-edit_refusal.field-0.0 (ap answer (sym c.in_err-edit_refusal.was) ∙ c.edit_refusal.ensures))
+    (edits_refused a.kind a.n a.precision.bit_depth a.precision.extended a.coeff.now a.target.now a.wanted.now a.least.now a.most.now c.in_err-edit_refusal.field-0.0 (ap answer (sym c.in_err-edit_refusal.was) ∙ c.edit_refusal.ensures ∙ without_list _ _ _ _ _ _ _ _ _ _))

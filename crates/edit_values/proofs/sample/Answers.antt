@@ -3,10 +3,8 @@ use mir.Syntax.{w64}
 use mathlib.Core.Path.{◌≡◌, ◌∙◌}
 use borrow.Author.Rules.{sfits_of}
 use Rattle.integers.proofs.MachineLaws.{round_trip}
-use Rattle.integers.proofs.BoundLaws.{within_le}
 use Rattle.edit_values.specs.Sample.{stage_one_by, sample_by}
 use Rattle.edit_values.proofs.ProbeLaws.{entry-one_fits, entry_two_fits, rest_one_fits, rest_two_fits}
-use native.Mathlib.Omega.{arith}
 use Rattle.edit_values.proofs.sample.Goals as goal
 use Rattle.edit_values.proofs.sample.Goals.{After-stage_one-between}
 

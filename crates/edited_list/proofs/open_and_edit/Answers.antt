@@ -3,13 +3,13 @@ use mathlib.Core.Path.{◌≡◌, refl}
 use mathlib.Core.List.{List}
 use Prim.Native.Nat.{ℕ}
 use lib.ListN.{length}
-use Rattle.std.proofs.Common.{rules, Err}
+use Rattle.std.proofs.Common.{rules, Ok, Err}
 use Rattle.block_rules.specs.Edit.{Buffers, buffers}
 use Rattle.block_rules.specs.Opening.{Opening, on_coefficients}
 use Rattle.block_rules.specs.Level.{levels_opened}
 use Rattle.edited_history.specs.History.{Edit}
 use Rattle.edited_steps.specs.Steps.{Slices, slices, edit_count, edits_of}
-use Rattle.edited_list.proofs.ListedLaws.{opens_held, opens_held-refused, lists_after, lists-refused}
+use Rattle.edited_list.proofs.ListedLaws.{opens_held, opens_held-refused, lists-refused, lists_given}
 use Rattle.edited_list.proofs.open_and_edit.Goals as goal
 use Rattle.edited_list.proofs.open_and_edit.Goals.{Start}
 
@@ -40,5 +40,5 @@ returns-in_err-opening c =
 pub returns : goal.returns
 returns c =
     let s = c in
-    lists_after (opening (goal.at.returns c).Start) s.args.levels.now (lent (goal.at.returns c).Start) (edits (goal.at.returns c).Start) (told (goal.at.returns c).Start) c.edit_after.result (levels_opened 0 c.in_ok-opening.field-0) s.args.coeff.now c.open_block-opening.new.inter c.open_block-opening.new.residual _ _ _ _ _
+    lists_given (opening (goal.at.returns c).Start) s.args.levels.now (lent (goal.at.returns c).Start) (edits (goal.at.returns c).Start) (told (goal.at.returns c).Start) (Ok (levels_opened 0 c.in_ok-opening.field-0)) c.edit_after.result s.args.coeff.now c.open_block-opening.new.inter c.open_block-opening.new.residual _ _ _ _ _
     (opens_held (opening (goal.at.returns c).Start) s.args.levels.now (lent (goal.at.returns c).Start) c.open_block-opening.new.inter c.open_block-opening.new.residual refl c.in_ok-opening.field-0 (rw c.in_ok-opening.was at c.open_block-opening.ensures)) c.edit_after.ensures

@@ -1,9 +1,7 @@
 -- `edited_list::open_levels_and_edit` meets its contract: the opening and the edits after it are what `listed` says.
-use mathlib.Core.Path.{◌≡◌}
 use mathlib.Core.List.{List}
 use Prim.Native.Nat.{ℕ}
 use lib.ListN.{length}
-use Rattle.std.proofs.Common.{rules, Err}
 use Rattle.scaling_values.specs.Given.{list_of}
 use Rattle.block_rules.specs.Edit.{Buffers, buffers}
 use Rattle.block_rules.specs.Opening.{Opening}
@@ -11,7 +9,7 @@ use Rattle.block_rules.specs.Level.{on_levels_by}
 use Rattle.edited_history.specs.History.{Edit}
 use Rattle.edited_history.specs.Run.{held_opened}
 use Rattle.edited_steps.specs.Steps.{Slices, slices, edit_count, edits_of}
-use Rattle.edited_list.proofs.ListedLaws.{lists_after, lists-refused}
+use Rattle.edited_list.proofs.ListedLaws.{lists_given}
 use Rattle.edited_list.proofs.open_levels_and_edit.Goals as goal
 use Rattle.edited_list.proofs.open_levels_and_edit.Goals.{Start}
 
@@ -31,16 +29,8 @@ count s = edit_count (length s.args.rows.now) (length s.args.columns.now) (lengt
 abbrev edits : Start → List Edit
 edits s = edits_of (count s) s.args.rows.now s.args.columns.now s.args.values.now s.args.ways.now
 
-pub returns-in_err-opened : goal.returns-in_err-opened
-unfolding held_opened
-returns-in_err-opened c =
-    let is : c.from_residual.result ≡ Err c.in_err-opened.field-0.0 = search rules in
-    rw is
-    (lists-refused (opening (goal.at.returns-in_err-opened c).Start) c.args.levels.now (lent (goal.at.returns-in_err-opened c).Start) (edits (goal.at.returns-in_err-opened c).Start) (told (goal.at.returns-in_err-opened c).Start) c.in_err-opened.field-0.0 c.open_levels.new.coeff c.open_levels.new.inter c.open_levels.new.residual
-    (rw c.in_err-opened.was at c.open_levels.ensures))
-
 pub returns : goal.returns
 unfolding held_opened
 returns c =
-    lists_after (opening (goal.at.returns c).Start) c.args.levels.now (lent (goal.at.returns c).Start) (edits (goal.at.returns c).Start) (told (goal.at.returns c).Start) c.edit_after.result c.in_ok-opened.opened c.open_levels.new.coeff c.open_levels.new.inter c.open_levels.new.residual _ _ _ _ _
-    (rw c.in_ok-opened.was at c.open_levels.ensures) c.edit_after.ensures
+    lists_given (opening (goal.at.returns c).Start) c.args.levels.now (lent (goal.at.returns c).Start) (edits (goal.at.returns c).Start) (told (goal.at.returns c).Start) c.open_levels-opened.result c.edit_after.result c.open_levels-opened.new.coeff c.open_levels-opened.new.inter c.open_levels-opened.new.residual _ _ _ _ _
+    c.open_levels-opened.ensures c.edit_after.ensures

@@ -1,37 +1,15 @@
--- `edited_steps::edit_after` meets its contract: the loop makes every edit.
-use mathlib.Core.Path.{sym, ◌∙◌}
-use mathlib.Core.List.{List}
-use Prim.Native.Nat.{ℕ}
-use lib.ListN.{length}
-use Rattle.block_rules.specs.Edit.{Buffers, buffers}
-use Rattle.edited_history.specs.History.{Edit}
-use Rattle.edited_steps.specs.Steps.{Slices, slices, edit_count, edits_of}
-use Rattle.edited_steps.proofs.GoingLaws.{edits_of-length}
-use Rattle.edited_steps.proofs.StepsLaws.{count_ask, runs_all}
+-- `edited_steps::edit_after` meets its contract: a refused opening is handed on, and after another the edits are made.
+use mathlib.Core.Path.{◌≡◌, refl}
+use Rattle.std.proofs.Common.{rules, Err}
+use Rattle.edited_steps.specs.Steps.{RunsGiven}
 use Rattle.edited_steps.proofs.edit_after.Goals as goal
-use Rattle.edited_steps.proofs.edit_after.Goals.{Start}
 
-abbrev lent : Start → Buffers
-lent s = buffers s.args.coeff.now s.args.inter.now s.args.residual.now
-
--- the slices for answers
-abbrev told : Start → Slices
-told s = slices s.args.numbers.now s.args.named.now s.args.across.now s.args.limits.now
-
-abbrev count : Start → ℕ
-count s = edit_count (length s.args.rows.now) (length s.args.columns.now) (length s.args.values.now) (length s.args.ways.now) (told s)
-
-abbrev edits : Start → List Edit
-edits s = edits_of (count s) s.args.rows.now s.args.columns.now s.args.values.now s.args.ways.now
-
-pub edit_each-requires : goal.edit_each-requires
-edit_each-requires c =
-    let s = c in
-    rw c.edit_count-edits.ensures (count_ask (length s.args.rows.now) (length s.args.columns.now) (length s.args.values.now) (length s.args.ways.now) (told (goal.at.edit_each-requires c).Start))
+pub returns-in_err-opened : goal.returns-in_err-opened
+unfolding RunsGiven
+returns-in_err-opened c =
+    let told : c.from_residual.result ≡ Err c.in_err-opened.field-0.0 = search rules in
+    rw (c.in_err-opened.was, told) (refl, refl, refl, refl)
 
 pub returns : goal.returns
-returns c =
-    let s = c in
-    let counted = c.edit_count-edits in
-    runs_all s.args.opened s.args.levels.now (lent (goal.at.returns c).Start) (edits (goal.at.returns c).Start) (told (goal.at.returns c).Start) counted.result _ _ _ _ _ _
-    (counted.ensures ∙ sym (edits_of-length (count (goal.at.returns c).Start) s.args.rows.now s.args.columns.now s.args.values.now s.args.ways.now)) (rw counted.ensures at c.edit_each.ensures)
+unfolding RunsGiven
+returns c = rw c.in_ok-opened.was c.edits_made.ensures

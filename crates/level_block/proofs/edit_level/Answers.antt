@@ -5,7 +5,7 @@ use native.Mathlib.Omega.{arith}
 use lib.Arith.{digits_lt}
 use lib.IntN.{ℤ}
 use lib.ListN.{length, set, length-set}
-use Rattle.std.proofs.Common.{rules, Err}
+use Rattle.std.proofs.Common.{rules}
 use mir.Facts.{to_z-of_z}
 use mir.Syntax.{w32}
 use mir.Val.{to_z, of_z}
@@ -19,20 +19,13 @@ use Rattle.block_rules.specs.Edit.{Buffers, buffers, edited_buffers, with_column
 use Rattle.block_rules.specs.Work.{EditNeeds}
 use Rattle.block_rules.specs.Level.{scaled_by, limits_by}
 use Rattle.level_work.specs.Work.{limits_of}
-use Rattle.block_laws.proofs.LevelLaws.{EditFits, level-edit_done, plain, plain_fits, level_edits_stopped}
+use Rattle.block_laws.proofs.LevelLaws.{EditFits, level-edit_done, plain, plain_fits}
 use Rattle.block_laws.proofs.LadderLaws.{fits_ask, opening_of}
 use Rattle.level_block.proofs.edit_level.Goals as goal
 use Rattle.level_block.proofs.edit_level.Goals.{After-coefficient_of-scaled, In_ok-check_edit, Start}
 
 abbrev lent : Start → Buffers
 lent s = buffers s.args.coeff.now s.args.inter.now s.args.residual.now
-
-pub returns-in_err-check_edit : goal.returns-in_err-check_edit
-returns-in_err-check_edit c =
-    let s = (goal.at.returns-in_err-check_edit c).Start in
-    let why = c.in_err-check_edit.field-0.0 in
-    let told : c.from_residual.result ≡ Err why = search rules in
-    rw told (level_edits_stopped s.args.block.now s.args.levels.now (lent s) s.args.row s.args.column s.args.level why (c.in_err-check_edit.ensures s.args.level))
 
 -- no condition of the ladder holds
 fits : (c : In_ok-check_edit) → EditFits c.args.block.now c.args.levels.now (lent (goal.at.In_ok-check_edit c).Start)
@@ -66,11 +59,6 @@ levels_long c =
 
 pub bounds-levels-at : goal.bounds-levels-at
 bounds-levels-at c = let o = (goal.at.bounds-levels-at c).In_ok-check_edit in omega (arith, (in_block o).0, levels_long o)
-
-pub coefficient_of-scaled-requires : goal.coefficient_of-scaled-requires
-coefficient_of-scaled-requires c =
-    let f = c.in_ok-check_edit.ensures in
-    (f.size, f.depth, (in_block (goal.at.coefficient_of-scaled-requires c).In_ok-check_edit).0)
 
 -- the value that is set
 value_is : (c : After-coefficient_of-scaled) → let s = c in

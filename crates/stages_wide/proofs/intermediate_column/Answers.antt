@@ -1,20 +1,9 @@
 -- `stages_wide::intermediate_column` meets its contract: a size is 4, 8 or 16, or else 32, and above 4 the kind is the DCT.
-use mathlib.Core.Path.{◌≡◌}
 use native.Mathlib.Omega.{arith}
 use Rattle.h265.proofs.RangeLaws.{size_else}
 use Rattle.stages_wide.proofs.ColumnLaws.{column_placed_replaced}
-use Rattle.stages_wide.proofs.ResultLaws.{size_needs_seven, column_four, column-dct}
+use Rattle.stages_wide.proofs.ResultLaws.{column_four, column-dct}
 use Rattle.stages_wide.proofs.intermediate_column.Goals as goal
-use Rattle.stages_wide.proofs.intermediate_column.Goals.{In_default}
-
-is_32 : (c : In_default) → c.args.n ≡ 32
-is_32 c = let r = c.in_default.in_default-own.rest in size_else c.args.n c.requires.0.size r.0.0.1 r.0.1 r.1
-
-pub column_4-requires : goal.column_4-requires
-column_4-requires c = (size_needs_seven c.in-4.is c.requires.0, omega (arith, c.in-4.is, c.requires.1))
-
-pub column_8-requires : goal.column_8-requires
-column_8-requires c = (size_needs_seven c.in-8.is c.requires.0, omega (arith, c.in-8.is, c.requires.1))
 
 pub returns-in-4 : goal.returns-in-4
 returns-in-4 c =
@@ -41,5 +30,7 @@ pub returns-in_default : goal.returns-in_default
 returns-in_default c =
     let k = c.args in
     let p = c.requires.0 in
+    let r = c.in_default.in_default-own.rest in
+    let n = size_else k.n p.size r.0.0.1 r.0.1 r.1 in
     column_placed_replaced c.requires.1 p.room
-    (column-dct k.kind k.n k.range k.coeff.now 32 (is_32 (goal.at.returns-in_default c).In_default) p.dst (λ z. omega arith) k.column c.column-in_default.ensures)
+    (column-dct k.kind k.n k.range k.coeff.now 32 n p.dst (λ z. omega arith) k.column c.column-in_default.ensures)

@@ -1,17 +1,9 @@
 -- `stages_wide::intermediate_of` meets its contract: a size is 4, 8 or 16, or else 32, and above 4 the kind is the DCT.
-use mathlib.Core.Path.{◌≡◌}
 use native.Mathlib.Omega.{arith}
 use Rattle.transform_1d.proofs.RowsLaws.{filled-overwrite}
 use Rattle.h265.proofs.RangeLaws.{size_else, size_bound}
-use Rattle.stages_wide.proofs.ResultLaws.{size_needs_seven, columns_four, columns_dct}
+use Rattle.stages_wide.proofs.ResultLaws.{columns_four, columns_dct}
 use Rattle.stages_wide.proofs.intermediate_of.Goals as goal
-use Rattle.stages_wide.proofs.intermediate_of.Goals.{In_default}
-
-is_32 : (c : In_default) → c.args.n ≡ 32
-is_32 c = let r = c.in_default.in_default-own.rest in size_else c.args.n c.requires.size r.0.0.1 r.0.1 r.1
-
-pub columns_4-requires : goal.columns_4-requires
-columns_4-requires c = size_needs_seven c.in-4.is c.requires
 
 pub returns-in-4 : goal.returns-in-4
 returns-in-4 c =
@@ -38,5 +30,7 @@ pub returns-in_default : goal.returns-in_default
 returns-in_default c =
     let k = c.args in
     let p = c.requires in
+    let r = c.in_default.in_default-own.rest in
+    let n = size_else k.n p.size r.0.0.1 r.0.1 r.1 in
     filled-overwrite k.n (omega (arith, size_bound k.n p.size))
-    (columns_dct k.kind k.n k.range k.coeff.now 32 (is_32 (goal.at.returns-in_default c).In_default) p.dst (λ z. omega arith) c.columns-in_default.ensures) p.room
+    (columns_dct k.kind k.n k.range k.coeff.now 32 n p.dst (λ z. omega arith) c.columns-in_default.ensures) p.room

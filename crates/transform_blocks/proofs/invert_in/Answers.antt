@@ -1,16 +1,13 @@
 -- `transform_blocks::invert_in` meets its contract: the stages of the range meet it, and the plain range is that of 16 bits.
-use mathlib.Core.Path.{◌≡◌, sym, ap, ◌∙◌, subst}
+use mathlib.Core.Path.{◌≡◌, subst}
 use mathlib.Core.Bool.{false}
 use Prim.Native.Nat.{ℕ, ◌+◌, ◌-◌, ◌*◌, ◌≤◌}
 use native.Mathlib.Omega.{arith}
 use lib.IntN.{pos}
 use lib.ListN.{get_or, length}
-use Rattle.integers.specs.Lists.{overwrite}
 use Rattle.h265.specs.Range.{outside_range}
-use Rattle.h265.specs.Transform.{row_order, residual}
 use Rattle.h265.proofs.RangeLaws.{outside_range_false}
-use Rattle.transform_1d.specs.MatrixOf.{matrix_of}
-use Rattle.transform_blocks.proofs.BlocksLaws.{plain_needs, plain_result}
+use Rattle.transform_blocks.proofs.BlocksLaws.{plain_needs}
 use Rattle.transform_blocks.proofs.NarrowLaws.{inside_fits}
 use Rattle.transform_blocks.proofs.invert_in.Goals as goal
 
@@ -32,12 +29,6 @@ residual_plain-requires c =
       shift,
     )
 
-pub returns-then-range-eq15 : goal.returns-then-range-eq15
-returns-then-range-eq15 c =
-    let s = c in
-    plain_result (matrix_of s.args.kind s.args.n) s.args.n s.args.bit_depth s.args.nx s.args.coeff.now s.args.out.now c.residual_plain.new.out c.residual_plain.ensures
-    ∙ ap (λ (r : ℕ). overwrite (s.args.n * s.args.n) (row_order s.args.n (residual (matrix_of s.args.kind s.args.n) s.args.n s.args.bit_depth r s.args.nx s.args.coeff.now)) s.args.out.now) (sym c.if-range-eq15.true)
-
 pub residual_wide-requires : goal.residual_wide-requires
 residual_wide-requires c =
     let s = c in
@@ -46,6 +37,3 @@ residual_wide-requires c =
       record { least = p.depth.0; most = p.depth.1; above = p.range.2; below = omega (arith, p.range) },
       record { columns = p.columns; at = λ k j hk hj. outside_range_false s.args.range (get_or s.args.coeff.now (k * s.args.n + j) (pos 0)) (p.inside k j hk hj) },
     )
-
-pub returns-else-range-eq15 : goal.returns-else-range-eq15
-returns-else-range-eq15 c = c.residual_wide.ensures

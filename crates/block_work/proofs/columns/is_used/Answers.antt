@@ -1,34 +1,35 @@
--- `block_work::columns::is_used` meets its contract: the rows passed have zeros in the column.
-use mathlib.Core.Path.{◌≡◌, sym, ap}
-use native.Mathlib.Omega.{arith}
-use lib.IntN.{pos}
-use lib.ListN.{get_or}
-use mir.Syntax.{w32}
-use mir.Val.{SFits, of_z}
-use Rattle.std.proofs.Common.{rules, ◌*◌, ◌+◌, ◌<◌}
-use Rattle.integers.proofs.MachineLaws.{eq_bits}
-use Rattle.integers.proofs.SearchLaws.{none_zero, none_suc}
+-- `block_work::columns::is_used` meets its contract: the rows in use say of the column what all its rows do.
+use Rattle.std.proofs.Common.{rules, tests, arith, refl, sym, ◌≡◌, Bool, true, false, List, ℕ, ◌*◌, ◌+◌, ◌<◌, pos, length, get_or}
+use Rattle.std.specs.Bool.{MatchBool}
+use Rattle.std.specs.List.{range_with_len, AllWithin, HoldsAt}
+use Rattle.std.proofs.lemmas.Iterator.{YieldsList-from_range, cases_from_any}
+use Rattle.std.proofs.lemmas.List.FromFn.{length-range_with_len, get_or-range_with_len}
+use Rattle.block_rules.specs.Columns.{column_used}
 use Rattle.block_laws.proofs.ColumnsLaws.{zero_row, other_row, used_there, used_nowhere, zero_rows-all}
 use Rattle.block_work.proofs.columns.is_used.Goals as goal
+use Rattle.block_work.proofs.columns.is_used.Goals.{Start}
 
-pub loop-k-init : goal.loop-k-init
-loop-k-init c = none_zero
+abbrev Zero : Start → ℕ → Type 0
+Zero s k = get_or s.args.coeff.now (k * s.args.n + s.args.c) (pos 0) ≡ pos 0
 
-pub loop-k-preserved : goal.loop-k-preserved
-loop-k-preserved c =
-    let a = c.args in
-    let f : SFits w32 (get_or a.coeff.now (c.loop-k.k * a.n + a.c) (pos 0)) = search rules in
-    none_suc c.loop-k.invariant (zero_row a.n a.coeff.now a.c c.loop-k.k (eq_bits f c.if-coeff-k-ne0.false))
+abbrev rows : Start → List ℕ
+rows s = range_with_len 0 s.args.rows
 
-pub returns-then-coeff-k-ne0 : goal.returns-then-coeff-k-ne0
-returns-then-coeff-k-ne0 c =
-    let a = c.args in
-    let k = c.loop-k.k in
-    let h : k < a.n = omega (arith, c.requires.3.most, c.loop-k-test.true) in
-    sym (used_there a.n a.coeff.now a.c k h c.loop-k.invariant (other_row a.n a.coeff.now a.c k (λ z. c.if-coeff-k-ne0.true (ap (of_z w32) z))))
+row_at : (n k : ℕ) → k < n → get_or (range_with_len 0 n) k 0 ≡ k
+row_at n k l = omega (arith, get_or-range_with_len 0 n k 0 l)
+
+by_rows : (s : Start) (r : Bool) → MatchBool r ((k : ℕ) × (k < length (rows s)) × HoldsAt (λ i. Zero s i → ⊥) (rows s) k) (AllWithin (Zero s) (rows s) 0 (length (rows s)))
+    → r ≡ column_used s.args.n s.args.coeff.now s.args.c
+by_rows s true h =
+    let a = s.args in
+    let inside : h.0 < a.rows = omega (arith, length-range_with_len 0 a.rows, h.1) in
+    sym (used_there a.n a.coeff.now a.c h.0 (omega (arith, inside, s.requires.3.most)) (other_row a.n a.coeff.now a.c h.0 (rw (row_at a.rows h.0 inside) at (h.2 0))))
+by_rows s false h =
+    let a = s.args in
+    let zero : (k : ℕ) → k < a.rows → Zero s k = λ k l. rw (row_at a.rows k l) at (h k 0 (omega arith) (omega (arith, length-range_with_len 0 a.rows, l))) in
+    sym (used_nowhere a.n a.coeff.now a.c (zero_rows-all a.c s.requires.2 s.requires.3 (record { at = λ k l. zero_row a.n a.coeff.now a.c k (zero k l) })))
 
 pub returns : goal.returns
 returns c =
     let a = c.args in
-    let all : c.loop-k.k ≡ a.rows = omega (arith, c.loop-k-test.false, c.loop-k.auto.k-end) in
-    sym (used_nowhere a.n a.coeff.now a.c (zero_rows-all a.c c.requires.2 c.requires.3 (rw all at c.loop-k.invariant)))
+    by_rows (goal.at.returns c).Start c.any.result (cases_from_any _ _ _ (λ k. Zero (goal.at.returns c).Start k → ⊥) (Zero (goal.at.returns c).Start) c.any.ensures.ran (YieldsList-from_range 0 a.rows a.rows refl (omega arith)) (λ x q k. search (rules, tests)) (λ x q k. search (rules, tests)))

@@ -1,14 +1,13 @@
 -- `edit_blocks::spans::all_indices` meets its contract: the loop has stored the ends of the indices passed.
 use mir.Syntax.{w32}
-use Prim.Native.Nat.{◌/◌, ◌%◌, ◌<◌}
+use Prim.Native.Nat.{◌/◌, ◌%◌}
 use native.Mathlib.Omega.{arith}
 use mathlib.Core.Path.{◌≡◌, ◌∙◌}
 use borrow.Author.Rules.{sfits_of}
 use Rattle.integers.proofs.MachineLaws.{round_trip}
-use Rattle.integers.proofs.ListsLaws.{stored_none, stored_more, stored_length, stored_all}
-use Rattle.h265.proofs.RangeLaws.{size_bound, size_square}
-use Rattle.h265.proofs.TransformLaws.{cell_row, cell_column}
-use Rattle.edit_blocks.specs.Work.{Tables, tables_of, sampled_by, least_of, most_of, least_by, most_by}
+use Rattle.integers.proofs.ListsLaws.{stored_none, stored_more}
+use Rattle.edit_blocks.specs.Needs.{Tables}
+use Rattle.edit_blocks.specs.Work.{tables_of, sampled_by, least_of, most_of, least_by, most_by}
 use Rattle.edit_blocks.proofs.SieveLaws.{sieved_least, sieved_most}
 use Rattle.edit_blocks.proofs.spans.all_indices.Goals as goal
 use Rattle.edit_blocks.proofs.spans.all_indices.Goals.{After-index_span-span, After-most_of-high}
@@ -41,6 +40,6 @@ loop-i-preserved c =
     let l = x in
     let s = l in (
       omega arith,
-      stored_more l.loop-i.invariant.1 (omega (arith, s.requires.1)) (round_trip {w = w32} (sfits_of c.least_of-low.type_inv) ∙ c.least_of-low.ensures ∙ least_is (goal.at.loop-i-preserved c).After-index_span-span),
-      stored_more l.loop-i.invariant.2 (omega (arith, s.requires.2)) (round_trip {w = w32} (sfits_of c.most_of-high.type_inv) ∙ c.most_of-high.ensures ∙ most_is (goal.at.loop-i-preserved c).After-index_span-span),
+      stored_more l.loop-i.invariant.1 (omega (arith, s.requires.0)) (round_trip {w = w32} (sfits_of c.least_of-low.type_inv) ∙ c.least_of-low.ensures ∙ least_is (goal.at.loop-i-preserved c).After-index_span-span),
+      stored_more l.loop-i.invariant.2 (omega (arith, s.requires.1)) (round_trip {w = w32} (sfits_of c.most_of-high.type_inv) ∙ c.most_of-high.ensures ∙ most_is (goal.at.loop-i-preserved c).After-index_span-span),
     )

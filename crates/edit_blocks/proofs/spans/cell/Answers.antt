@@ -1,13 +1,11 @@
 -- `edit_blocks::spans::cell` meets its contract: the index of a row and a column.
 use Prim.Native.Nat.{◌+◌, ◌*◌}
-use native.Mathlib.Omega.{arith}
 use lib.IntN.{pos}
 use lib.ListN.{get_or}
 use mir.Syntax.{w64}
 use mir.Val.{SFits}
 use Rattle.integers.proofs.MachineLaws.{round_trip}
 use Rattle.h265.specs.Transform.{block_at}
-use Rattle.edit_tables.proofs.TableLaws.{place}
 use Rattle.edit_blocks.proofs.spans.cell.Goals as goal
 
 pub returns : goal.returns

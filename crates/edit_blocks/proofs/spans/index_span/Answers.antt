@@ -3,11 +3,8 @@ use mathlib.Core.Path.{ap}
 use Prim.Native.Nat.{ℕ, ◌*◌}
 use native.Mathlib.Nat.{mul-le-mul_right}
 use native.Mathlib.Omega.{arith}
-use Rattle.edit_blocks.proofs.SieveLaws.{sieved_range, sieved_empty, sieved_join, sieved_to}
+use Rattle.edit_blocks.proofs.SieveLaws.{sieved_empty, sieved_join, sieved_to}
 use Rattle.edit_blocks.proofs.spans.index_span.Goals as goal
-
-pub loop-m-init : goal.loop-m-init
-loop-m-init c = let s = c in (omega arith, sieved_to (sieved_range s.requires.0.range) (omega arith))
 
 pub returns-then-is_empty : goal.returns-then-is_empty
 returns-then-is_empty c =

@@ -1,10 +1,8 @@
 -- `edit_blocks::spans::probe_at` meets its contract: what is read of each table.
-use borrow.Author.Rules.{sfits_of}
 use mathlib.Core.Path.{◌∙◌}
 use mir.Syntax.{w64}
-use Rattle.integers.proofs.MachineLaws.{round_trip, round_trip_ok}
+use Rattle.integers.proofs.MachineLaws.{round_trip_ok}
 use Rattle.integers.proofs.BoundLaws.{within_eq}
-use Rattle.h265.proofs.RangeLaws.{size_bound}
 use Rattle.edit_blocks.specs.Work.{probe_at}
 use Rattle.edit_blocks.proofs.spans.probe_at.Goals as goal
 

@@ -1,6 +1,6 @@
 -- `edit_blocks::spans::row_span` meets its contract: the places that are left hit the samples passed, and no other place does.
 use native.Mathlib.Omega.{arith}
-use Rattle.edit_blocks.proofs.SieveLaws.{sieved_none, sieved_join, sieved_to}
+use Rattle.edit_blocks.proofs.SieveLaws.{sieved_join, sieved_to}
 use Rattle.edit_blocks.proofs.spans.row_span.Goals as goal
 
 pub loop-j-preserved : goal.loop-j-preserved

@@ -1,11 +1,10 @@
 -- `edit_blocks::spans::sample_span` meets its contract: a sample that is not wanted leaves the span, and so does an empty span; else it is narrowed.
-use Prim.Native.Nat.{◌+◌, ◌*◌, ◌<◌, ◌≤◌}
+use Prim.Native.Nat.{◌+◌, ◌*◌}
 use native.Mathlib.Omega.{arith}
-use lib.Arith.{digits_lt}
-use Rattle.h265.proofs.RangeLaws.{size_square}
-use Rattle.edit_blocks.specs.Work.{Tables, tables_of}
-use Rattle.edit_blocks.proofs.ProbeLaws.{probe_bounded, narrowed_sieved, count_bound, unwanted_hit, wanted_is}
-use Rattle.edit_blocks.proofs.SieveLaws.{sieved_none, sieved_skip, sieved_empty}
+use Rattle.edit_blocks.specs.Needs.{Tables}
+use Rattle.edit_blocks.specs.Work.{tables_of}
+use Rattle.edit_blocks.proofs.ProbeLaws.{probe_bounded, narrowed_sieved, unwanted_hit, wanted_is}
+use Rattle.edit_blocks.proofs.SieveLaws.{sieved_none, sieved_skip}
 use Rattle.edit_blocks.proofs.spans.sample_span.Goals as goal
 use Rattle.edit_blocks.proofs.spans.sample_span.Goals.{Start}
 
@@ -16,15 +15,14 @@ pub returns-then-search-m-eq0 : goal.returns-then-search-m-eq0
 returns-then-search-m-eq0 c =
     let s = c in
     let a = s.args in
-    sieved_skip (sieved_none s.requires.5) (unwanted_hit (given (goal.at.returns-then-search-m-eq0 c).Start) a.search.now.n a.search.now.range a.search.now.shift a.k a.c (a.m * a.search.now.n + a.j) a.search.now.wanted.now c.if-search-m-eq0.true)
+    sieved_skip (sieved_none a.span s.requires.4) (unwanted_hit (given (goal.at.returns-then-search-m-eq0 c).Start) a.search.now.n a.search.now.range a.search.now.shift a.k a.c (a.m * a.search.now.n + a.j) a.search.now.wanted.now c.if-search-m-eq0.true)
 
 pub narrow-requires : goal.narrow-requires
 narrow-requires c =
     let s = c in
     let h = s.requires in (
-      probe_bounded h.0 h.1 h.2 h.3 h.4 c.probe_at.ensures.0 c.probe_at.ensures.1,
+      probe_bounded s.args.search.now.ready h.0 h.1 h.2 h.3 c.probe_at.ensures.0 c.probe_at.ensures.1,
       omega (arith, c.is_empty.ensures.1 c.if-is_empty.false),
-      omega (arith, h.6, count_bound s.args.search.now.range h.0.range),
     )
 
 pub returns : goal.returns
@@ -32,5 +30,5 @@ returns c =
     let q = c in
     let s = q in
     let a = s.args in
-    narrowed_sieved (given (goal.at.returns c).Start) a.search.now.n a.search.now.range a.search.now.shift a.k a.c a.m a.j a.search.now.wanted.now s.requires.4 q.probe_at.ensures.0
-    (wanted_is a.search.now.wanted.now (a.m * a.search.now.n + a.j) q.if-search-m-eq0.false) s.requires.5 c.narrow.ensures
+    narrowed_sieved (given (goal.at.returns c).Start) a.search.now.n a.search.now.range a.search.now.shift a.k a.c a.m a.j a.search.now.wanted.now s.requires.3 q.probe_at.ensures.0 a.span
+    (wanted_is a.search.now.wanted.now (a.m * a.search.now.n + a.j) q.if-search-m-eq0.false) s.requires.4 c.narrow.ensures

@@ -3,8 +3,6 @@ use mir.Syntax.{w64}
 use borrow.Author.Rules.{sfits_of}
 use mathlib.Core.Path.{◌∙◌}
 use Prim.Native.Nat.{◌+◌, ◌*◌}
-use native.Mathlib.Omega.{arith}
-use lib.Arith.{digits_lt}
 use lib.IntN.{pos}
 use lib.ListN.{get_or}
 use mir.Syntax.{w32}
@@ -12,7 +10,6 @@ use mir.Val.{SFits}
 use Rattle.integers.proofs.MachineLaws.{round_trip}
 use Rattle.integers.proofs.BoundLaws.{within_eq, within_sfits}
 use Rattle.h265.specs.Transform.{block_at}
-use Rattle.edit_tables.proofs.TableLaws.{place}
 use Rattle.edit_blocks.proofs.spans.target_cell.Goals as goal
 
 pub returns : goal.returns

@@ -1,6 +1,6 @@
 -- `edit_tables::sums::line` meets its contract: the loop has added the products passed.
-use mathlib.Core.Path.{sym, ap, ◌∙◌}
-use Prim.Native.Nat.{ℕ, ◌+◌, ◌*◌, ◌<◌}
+use mathlib.Core.Path.{sym, ◌∙◌}
+use Prim.Native.Nat.{◌+◌, ◌*◌}
 use native.Mathlib.Omega.{arith}
 use lib.IntN.{ℤ, pos}
 use lib.ListN.{get_or}
@@ -8,8 +8,6 @@ use mir.Syntax.{w64}
 use mir.Val.{SFits}
 use Rattle.h265.specs.Transform.{block_at, transform_line}
 use borrow.Author.Rules.{sfits_of}
-use lib.Arith.{digits_lt}
-use native.Mathlib.Nat.{mul-le-mul}
 use Rattle.integers.specs.Within.{Within}
 use Rattle.integers.proofs.MachineLaws.{round_trip}
 use Rattle.integers.proofs.BoundLaws.{within_le, within_fits}

@@ -14,7 +14,7 @@ use Rattle.feed_state.specs.Taken.{state_after, end_after, told}
 use Rattle.feed_rules.specs.Feed.{feed_text}
 use Rattle.feed_history.specs.Steps.{buffered_text}
 use Rattle.feed_history.proofs.FollowLaws.{buffers_follow_history}
-use Rattle.feed_history.proofs.WalkLaws.{walk_text, going_start, going_room, Turn, turn_of, going_more, going_done}
+use Rattle.feed_history.proofs.WalkLaws.{turn_room, walk_text, going_start, going_room, Turn, turn_of, going_more, going_done}
 use Rattle.feed.proofs.FeedLaws.{feed_walk, Answered, feed_refused, feed_passed}
 use Rattle.feed.proofs.LocalLaws.{Full, full, full_ample}
 use Rattle.feed.proofs.stream.run_within.Goals as goal
@@ -57,17 +57,8 @@ turned c =
     let k = c.take_record.ensures in
     turn_of feed_walk _ _ l.state _ _ _ (input_fits c) c.loop-state-test.true c.record_at-kind.ensures.kind c.record_at-kind.ensures.body (record { is = k.answered }) k.state k.text (full_ample _ (full_after c))
 
--- the buffer behind a record has room for a line
-room_behind : (c : After-take_record) → end_after c.loop-state.end c.take_record.result + 40 ≤ length c.take_record.new.out
-room_behind c =
-    let g = c.loop-state.invariant.0 in
-    omega (arith, (turned c).text.bound, going_room g c.loop-state-test.true, g.left.long, c.take_record.auto.out)
-
 pub put_refused-requires : goal.put_refused-requires
-put_refused-requires c = rw c.in-Err.is at (room_behind (goal.at.put_refused-requires c).After-take_record)
-
-pub shape_of-out-in-Err : goal.shape_of-out-in-Err
-shape_of-out-in-Err c = c.put_refused.auto.out ∙ c.take_record.auto.out ∙ c.loop-state.invariant.0.left.long
+put_refused-requires c = let k = (goal.at.put_refused-requires c).After-take_record in rw c.in-Err.is at (turn_room k.loop-state.invariant.0 (turned k) k.take_record.auto.out)
 
 pub returns-in-Err : goal.returns-in-Err
 returns-in-Err c =
@@ -75,7 +66,7 @@ returns-in-Err c =
     let f = c.put_refused in
     let k = (goal.at.returns-in-Err c).After-take_record in
     let turn = rw c.in-Err.is at (turned k) in
-    let room = rw c.in-Err.is at (room_behind k) in (
+    let room = rw c.in-Err.is at (turn_room k.loop-state.invariant.0 (turned k) k.take_record.auto.out) in (
       text_told _ _ _ _ _ l.invariant.2 (left_last (feed_refused l.invariant.0 turn _ refl) f.ensures.wrote),
       counts _ _ (omega (arith, f.ensures.bound, f.auto.out, room)),
     )
@@ -97,9 +88,6 @@ room_last_line c h = let g = c.loop-state.invariant.0 in omega (arith, g.left.lo
 
 pub put_blocks-requires : goal.put_blocks-requires
 put_blocks-requires c = room_last_line (goal.at.put_blocks-requires c).At-loop-state c.loop-state-test.false
-
-pub shape_of-out : goal.shape_of-out
-shape_of-out c = c.put_blocks.auto.out ∙ c.loop-state.invariant.0.left.long
 
 pub returns : goal.returns
 returns c =

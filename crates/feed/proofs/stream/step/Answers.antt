@@ -39,12 +39,6 @@ ample : (c : Else-too_short) → Ample (let a = c.args in lent a.levels.now a.co
 unfolding too_short
 ample c = long_buffers (let a = c.args in lent a.levels.now a.coeff.now a.inter.now a.residual.now) (sym c.too_short.ensures ∙ c.if-too_short.false)
 
-pub take_record-requires : goal.take_record-requires
-take_record-requires c = record {
-  ample = ample (goal.at.take_record-requires c).Else-too_short;
-  kind_in_bounds = omega (arith, room (goal.at.take_record-requires c).Else-out-record_room);
-}
-
 -- what was taken is a step
 taken : (c : After-take_record) → let a = c.args in let l = c.take_record.new in let b = lent a.levels.now a.coeff.now a.inter.now a.residual.now in
     record_room a.kind ≤ length a.out.now → Ample b

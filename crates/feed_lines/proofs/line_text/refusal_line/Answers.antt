@@ -1,8 +1,7 @@
 -- `feed_lines::line_text::refusal_line` meets its contract: a local array is the blank line.
 use Rattle.integers.specs.Lists.{tabulate, tabulate_from}
-use Rattle.feed_lines.proofs.LineLaws.{lines_wrote}
 use Rattle.feed_lines.proofs.line_text.refusal_line.Goals as goal
 
 pub returns : goal.returns
 unfolding tabulate tabulate_from
-returns c = lines_wrote _ (c.put_refused-end.ensures)
+returns c = c.put_refused-end.ensures.wrote

@@ -34,7 +34,7 @@ edited k =
 pub returns : goal.returns
 returns c =
     let k = goal.at.returns c in
-    rw c.with_open.ensures
+    rw (c.with_open.ensures, c.body_length.ensures)
     (edit_moved c.args.s (lent_at k.Start) c.args.body.now c.args.at c.in_ok-held.held c.in_ok-held.ensures.ok_part (edited k.After-edit_level) _ c.in_ok-edit_level.was (omega arith))
 
 pub returns-in_err-edit_level : goal.returns-in_err-edit_level

@@ -32,15 +32,10 @@ returns-in_err-check_size c =
 few : (c : In_ok-check_size) → let n = c.in_ok-held.held.size in n * n ≤ 1024
 few c = size_square c.in_ok-held.held.size c.in_ok-check_size.ensures.1
 
-pub put_reading-end-requires : goal.put_reading-end-requires
-put_reading-end-requires c =
-    let h = few (goal.at.put_reading-end-requires c).In_ok-check_size in
-    (c.in_ok-check_size.ensures.1, omega (arith, h, c.requires.in_bounds), omega (arith, h, c.requires.text_room_in_bounds))
-
 pub returns : goal.returns
 returns c =
     let e = c.args.residual.now in
-    rw c.with_open.ensures
+    rw (c.with_open.ensures, c.body_length.ensures)
     (record {
       leaves = λ ls d g.
           reading_takes c.args.s (lent ls d g e) c.in_ok-held.held c.in_ok-held.ensures.ok_part c.in_ok-check_size.ensures.0 (omega arith)

@@ -3,31 +3,6 @@ use Rattle.feed_rules.specs.Record.{body_effect}
 use Rattle.feed_state.proofs.StateLaws.{quiet_takes}
 use Rattle.feed_records.proofs.records.take_body.Goals as goal
 
-pub take_parameters-requires : goal.take_parameters-requires
-take_parameters-requires c = rw c.in-Parameters.is at c.requires.whole.long
-
-pub take_list-requires : goal.take_list-requires
-take_list-requires c = rw c.in-List.is at c.requires.whole.long
-
-pub take_levels-requires : goal.take_levels-requires
-take_levels-requires c =
-    let e = c.in-Levels.is in
-    record {
-      t = rw e at c.requires.whole.size;
-      n_in_bounds = rw e at c.requires.whole.long;
-      ample = c.requires.ample;
-      n_in_bounds_2 = rw e at c.requires.kind_in_bounds;
-    }
-
-pub take_edit-requires : goal.take_edit-requires
-take_edit-requires c = rw c.in-Edit.is at c.requires.whole.long
-
-pub take_reading-requires : goal.take_reading-requires
-take_reading-requires c = record {
-  in_bounds = c.requires.ample.res;
-  text_room_in_bounds = rw c.in-Reading.is at c.requires.kind_in_bounds;
-}
-
 pub returns-in-Parameters : goal.returns-in-Parameters
 unfolding body_effect
 returns-in-Parameters c = rw c.in-Parameters.is (quiet_takes _ _ (c.take_parameters.ensures.leaves _))

@@ -8,4 +8,4 @@ use Rattle.feed_state.proofs.settings.take_list.Goals as goal
 pub returns : goal.returns
 unfolding list_effect
 returns c =
-    record { leaves = λ w. quiet_moved c.args.s _ w _ c.args.at (omega arith) c.behind.ensures (rw c.list_of.ensures refl) }
+    record { leaves = λ w. quiet_moved c.args.s _ w _ c.args.at (omega arith) (rw c.body_length.ensures at c.behind.ensures) (rw c.list_of.ensures refl) }

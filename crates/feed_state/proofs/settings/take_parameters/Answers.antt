@@ -42,5 +42,5 @@ returns c =
     record {
       leaves = λ w.
           rw (c.in_ok-check_depth.ensures.0, sym c.flag_of.ensures ∙ c.in_ok-extended.ensures.ok_part, sym c.mode_of.ensures ∙ c.in_ok-mode.ensures.ok_part)
-          (quiet_moved c.args.s _ w _ c.args.at (omega arith) c.behind.ensures refl);
+          (quiet_moved c.args.s _ w _ c.args.at (omega arith) (rw c.body_length.ensures at c.behind.ensures) refl);
     }

@@ -5,4 +5,4 @@ use Rattle.feed_state.proofs.states.with_closed.Goals as goal
 
 pub returns : goal.returns
 unfolding capped
-returns c = λ w. rw (c.behind.ensures, c.saturating_add.ensures) refl
+returns c = λ w. rw (c.behind.ensures, c.body_length.ensures, c.saturating_add.ensures) refl

@@ -2,7 +2,7 @@
 use mathlib.Core.Path.{◌∙◌}
 use Rattle.h265.proofs.RangeLaws.{size_square, transform_range_most}
 use Rattle.scaling_values.specs.Given.{list_of}
-use Rattle.level_edits.proofs.BlockLaws.{front_fits, front_length, scaled_ask, spread_least, spread_most}
+use Rattle.level_edits.proofs.BlockLaws.{scaled_ask, spread_least, spread_most}
 use Rattle.level_edits.proofs.block.find_block.Goals as goal
 
 pub find-requires : goal.find-requires

@@ -7,7 +7,7 @@ use lib.ListN.{get_or}
 use mir.Syntax.{w32}
 use mir.Val.{SFits, to_z, of_z}
 use Rattle.integers.proofs.MachineLaws.{round_trip}
-use Rattle.integers.proofs.ListsLaws.{stored_none, stored_more, stored_all}
+use Rattle.integers.proofs.ListsLaws.{stored_none, stored_more}
 use Rattle.h265.proofs.RangeLaws.{size_square}
 use Rattle.level_search.specs.Work.{scaling_by}
 use Rattle.scaling_values.specs.Given.{list_of}

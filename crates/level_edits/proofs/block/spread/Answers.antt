@@ -1,6 +1,5 @@
 -- `level_edits::block::spread` meets its contract: the loop has stored the ends of the indices passed.
 use mathlib.Core.Path.{refl, ◌∙◌}
-use Prim.Native.Nat.{◌<◌}
 use native.Mathlib.Omega.{arith}
 use borrow.Author.Rules.{sfits_of}
 use lib.IntN.{pos}
@@ -8,8 +7,7 @@ use lib.ListN.{get_or}
 use mir.Syntax.{w32}
 use mir.Val.{SFits}
 use Rattle.integers.proofs.MachineLaws.{round_trip}
-use Rattle.integers.proofs.ListsLaws.{stored_none, stored_more, stored_length, stored_all}
-use Rattle.h265.proofs.RangeLaws.{size_square}
+use Rattle.integers.proofs.ListsLaws.{stored_none, stored_more}
 use Rattle.level_search.specs.Work.{scaling_by}
 use Rattle.level_edits.specs.Work.{LevelSpan}
 use Rattle.scaling_values.specs.Given.{list_of}

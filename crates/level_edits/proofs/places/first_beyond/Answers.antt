@@ -1,30 +1,22 @@
 -- `level_edits::places::first_beyond` meets its contract. The loop's invariant: no place below `low` is beyond the end, and every place from `high` on is.
-use mathlib.Core.Path.{◌≡◌, sym, subst, ◌∙◌}
+use mathlib.Core.Path.{◌≡◌, sym, ◌∙◌}
 use Prim.Native.Nat.{◌*◌, ◌%◌, ◌^◌, ◌≤◌}
 use native.Mathlib.Nat.{mod-eq_of_lt}
 use native.Mathlib.Omega.{arith}
-use lib.IntN.{ℤ}
 use mir.Syntax.{w32}
 use mir.Val.{to_z, of_z}
-use Rattle.integers.proofs.MachineLaws.{round_trip}
-use Rattle.scaling_values.specs.Level.{listed_level}
 use Rattle.edit_values.specs.Values.{value_count}
-use Rattle.edit_values.specs.Sample.{Split}
-use Rattle.edit_blocks.proofs.ProbeLaws.{count_bound}
-use Rattle.level_edits.specs.Work.{beyond}
+use Rattle.edit_blocks.proofs.ProbeLaws.{count_bound, count_wraps}
 use Rattle.level_edits.proofs.PlaceLaws.{beyond_mono, beyond-none}
 use Rattle.level_edits.proofs.places.first_beyond.Goals as goal
-use Rattle.level_edits.proofs.places.first_beyond.Goals.{At-loop-low, Start}
-
-count_is : (c : Start) → 2 * 2 ^ c.args.range % 4294967296 ≡ value_count c.args.range
-count_is c = mod-eq_of_lt (omega (arith, count_bound c.args.range c.requires.1))
+use Rattle.level_edits.proofs.places.first_beyond.Goals.{At-loop-low}
 
 bound : (c : At-loop-low) → value_count c.args.range ≤ 8388608
 bound c = count_bound c.args.range c.requires.1
 
 pub loop-low-init : goal.loop-low-init
 loop-low-init c =
-    let e = count_is c in
+    let e = count_wraps c.args.range c.requires.1 in
     (omega arith, omega (arith, e), λ o g h. absurd (let b : ⊥ = omega arith in b), λ o h k. absurd (let b : ⊥ = omega (arith, e) in b))
 
 pub overflow_add-middle : goal.overflow_add-middle

@@ -50,7 +50,7 @@ pub loop-i-preserved : goal.loop-i-preserved
 loop-i-preserved c = (
   omega (arith, c.loop-i-test.true),
   none_suc c.loop-i.invariant.1 (sym (miss_is (goal.at.loop-i-preserved c).After-scales_to) ∙ (ap not c.if-not-scales_to.false)),
-  stored_more c.loop-i.invariant.2 (omega (arith, c.loop-i-test.true, size_square c.args.n c.requires.whole_list.size, c.requires.found_len)) (round_trip {w = w32} (sfits_of c.nearest-level.type_inv) ∙ level_is (goal.at.loop-i-preserved c).After-nearest-level),
+  stored_more c.loop-i.invariant.2 (omega (arith, c.loop-i-test.true, size_square c.args.n c.requires.whole_list.size)) (round_trip {w = w32} (sfits_of c.nearest-level.type_inv) ∙ level_is (goal.at.loop-i-preserved c).After-nearest-level),
 )
 
 pub returns : goal.returns

@@ -5,7 +5,6 @@ use native.Mathlib.Omega.{arith}
 use mir.Syntax.{w32}
 use mir.Val.{to_z, of_z}
 use Rattle.integers.proofs.MachineLaws.{round_trip}
-use Rattle.integers.proofs.SearchLaws.{none_zero}
 use Rattle.scaling_values.specs.Level.{listed_level}
 use Rattle.level_search.specs.Work.{side_end, reaches, nearest_size}
 use Rattle.level_search.proofs.SideLaws.{reaches_below}

@@ -8,8 +8,8 @@ use lib.ListN.{length}
 use Rattle.text.specs.Text.{Wrote}
 use Rattle.text.proofs.WroteLaws.{left_last, left_done, counts}
 use Rattle.feed_state.specs.Buffers.{Lent, lent}
-use Rattle.feed.specs.Answers.{state_after, end_after}
-use Rattle.feed_history.proofs.WalkLaws.{walk_text, going_start, going_room, Turn, turn_of, going_more, going_done}
+use Rattle.feed_state.specs.Taken.{state_after, end_after}
+use Rattle.feed_history.proofs.WalkLaws.{turn_room, walk_text, going_start, going_room, Turn, turn_of, going_more, going_done}
 use Rattle.scale_trace_rules.specs.Trace.{trace_text, listing_room}
 use Rattle.scale_trace.proofs.RunLaws.{listing_walk, Answered, traces_full, listing_refused, listing_passed, listing_follows}
 use Rattle.feed.proofs.LocalLaws.{Full, full, full_ample}
@@ -40,9 +40,6 @@ full_after c =
     let k = c.take_record.auto in
     record { levels = k.levels ∙ f.levels; coeff = k.coeff ∙ f.coeff; inter = k.inter ∙ f.inter; res = k.residual ∙ f.res }
 
-input_fits : (c : After-take_record) → length c.args.input.now ≤ 18446744073709551615
-input_fits c = omega arith
-
 -- what the record at the loop's offset did
 turned : (c : After-take_record)
     → let l = c.loop-state in let r = c.take_record.result in
@@ -50,16 +47,11 @@ turned : (c : After-take_record)
 turned c =
     let l = c.loop-state in
     let k = traces_full _ _ _ (full_ample _ l.invariant.1) c.take_record.ensures in
-    turn_of listing_walk _ _ l.state _ _ _ (input_fits c) c.loop-state-test.true c.record_at-kind.ensures.kind c.record_at-kind.ensures.body (record { is = k.answered }) k.state k.text (full_ample _ (full_after c))
-
--- the buffer behind a record has room for a line
-room_behind : (c : After-take_record) → end_after c.loop-state.end c.take_record.result + 40 ≤ length c.take_record.new.out
-room_behind c =
-    let g = c.loop-state.invariant.0 in
-    omega (arith, (turned c).text.bound, going_room g c.loop-state-test.true, g.left.long, c.take_record.auto.out)
+    let fits : length c.args.input.now ≤ 18446744073709551615 = omega arith in
+    turn_of listing_walk _ _ l.state _ _ _ fits c.loop-state-test.true c.record_at-kind.ensures.kind c.record_at-kind.ensures.body (record { is = k.answered }) k.state k.text (full_ample _ (full_after c))
 
 pub put_refusal-requires : goal.put_refusal-requires
-put_refusal-requires c = rw c.in-Err.is at (room_behind (goal.at.put_refusal-requires c).After-take_record)
+put_refusal-requires c = let k = (goal.at.put_refusal-requires c).After-take_record in rw c.in-Err.is at (turn_room k.loop-state.invariant.0 (turned k) k.take_record.auto.out)
 
 pub returns-in-Err : goal.returns-in-Err
 returns-in-Err c =
@@ -67,7 +59,7 @@ returns-in-Err c =
     let f = c.put_refusal in
     let k = (goal.at.returns-in-Err c).After-take_record in
     let turn = rw c.in-Err.is at (turned k) in
-    let room = rw c.in-Err.is at (room_behind k) in (
+    let room = rw c.in-Err.is at (turn_room k.loop-state.invariant.0 (turned k) k.take_record.auto.out) in (
       text_told _ _ _ _ _ l.invariant.2 (left_last (listing_refused l.invariant.0 turn _ refl) f.ensures.wrote),
       counts _ _ (omega (arith, f.ensures.bound, f.auto.out, room)),
     )

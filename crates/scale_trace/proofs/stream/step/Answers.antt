@@ -30,9 +30,6 @@ returns-then-out-list_room c =
 room : (c : Else-out-list_room) → let a = c.args in list_room a.kind ≤ length a.out.now
 room c = rw c.list_room.ensures at c.if-out-list_room.false
 
-pub take_record-requires : goal.take_record-requires
-take_record-requires c = omega (arith, room (goal.at.take_record-requires c).Else-out-list_room)
-
 pub returns : goal.returns
 returns c =
     traced_steps (state_of c.args.state (lent_at (goal.at.returns c).Start)) c.args.kind c.args.body.now (length c.args.out.now) (room (goal.at.returns c).Else-out-list_room) (omega (arith, room (goal.at.returns c).Else-out-list_room, c.take_record.auto.out)) c.take_record.ensures

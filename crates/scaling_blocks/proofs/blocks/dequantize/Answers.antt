@@ -1,21 +1,15 @@
 -- `scaling_blocks::blocks::dequantize` meets its contract: refused as the ladder says, else what was written and counted is what the definition says.
 use mathlib.Core.Path.{◌≡◌, sym, ap, ◌∙◌}
 use mathlib.Core.List.{map}
-use lib.ListN.{length}
 use Rattle.std.proofs.Common.{rules, Err}
 use Rattle.std.proofs.lemmas.List.{length-map}
 use Rattle.h265.specs.Scaling.{scaled_at}
 use Rattle.refusal.specs.Outcome.{answer}
-use Rattle.scaling_values.specs.Given.{list_of, entries_of}
-use Rattle.scaling_blocks.specs.Blocks.{dequantized, not_refused, block_answer}
+use Rattle.scaling_values.specs.Given.{list_of}
+use Rattle.scaling_blocks.specs.Blocks.{dequantized}
 use Rattle.scaling_blocks.proofs.BlockLaws.{block_told, block_refused_lem}
 use Rattle.scaling_blocks.proofs.blocks.dequantize.Goals as goal
-use Rattle.scaling_blocks.proofs.blocks.dequantize.Goals.{In_ok-block_refused, In_err-block_refused}
-
--- the ladder was passed
-passed : (g : _) → (c : In_ok-block_refused g)
-    → let a = c.args in not_refused ≡ block_answer g.R.Residual.NARROW a.n a.precision.bit_depth a.precision.extended (entries_of (list_of a.list)) (length a.levels.now) (length a.out.now)
-passed g c = rw (c.NARROW.ensures, c.len.ensures) at (sym (ap answer c.in_ok-block_refused.was) ∙ c.block_refused.ensures)
+use Rattle.scaling_blocks.proofs.blocks.dequantize.Goals.{In_err-block_refused}
 
 pub returns : goal.returns
 unfolding dequantized
@@ -23,7 +17,7 @@ returns g c =
     let a = c.args in
     block_told g.R.Residual.NARROW (list_of a.list) a.n a.qp_prime.0 a.precision.bit_depth a.precision.extended a.levels.now (map g.R.Residual.reads a.out.now)
     (scaled_at (list_of a.list) a.n a.precision.bit_depth a.precision.extended a.qp_prime.0 a.levels.now)
-    (rw (length-map a.out.now g.R.Residual.reads) (passed g (goal.at.returns g c).In_ok-block_refused)) c.scale.ensures
+    (rw (length-map a.out.now g.R.Residual.reads) (rw (c.NARROW.ensures, c.len.ensures) at (sym (ap answer c.in_ok-block_refused.was) ∙ c.block_refused.ensures))) c.scale.ensures
 
 pub returns-in_err-block_refused : goal.returns-in_err-block_refused
 unfolding dequantized

@@ -7,27 +7,21 @@ use native.Mathlib.Omega.{arith}
 use lib.ListN.{get_or}
 use lib.Pow.{split}
 use Rattle.h265.specs.ScalingFactor.{repeated_position}
-use Rattle.h265.proofs.RangeLaws.{size_bound, log2_size_bound}
 use Rattle.scaling_values.specs.Work.{spread_at}
+use Rattle.scaling_blocks.proofs.WorkLaws.{laid_small, laid_few}
 use Rattle.scaling_blocks.proofs.WorkLaws.{row_position, shared_row}
 use Rattle.scaling_blocks.proofs.spread.next_row.Goals as goal
 use Rattle.scaling_blocks.proofs.spread.next_row.Goals.{Else-row-repeats, Start}
 
-small : (s : Start) → s.args.n ≤ 32
-small s = (size_bound s.args.n s.requires.laid.rows.size).1
-
-few : (s : Start) → s.args.repeats ≤ 2
-few s = omega (arith, s.requires.laid.rows.repeats, log2_size_bound s.args.n s.requires.laid.rows.size)
-
 -- the multiple below the row is not larger than it
 back : (s : Start) → let a = s.args in (a.row / 2 ^ a.repeats * 2 ^ a.repeats) % 18446744073709551616 ≡ a.row / 2 ^ a.repeats * 2 ^ a.repeats
-back s = let a = s.args in mod-eq_of_lt (omega (arith, split a.row a.repeats, s.requires.row_lt_n, small s))
+back s = let a = s.args in mod-eq_of_lt (omega (arith, split a.row a.repeats, s.requires.row_lt_n, laid_small s.requires.laid))
 
 pub overflow_shr-row : goal.overflow_shr-row
-overflow_shr-row c = omega (arith, few (goal.at.overflow_shr-row c).Start)
+overflow_shr-row c = omega (arith, laid_few (goal.at.overflow_shr-row c).Start.requires.laid)
 
 pub overflow_shl-row : goal.overflow_shl-row
-overflow_shl-row c = omega (arith, few (goal.at.overflow_shl-row c).Start)
+overflow_shl-row c = omega (arith, laid_few (goal.at.overflow_shl-row c).Start.requires.laid)
 
 pub spread_row-requires : goal.spread_row-requires
 spread_row-requires c = c.requires
@@ -60,7 +54,7 @@ shared c k h =
 
 pub copy_row-requires : goal.copy_row-requires
 copy_row-requires c =
-    record { n_in_bounds = c.requires.laid.room; le_row = (positive (goal.at.copy_row-requires c).Else-row-repeats, c.requires.row_lt_n); n_bound = small (goal.at.copy_row-requires c).Start }
+    record { n_in_bounds = c.requires.laid.room; le_row = (positive (goal.at.copy_row-requires c).Else-row-repeats, c.requires.row_lt_n); n_bound = laid_small (goal.at.copy_row-requires c).Start.requires.laid }
 
 pub returns : goal.returns
 unfolding spread_at

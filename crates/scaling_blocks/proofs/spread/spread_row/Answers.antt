@@ -6,22 +6,16 @@ use native.Mathlib.Omega.{arith}
 use lib.Arith.{digits_lt}
 use lib.ListN.{get_or}
 use Rattle.h265.specs.ScalingFactor.{repeated_position}
-use Rattle.h265.proofs.RangeLaws.{size_bound, log2_size_bound}
 use Rattle.scaling_values.specs.Work.{spread_at}
 use Rattle.scaling_values.proofs.FactorLaws.{position_inside}
+use Rattle.scaling_blocks.proofs.WorkLaws.{laid_small, laid_few}
 use Rattle.scaling_blocks.proofs.WorkLaws.{row_position, fills_none, fills_more, fills_to}
 use Rattle.scaling_blocks.proofs.spread.spread_row.Goals as goal
 use Rattle.scaling_blocks.proofs.spread.spread_row.Goals.{In-loop-c, Start}
 
 -- sizes, and the index at a column
-small : (s : Start) → s.args.n ≤ 32
-small s = (size_bound s.args.n s.requires.laid.rows.size).1
-
 first_small : (s : Start) → s.args.row * s.args.n ≤ 32 * 32
-first_small s = mul-le-mul (let e : s.args.row ≤ 32 = omega (arith, small s, s.requires.row_lt_n) in e) (small s)
-
-few : (s : Start) → s.args.repeats ≤ 2
-few s = omega (arith, s.requires.laid.rows.repeats, log2_size_bound s.args.n s.requires.laid.rows.size)
+first_small s = mul-le-mul (let e : s.args.row ≤ 32 = omega (arith, laid_small s.requires.laid, s.requires.row_lt_n) in e) (laid_small s.requires.laid)
 
 below : (c : In-loop-c) → c.args.row * c.args.n + c.loop-c.c < c.args.n * c.args.n
 below c = digits_lt c.requires.row_lt_n c.loop-c-test.true
@@ -39,16 +33,16 @@ pub overflow_mul-at : goal.overflow_mul-at
 overflow_mul-at c = omega (arith, first_small c)
 
 pub overflow_shr-entry : goal.overflow_shr-entry
-overflow_shr-entry c = omega (arith, few c)
+overflow_shr-entry c = omega (arith, laid_few c.requires.laid)
 
 pub overflow_mul-entry : goal.overflow_mul-entry
-overflow_mul-entry c = omega (arith, div-le_self c.args.row (2 ^ c.args.repeats), c.requires.row_lt_n, small c)
+overflow_mul-entry c = omega (arith, div-le_self c.args.row (2 ^ c.args.repeats), c.requires.row_lt_n, laid_small c.requires.laid)
 
 pub loop-c-init : goal.loop-c-init
 loop-c-init c = fills_none (omega arith)
 
 pub overflow_shr-entries : goal.overflow_shr-entries
-overflow_shr-entries c = omega (arith, few (goal.at.overflow_shr-entries c).Start)
+overflow_shr-entries c = omega (arith, laid_few (goal.at.overflow_shr-entries c).Start.requires.laid)
 
 pub overflow_add-entries : goal.overflow_add-entries
 overflow_add-entries c = omega (arith, inside c)
@@ -57,7 +51,7 @@ pub bounds-list-entry : goal.bounds-list-entry
 bounds-list-entry c = omega (arith, inside (goal.at.bounds-list-entry c).In-loop-c, c.requires.laid.whole)
 
 pub overflow_add-entries-in-loop-c : goal.overflow_add-entries-in-loop-c
-overflow_add-entries-in-loop-c c = omega (arith, first_small (goal.at.overflow_add-entries-in-loop-c c).Start, small (goal.at.overflow_add-entries-in-loop-c c).Start, c.loop-c-test.true)
+overflow_add-entries-in-loop-c c = omega (arith, first_small (goal.at.overflow_add-entries-in-loop-c c).Start, laid_small (goal.at.overflow_add-entries-in-loop-c c).Start.requires.laid, c.loop-c-test.true)
 
 pub bounds-entries-at : goal.bounds-entries-at
 bounds-entries-at c = omega (arith, below (goal.at.bounds-entries-at c).In-loop-c, c.loop-c.invariant.same, c.requires.laid.room)

@@ -16,7 +16,7 @@ returns-in_err-delta c =
 
 pub fill_referred-dc-requires : goal.fill_referred-dc-requires
 unfolding size_id
-fill_referred-dc-requires c = (c.requires.0, c.requires.1, rw c.matrix_of-matrix_id.ensures.0 at c.in_ok-delta.ensures.1.1)
+fill_referred-dc-requires c = (c.requires.0, rw c.matrix_of-matrix_id.ensures.0 at c.in_ok-delta.ensures.1.1)
 
 pub returns : goal.returns
 unfolding size_id

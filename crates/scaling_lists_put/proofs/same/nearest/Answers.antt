@@ -1,8 +1,7 @@
 -- `scaling_lists_put::same::nearest` meets its contract: the first that is the same, else none.
 use mathlib.Core.Path.{◌≡◌, sym, ap₂, ◌∙◌}
 use Prim.Native.Nat.{◌-◌, ◌%◌}
-use native.Mathlib.Omega.{arith}
-use Rattle.integers.proofs.SearchLaws.{none_suc, first_where-none, first_where_found}
+use Rattle.integers.proofs.SearchLaws.{first_where-none, first_where_found}
 use Rattle.scaling_lists_codes.specs.Syntax.{size_id}
 use Rattle.scaling_lists_written.specs.Same.{same_list, list_at}
 use Rattle.scaling_lists_written.specs.Written.{earlier, nearest}
@@ -19,8 +18,8 @@ pub returns-then-same_list : goal.returns-then-same_list
 unfolding nearest earlier
 returns-then-same_list c =
     let e = compared (goal.at.returns-then-same_list c).After-same_list in
-    (sym (first_where_found (c.args.j % 6) c.loop-d.d c.loop-d-test.true c.loop-d.invariant (sym e ∙ c.if-same_list.true)), omega arith)
+    (first_where_found (c.args.j % 6) c.loop-d.d c.loop-d-test.true c.loop-d.invariant (sym e ∙ c.if-same_list.true), c.loop-d-test.true)
 
 pub returns : goal.returns
 unfolding nearest earlier
-returns c = (sym (first_where-none (c.args.j % 6) c.loop-d-test.false c.loop-d.invariant), omega arith)
+returns c = first_where-none (c.args.j % 6) c.loop-d-test.false c.loop-d.invariant

@@ -7,13 +7,13 @@ use lib.IntN.{ℤ, pos, neg_ℤ, nat_abs, ◌-ℤ◌}
 use lib.Pow.{pow_mono, pow-lt}
 use mir.Facts.{to_z_pos}
 use mir.Syntax.{w32, w64}
-use mir.Val.{SFits, to_z, of_z}
+use mir.Val.{to_z, of_z}
 use Rattle.integers.specs.Shift.{pow2, shift_right}
 use Rattle.integers.proofs.LinearLaws.{parts_add, parts_neg, parts_ext}
 use Rattle.integers.proofs.MachineLaws.{round_trip}
 use Rattle.integers.proofs.BoundLaws.{within_fits, within_pos, within_eq, within_neg}
 use Rattle.scaling_values.specs.Level.{listed_level}
-use Rattle.scaling_values.proofs.LevelLaws.{listed_level_fits, manageable_ends}
+use Rattle.scaling_values.proofs.LevelLaws.{manageable_wide, listed_level_fits, manageable_ends}
 use Rattle.scaling_values.proofs.FlatLaws.{base_eq, add_eq, end_below}
 use Rattle.scaling_values.proofs.ThresholdLaws.{coeff_max_pos}
 use Rattle.scaling_values.specs.Flat.{Divided, TopOf, LowOf}
@@ -23,15 +23,6 @@ use Rattle.scaling_values.proofs.flat.flat_params.Goals.{After-low_level-least, 
 moved : {x x' y y' z z' : ℤ} (Q : ℕ → ℕ → ℕ → Type 0) → x ≡ x' → y ≡ y' → z ≡ z' → Q (nat_abs x) (nat_abs y) (nat_abs z) → Q (nat_abs x') (nat_abs y') (nat_abs z')
 moved {x} {x'} {y} {y'} {z} {z'} Q a b c h =
     subst (λ (w : ℤ). Q (nat_abs x') (nat_abs y') (nat_abs w)) c (subst (λ (w : ℤ). Q (nat_abs x') (nat_abs w) (nat_abs z)) b (subst (λ (w : ℤ). Q (nat_abs w) (nat_abs y) (nat_abs z)) a h))
-
-factor_fits : (c : Start) → SFits w64 c.args.by.factor
-factor_fits c = within_fits tt c.requires.manageable.factor
-
-add_fits : (c : Start) → SFits w64 c.args.by.add
-add_fits c = within_fits tt c.requires.manageable.add
-
-most_fits : (c : Start) → SFits w64 c.args.by.clip_max
-most_fits c = within_fits tt c.requires.manageable.most
 
 -- the numbers as naturals
 scale_small : (c : Start) → c.requires.regular.scale ≤ 4718592
@@ -47,10 +38,10 @@ half_small : (c : Start) → 2 ^ (c.args.by.shift - 5) ≤ 2 ^ 15
 half_small c = pow_mono {i = c.args.by.shift - 5} {j = 15} (omega (arith, c.requires.regular.high))
 
 base_is : (c : After-shift_right-base) → c.shift_right-base.result ≡ shift_right c.args.by.factor 4
-base_is c = rw (round_trip (factor_fits (goal.at.After-shift_right-base c).Start)) at c.shift_right-base.ensures
+base_is c = rw (round_trip (manageable_wide (goal.at.After-shift_right-base c).Start.requires.manageable).factor) at c.shift_right-base.ensures
 
 add_is : (c : After-shift_right-add) → c.shift_right-add.result ≡ shift_right c.args.by.add 4
-add_is c = rw (round_trip (add_fits (goal.at.After-shift_right-add c).Start)) at c.shift_right-add.ensures
+add_is c = rw (round_trip (manageable_wide (goal.at.After-shift_right-add c).Start.requires.manageable).add) at c.shift_right-add.ensures
 
 base_trip : (c : After-shift_right-base) → to_z w64 (of_z w64 c.shift_right-base.result) ≡ pos c.requires.regular.scale
 base_trip c =
@@ -63,7 +54,7 @@ add_trip c =
     round_trip {w = w64} (sfits_of c.shift_right-add.type_inv) ∙ add_is c ∙ add_eq c.args.by r.scale r.factor r.add r.low
 
 most_trip : (c : Start) → to_z w64 (of_z w64 c.args.by.clip_max) ≡ pos (2 ^ c.requires.regular.range - 1)
-most_trip c = round_trip (most_fits c) ∙ most_is c
+most_trip c = round_trip (manageable_wide c.requires.manageable).ends.most ∙ most_is c
 
 divided : (c : Start) → Divided c.requires.regular.scale (2 ^ (c.args.by.shift - 5)) (c.args.by.shift - 4) (2 ^ c.requires.regular.range - 1)
 divided c =
@@ -150,7 +141,7 @@ numbers_of : (c : After-top_level-largest) (Q : ℕ → ℕ → ℕ → Type 0)
     → Q (nat_abs (to_z w64 (of_z w64 (base-call c).shift_right-base.result))) (nat_abs (to_z w64 (of_z w64 (add-call c).shift_right-add.result))) (nat_abs (to_z w64 (of_z w64 (start c).args.by.clip_max)))
     → Q (nat_abs (shift_right (start c).args.by.factor 4)) (nat_abs (shift_right (start c).args.by.add 4)) (nat_abs (start c).args.by.clip_max)
 numbers_of c Q h =
-    moved Q (round_trip {w = w64} (sfits_of (base-call c).shift_right-base.type_inv) ∙ base_is (base-call c)) (round_trip {w = w64} (sfits_of (add-call c).shift_right-add.type_inv) ∙ add_is (add-call c)) (round_trip (most_fits (start c))) h
+    moved Q (round_trip {w = w64} (sfits_of (base-call c).shift_right-base.type_inv) ∙ base_is (base-call c)) (round_trip {w = w64} (sfits_of (add-call c).shift_right-add.type_inv) ∙ add_is (add-call c)) (round_trip (manageable_wide (start c).requires.manageable).ends.most) h
 
 -- the coefficients past them
 under_is : (c : After-scaled_listed-under) → c.scaled_listed-under.result.value ≡ listed_level (start (goal.at.After-scaled_listed-under c).After-top_level-largest).args.by 16 (neg_ℤ (pos (c.low_level-least.result + 1)))

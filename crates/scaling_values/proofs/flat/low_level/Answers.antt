@@ -1,10 +1,8 @@
 -- `scaling_values::flat::low_level` meets its contract: nothing wraps, and the quotient is the last whose product stays within the end.
-use mathlib.Core.Path.{◌≡◌}
-use Prim.Native.Nat.{◌+◌, ◌*◌, ◌%◌, ◌^◌}
-use native.Mathlib.Nat.{mod-eq_of_lt, mul-le-mul_left}
+use Prim.Native.Nat.{◌+◌}
+use native.Mathlib.Nat.{mul-le-mul_left}
 use native.Mathlib.Omega.{arith}
 use lib.Pow.{pow_pos}
-use Rattle.scaling_values.proofs.DivisionLaws.{low_least, half_below}
 use Rattle.scaling_values.proofs.flat.low_level.Goals as goal
 use Rattle.scaling_values.proofs.flat.low_level.Goals.{Start}
 

@@ -4,7 +4,6 @@ use mathlib.Core.Path.{◌≡◌, ◌∙◌, ap}
 use borrow.Author.Rules.{sfits_of}
 use lib.IntN.{ℤ, ◌*ℤ◌}
 use mir.Syntax.{w64}
-use mir.Val.{SFits}
 use Prim.Native.Nat.{◌*◌}
 use Rattle.integers.specs.Clip.{clip3}
 use Rattle.integers.specs.Within.{Within}
@@ -12,28 +11,19 @@ use Rattle.integers.proofs.MachineLaws.{round_trip, sfits_widen_trip}
 use Rattle.integers.proofs.BoundLaws.{within_fits, within_eq, within_mul, within_add}
 use Rattle.integers.proofs.ClipLaws.{clamp_clips, clip3_within}
 use Rattle.scaling_values.specs.Level.{level_by, result_by, outside_by}
-use Rattle.scaling_values.proofs.LevelLaws.{level_by_fits, manageable_ends, moved_outside}
+use Rattle.scaling_values.proofs.LevelLaws.{manageable_wide, level_by_fits, manageable_ends, moved_outside}
 use Rattle.scaling_values.proofs.level.scaled.Goals as goal
 use Rattle.scaling_values.proofs.level.scaled.Goals.{After-clamp-near, After-clamp-value, After-shift_right-shifted, After-struct_told-3-1, Start}
-
-least_fits : (c : Start) → SFits w64 c.args.by.clip_min
-least_fits c = within_fits tt c.requires.manageable.least
-
-most_fits : (c : Start) → SFits w64 c.args.by.clip_max
-most_fits c = within_fits tt c.requires.manageable.most
-
-add_fits : (c : Start) → SFits w64 c.args.by.add
-add_fits c = within_fits tt c.requires.manageable.add
 
 pub overflow_cast-given : goal.overflow_cast-given
 overflow_cast-given c = sfits_widen_trip c.ranges.level tt
 
 pub clamp-near-requires : goal.clamp-near-requires
-clamp-near-requires c = rw (round_trip (least_fits (goal.at.clamp-near-requires c).Start), round_trip (most_fits (goal.at.clamp-near-requires c).Start)) c.requires.manageable.ordered
+clamp-near-requires c = rw (round_trip (manageable_wide (goal.at.clamp-near-requires c).Start.requires.manageable).ends.least, round_trip (manageable_wide (goal.at.clamp-near-requires c).Start.requires.manageable).ends.most) c.requires.manageable.ordered
 
 limited_is : (c : After-clamp-near) → let a = c.args in c.clamp-near.result ≡ clip3 a.by.clip_min a.by.clip_max a.level
 limited_is c =
-    rw (round_trip (least_fits (goal.at.After-clamp-near c).Start), round_trip (most_fits (goal.at.After-clamp-near c).Start), round_trip (overflow_cast-given (goal.at.After-clamp-near c).Start), round_trip c.ranges.level) at c.clamp-near.ensures.value
+    rw (round_trip (manageable_wide (goal.at.After-clamp-near c).Start.requires.manageable).ends.least, round_trip (manageable_wide (goal.at.After-clamp-near c).Start.requires.manageable).ends.most, round_trip (overflow_cast-given (goal.at.After-clamp-near c).Start), round_trip c.ranges.level) at c.clamp-near.ensures.value
     ∙ clamp_clips c.args.by.clip_min c.args.by.clip_max c.args.level c.requires.manageable.ordered
 
 limited_within : (c : After-clamp-near) → Within 4194304 c.clamp-near.result
@@ -49,12 +39,12 @@ overflow_mul-near c =
 
 pub overflow_add-near : goal.overflow_add-near
 overflow_add-near c =
-    rw (round_trip (overflow_mul-near (goal.at.overflow_add-near c).After-clamp-near), round_trip (sfits_of c.clamp-near.type_inv), round_trip c.ranges.factor, round_trip (add_fits (goal.at.overflow_add-near c).Start))
+    rw (round_trip (overflow_mul-near (goal.at.overflow_add-near c).After-clamp-near), round_trip (sfits_of c.clamp-near.type_inv), round_trip c.ranges.factor, round_trip (manageable_wide (goal.at.overflow_add-near c).Start.requires.manageable).add)
     (within_fits tt (within_add (product_within (goal.at.overflow_add-near c).After-clamp-near) c.requires.manageable.add))
 
 pub clamp-value-requires : goal.clamp-value-requires
 clamp-value-requires c =
-    rw (round_trip (least_fits (goal.at.clamp-value-requires c).Start), round_trip (most_fits (goal.at.clamp-value-requires c).Start)) c.requires.manageable.ordered
+    rw (round_trip (manageable_wide (goal.at.clamp-value-requires c).Start.requires.manageable).ends.least, round_trip (manageable_wide (goal.at.clamp-value-requires c).Start.requires.manageable).ends.most) c.requires.manageable.ordered
 
 -- the numbers on the way, in the contract's terms
 abbrev start : After-clamp-value → Start
@@ -69,13 +59,13 @@ shifted_is c =
       round_trip (overflow_mul-near (goal.at.After-shift_right-shifted c).After-clamp-near),
       round_trip (sfits_of c.clamp-near.type_inv),
       round_trip c.ranges.factor,
-      round_trip (add_fits (goal.at.After-shift_right-shifted c).Start),
+      round_trip (manageable_wide (goal.at.After-shift_right-shifted c).Start.requires.manageable).add,
       limited_is (goal.at.After-shift_right-shifted c).After-clamp-near,
     )
 
 limit_is : (c : After-clamp-value) → let a = c.args in c.clamp-value.result ≡ clip3 a.by.clip_min a.by.clip_max (result_by a.by a.factor a.level)
 limit_is c =
-    rw (round_trip (least_fits (goal.at.After-clamp-value c).Start), round_trip (most_fits (goal.at.After-clamp-value c).Start), round_trip (sfits_of c.shift_right-shifted.type_inv)) at c.clamp-value.ensures.value
+    rw (round_trip (manageable_wide (goal.at.After-clamp-value c).Start.requires.manageable).ends.least, round_trip (manageable_wide (goal.at.After-clamp-value c).Start.requires.manageable).ends.most, round_trip (sfits_of c.shift_right-shifted.type_inv)) at c.clamp-value.ensures.value
     ∙ clamp_clips c.args.by.clip_min c.args.by.clip_max c.shift_right-shifted.result c.requires.manageable.ordered
     ∙ ap (λ (z : ℤ). clip3 c.args.by.clip_min c.args.by.clip_max z) (shifted_is (goal.at.After-clamp-value c).After-shift_right-shifted)
 

@@ -5,7 +5,7 @@ use native.Mathlib.Omega.{arith}
 use borrow.Author.Rules.{sfits_of}
 use lib.IntN.{pos, ◌*ℤ◌}
 use mir.Syntax.{w64}
-use mir.Val.{SFits, to_z}
+use mir.Val.{to_z}
 use mir.Facts.{to_z_pos}
 use Rattle.integers.specs.Shift.{shift_right}
 use Rattle.integers.specs.Within.{Within}
@@ -13,17 +13,15 @@ use Rattle.integers.proofs.MachineLaws.{round_trip}
 use Rattle.integers.proofs.BoundLaws.{within_fits, within_eq, within_mul, within_pos}
 use Rattle.integers.proofs.ShiftLaws.{shift_right_within}
 use Rattle.scaling_values.specs.Level.{listed_level, listed_result}
+use Rattle.scaling_values.proofs.LevelLaws.{manageable_wide}
 use Rattle.scaling_values.proofs.level.scaled_listed.Goals as goal
 use Rattle.scaling_values.proofs.level.scaled_listed.Goals.{After-shift_right, Start}
-
-factor_fits : (c : Start) → SFits w64 c.args.by.factor
-factor_fits c = within_fits tt c.requires.factor
 
 m_is : (c : Start) → to_z w64 c.args.m ≡ pos c.args.m
 m_is c = to_z_pos w64 (omega arith)
 
 base_is : (c : After-shift_right) → c.shift_right.result ≡ shift_right c.args.by.factor 4
-base_is c = rw (round_trip (factor_fits (goal.at.After-shift_right c).Start)) at c.shift_right.ensures
+base_is c = rw (round_trip (manageable_wide (goal.at.After-shift_right c).Start.requires).factor) at c.shift_right.ensures
 
 product_within : (c : After-shift_right) → Within (75497472 * 255) (c.shift_right.result *ℤ pos c.args.m)
 product_within c =

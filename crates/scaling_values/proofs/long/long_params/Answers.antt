@@ -1,7 +1,6 @@
 -- `scaling_values::long::long_params` meets its contract: the remainder by 64 changes nothing, and either way the numbers are the block's.
 use mathlib.Core.Path.{◌≡◌, ap, ap₂, subst, sym, ◌∙◌}
 use Prim.Native.Nat.{ℕ, ◌+◌, ◌-◌, ◌*◌, ◌/◌, ◌%◌, ◌^◌, ◌<◌, ◌≤◌}
-use native.Mathlib.Nat.{mod-eq_of_lt}
 use native.Mathlib.Omega.{arith}
 use borrow.Author.Rules.{sfits_of}
 use lib.Count.{count_trailing_zeros}
@@ -16,6 +15,7 @@ use Rattle.scaling_values.specs.declared.LongParams.{LongParams}
 use Rattle.scaling_values.specs.Listed.{zeros_by, odd_by}
 use Rattle.scaling_values.specs.Long.{long_by, LongFor}
 use Rattle.scaling_values.proofs.ThresholdLaws.{coeff_max_pos}
+use Rattle.scaling_values.proofs.ListedLaws.{zeros_by_is, odd_by_is}
 use Rattle.scaling_values.proofs.LongLaws.{lowered_for, raised_for, lowered_end_is, raised_end_is}
 use Rattle.scaling_values.proofs.long.long_params.Goals as goal
 use Rattle.scaling_values.proofs.long.long_params.Goals.{After-odd_of-base, After-scale_of-scale, Else-zeros-by, Start, Then-zeros-by}
@@ -36,18 +36,6 @@ most_small s = omega (arith, pow_mono {i = range s} {j = 22} s.requires.longable
 most_trip : (s : Start) → to_z w64 (of_z w64 s.args.by.clip_max) ≡ pos (most s)
 most_trip s = round_trip {w = w64} (within_fits {b = 4194304} tt s.requires.manageable.most) ∙ s.requires.longable.most ∙ coeff_max_pos (range s)
 
-zeros_is : (c : After-scale_of-scale) → count_trailing_zeros 32 c.scale_of-scale.result ≡ zeros_by c.args.by
-zeros_is c = ap (count_trailing_zeros 32) c.scale_of-scale.ensures
-
-odd_is : (c : After-odd_of-base) → c.odd_of-base.result ≡ pos (odd_by c.args.by)
-odd_is c =
-    c.odd_of-base.ensures
-    ∙ ap (λ (k : ℕ). pos (k / 2 ^ count_trailing_zeros 32 k % 64)) c.scale_of-scale.ensures
-    ∙ ap pos (mod-eq_of_lt c.requires.longable.odd)
-
-base_is : (c : After-odd_of-base) → to_z w32 (of_z w32 c.odd_of-base.result) ≡ pos (odd_by c.args.by)
-base_is c = round_trip {w = w32} (sfits_of c.odd_of-base.type_inv) ∙ odd_is c
-
 pub overflow_cast-most : goal.overflow_cast-most
 overflow_cast-most c = rw (most_trip (goal.at.overflow_cast-most c).Start) (tt, omega (arith, most_small (goal.at.overflow_cast-most c).Start))
 
@@ -59,7 +47,7 @@ abbrev start-1 : Then-zeros-by → Start
 start-1 t = (goal.at.After-odd_of-base (odd-1 t)).Start
 
 lower : (t : Then-zeros-by) → let by = (start-1 t).args.by in zeros_by by < by.shift
-lower t = subst (λ (z : ℕ). z < (start-1 t).args.by.shift) (zeros_is (goal.at.After-odd_of-base (odd-1 t)).After-scale_of-scale) t.if-zeros-by.true
+lower t = subst (λ (z : ℕ). z < (start-1 t).args.by.shift) (zeros_by_is _ (odd-1 t).scale_of-scale.ensures) t.if-zeros-by.true
 
 abbrev power-1 : Then-zeros-by → ℕ
 power-1 t = let s = start-1 t in range s + (s.args.by.shift - zeros_by s.args.by) - 7
@@ -68,7 +56,7 @@ end_1 : (t : Then-zeros-by)
     → let s = start-1 t in ((nat_abs (to_z w64 (of_z w64 s.args.by.clip_max)) + 1) * 2 ^ (s.args.by.shift - count_trailing_zeros 32 (odd-1 t).scale_of-scale.result)) % 4294967296 / 2 ^ 7 ≡ 2 ^ power-1 t
 end_1 t =
     let s = start-1 t in
-    ap₂ (λ (m : ℤ) (z : ℕ). ((nat_abs m + 1) * 2 ^ (s.args.by.shift - z)) % 4294967296 / 2 ^ 7) (most_trip s) (zeros_is (goal.at.After-odd_of-base (odd-1 t)).After-scale_of-scale) ∙ lowered_end_is s.requires.longable (lower t)
+    ap₂ (λ (m : ℤ) (z : ℕ). ((nat_abs m + 1) * 2 ^ (s.args.by.shift - z)) % 4294967296 / 2 ^ 7) (most_trip s) (zeros_by_is _ (odd-1 t).scale_of-scale.ensures) ∙ lowered_end_is s.requires.longable (lower t)
 
 pub long_of-requires : goal.long_of-requires
 long_of-requires c =
@@ -93,8 +81,8 @@ returns-then-zeros-by c =
     subst (λ (k : LongParams). LongFor by k)
     (sym
     (c.long_of.ensures
-    ∙ ap₂ (λ (b : ℤ) (a : ℤ). long_by b a (by.shift - z) 0 e m) (base_is o) (add_is (by.shift - z) (omega (arith, s.requires.longable.high)))
-    ∙ ap (λ (y : ℕ). long_by (pos (odd_by by)) (pow2 (by.shift - y - 1)) (by.shift - y) 0 e m) (zeros_is (goal.at.After-odd_of-base o).After-scale_of-scale)
+    ∙ ap₂ (λ (b : ℤ) (a : ℤ). long_by b a (by.shift - z) 0 e m) (round_trip {w = w32} (sfits_of o.odd_of-base.type_inv) ∙ odd_by_is _ o.odd_of-base.ensures o.scale_of-scale.ensures s.requires.longable.odd) (add_is (by.shift - z) (omega (arith, s.requires.longable.high)))
+    ∙ ap (λ (y : ℕ). long_by (pos (odd_by by)) (pow2 (by.shift - y - 1)) (by.shift - y) 0 e m) (zeros_by_is _ o.scale_of-scale.ensures)
     ∙ ap₂ (λ (x : ℕ) (y : ℤ). long_by (pos (odd_by by)) (pow2 (by.shift - zeros_by by - 1)) (by.shift - zeros_by by) 0 x (nat_abs y)) (end_1 (goal.at.returns-then-zeros-by c).Then-zeros-by) (most_trip s)))
     (lowered_for s.requires.longable (most s) (top_is s) (lower (goal.at.returns-then-zeros-by c).Then-zeros-by))
 
@@ -106,7 +94,7 @@ abbrev start-2 : Else-zeros-by → Start
 start-2 t = (goal.at.After-odd_of-base (odd-2 t)).Start
 
 higher : (t : Else-zeros-by) → let by = (start-2 t).args.by in by.shift ≤ zeros_by by
-higher t = subst (λ (z : ℕ). (start-2 t).args.by.shift ≤ z) (zeros_is (goal.at.After-odd_of-base (odd-2 t)).After-scale_of-scale) (omega (arith, t.if-zeros-by.false))
+higher t = subst (λ (z : ℕ). (start-2 t).args.by.shift ≤ z) (zeros_by_is _ (odd-2 t).scale_of-scale.ensures) (omega (arith, t.if-zeros-by.false))
 
 abbrev power-2 : Else-zeros-by → ℕ
 power-2 t = let s = start-2 t in range s - (zeros_by s.args.by - s.args.by.shift) - 7
@@ -115,7 +103,7 @@ end_2 : (t : Else-zeros-by)
     → let s = start-2 t in (nat_abs (to_z w64 (of_z w64 s.args.by.clip_max)) + 1) / 2 ^ (count_trailing_zeros 32 (odd-2 t).scale_of-scale.result - s.args.by.shift) / 2 ^ 7 ≡ 2 ^ power-2 t
 end_2 t =
     let s = start-2 t in
-    ap₂ (λ (m : ℤ) (z : ℕ). (nat_abs m + 1) / 2 ^ (z - s.args.by.shift) / 2 ^ 7) (most_trip s) (zeros_is (goal.at.After-odd_of-base (odd-2 t)).After-scale_of-scale) ∙ raised_end_is s.requires.longable (higher t)
+    ap₂ (λ (m : ℤ) (z : ℕ). (nat_abs m + 1) / 2 ^ (z - s.args.by.shift) / 2 ^ 7) (most_trip s) (zeros_by_is _ (odd-2 t).scale_of-scale.ensures) ∙ raised_end_is s.requires.longable (higher t)
 
 pub long_of-requires-2 : goal.long_of-requires-2
 long_of-requires-2 c =
@@ -136,6 +124,6 @@ returns c =
     subst (λ (k : LongParams). LongFor by k)
     (sym
     (c.long_of-2.ensures
-    ∙ ap₂ (λ (b : ℤ) (y : ℕ). long_by b (pos 0) 0 (y - by.shift) e m) (base_is o) (zeros_is (goal.at.After-odd_of-base o).After-scale_of-scale)
+    ∙ ap₂ (λ (b : ℤ) (y : ℕ). long_by b (pos 0) 0 (y - by.shift) e m) (round_trip {w = w32} (sfits_of o.odd_of-base.type_inv) ∙ odd_by_is _ o.odd_of-base.ensures o.scale_of-scale.ensures s.requires.longable.odd) (zeros_by_is _ o.scale_of-scale.ensures)
     ∙ ap₂ (λ (x : ℕ) (y : ℤ). long_by (pos (odd_by by)) (pos 0) 0 (zeros_by by - by.shift) x (nat_abs y)) (end_2 (goal.at.returns c).Else-zeros-by) (most_trip s)))
     (raised_for s.requires.longable (most s) (top_is s) (higher (goal.at.returns c).Else-zeros-by))

@@ -4,49 +4,28 @@ use mathlib.Core.Bool.{Bool, false, cond}
 use Prim.Native.Nat.{◌*◌, ◌%◌, ◌^◌}
 use native.Mathlib.Omega.{arith}
 use borrow.Author.Rules.{sfits_of}
-use lib.IntN.{ℤ, pos, negsuc, ◌+ℤ◌, ◌*ℤ◌}
-use lib.Dec.{lit<}
+use lib.IntN.{ℤ, pos, ◌+ℤ◌, ◌*ℤ◌}
 use lib.Signed.{shr_z, lt_z, ◌≤ℤ◌}
 use mir.Facts.{to_z_pos}
 use mir.Syntax.{w32}
 use mir.Val.{SFits, to_z, of_z}
 use Rattle.integers.specs.Clip.{clip3}
 use Rattle.integers.specs.Shift.{pow2, shift_right}
-use Rattle.integers.specs.Within.{Within}
 use Rattle.integers.proofs.MachineLaws.{round_trip, lt_z_round_trip, lt_z_false}
-use Rattle.integers.proofs.BoundLaws.{within_fits, within_mul, within_pos}
+use Rattle.integers.proofs.BoundLaws.{within_fits}
 use Rattle.scaling_values.specs.Long.{long_product, long_level, rest_of}
-use Rattle.scaling_values.proofs.LevelLaws.{between_fits}
 use Rattle.integers.proofs.ClipLaws.{clamp_clips}
-use Rattle.scaling_values.proofs.ListedLaws.{shl_fits}
-use Rattle.scaling_values.proofs.LongLaws.{rest_low, rest_high, rest_sum, near_clip, near_within, over_fits, whole_fits, long_fits, long_between, long_below, long_above, long_inside}
+use Rattle.scaling_values.proofs.ListedLaws.{shl_fits, factor_within}
+use Rattle.scaling_values.proofs.LongLaws.{long_numbers, rest_low, rest_high, rest_sum, near_clip, near_within, over_fits, whole_fits, long_fits, long_between, long_below, long_above, long_inside}
 use Rattle.scaling_values.proofs.long.scaled_long.Goals as goal
 use Rattle.scaling_values.proofs.long.scaled_long.Goals.{After-clamp-near, After-product-made, After-struct_told-3-1, Else-by-made, Else-made-by, Start}
 
 -- the block's numbers fit
-base_fits : (s : Start) → SFits w32 s.args.by.base
-base_fits s = within_fits tt s.requires.base
-
-add_fits : (s : Start) → SFits w32 s.args.by.add
-add_fits s = within_fits tt s.requires.add
-
 least_fits : (s : Start) → SFits w32 s.args.by.least
 least_fits s = within_fits tt (near_within s.requires.least)
 
 most_fits : (s : Start) → SFits w32 s.args.by.most
 most_fits s = within_fits tt (near_within s.requires.most)
-
-low_fits : (s : Start) → SFits w32 s.args.by.low
-low_fits s = between_fits (negsuc 16777215) (pos 0) s.args.by.low (record { sfits = lit< tt }) (record { sfits = lit< tt }) s.requires.low s.requires.lowest
-
-top_fits : (s : Start) → SFits w32 s.args.by.top
-top_fits s = between_fits (pos 0) (pos 16777215) s.args.by.top (record { sfits = lit< tt }) (record { sfits = lit< tt }) s.requires.topmost s.requires.top
-
-m_is : (s : Start) → to_z w32 s.args.m ≡ pos s.args.m
-m_is s = to_z_pos w32 (omega arith)
-
-factor_within : (s : Start) → Within (255 * 63) (pos s.args.m *ℤ s.args.by.base)
-factor_within s = within_mul {a = 255} (within_pos (omega arith)) s.requires.base
 
 -- ---- the limited level
 abbrev start-1 : After-clamp-near → Start
@@ -58,9 +37,6 @@ near_is c =
     rw (round_trip s.ranges.level, round_trip (least_fits s), round_trip (most_fits s)) at c.clamp-near.ensures.value
     ∙ clamp_clips s.args.by.least s.args.by.most s.args.level s.requires.ordered
 
-near_fits : (c : After-clamp-near) → SFits w32 c.clamp-near.result
-near_fits c = sfits_of c.clamp-near.type_inv
-
 pub clamp-near-requires : goal.clamp-near-requires
 clamp-near-requires c =
     rw (round_trip (least_fits (goal.at.clamp-near-requires c).Start), round_trip (most_fits (goal.at.clamp-near-requires c).Start)) c.requires.ordered
@@ -68,13 +44,13 @@ clamp-near-requires c =
 pub overflow_mul-m : goal.overflow_mul-m
 overflow_mul-m c =
     let s = start-1 (goal.at.overflow_mul-m c).After-clamp-near in
-    rw (m_is s, round_trip (base_fits s)) (within_fits tt (factor_within s))
+    rw (to_z_pos w32 {n = s.args.m} (omega arith), round_trip (long_numbers s.requires).base) (within_fits tt (factor_within (omega arith) s.requires.base))
 
 pub product-made-requires : goal.product-made-requires
 product-made-requires c =
     let s = start-1 (goal.at.product-made-requires c).After-clamp-near in
-    rw (round_trip (near_fits (goal.at.product-made-requires c).After-clamp-near), near_is (goal.at.product-made-requires c).After-clamp-near, round_trip (overflow_mul-m (goal.at.product-made-requires c).After-struct_told-3-1), m_is s, round_trip (base_fits s), round_trip (add_fits s))
-    record { near = near_clip s.requires s.args.level; within = factor_within s; within_2 = s.requires.add }
+    rw (round_trip (sfits_of (goal.at.product-made-requires c).After-clamp-near.clamp-near.type_inv), near_is (goal.at.product-made-requires c).After-clamp-near, round_trip (overflow_mul-m (goal.at.product-made-requires c).After-struct_told-3-1), to_z_pos w32 {n = s.args.m} (omega arith), round_trip (long_numbers s.requires).base, round_trip (long_numbers s.requires).add)
+    record { near = near_clip s.requires s.args.level; within = factor_within (omega arith) s.requires.base; within_2 = s.requires.add }
 
 -- ---- its product
 abbrev level-of : After-product-made → After-clamp-near
@@ -88,14 +64,14 @@ unfolding long_product
 over_is c =
     let l = level-of c in
     let s = start-2 c in
-    rw (round_trip (near_fits l), near_is l, round_trip (overflow_mul-m (goal.at.After-product-made c).After-struct_told-3-1), m_is s, round_trip (base_fits s), round_trip (add_fits s)) at c.product-made.ensures.over
+    rw (round_trip (sfits_of l.clamp-near.type_inv), near_is l, round_trip (overflow_mul-m (goal.at.After-product-made c).After-struct_told-3-1), to_z_pos w32 {n = s.args.m} (omega arith), round_trip (long_numbers s.requires).base, round_trip (long_numbers s.requires).add) at c.product-made.ensures.over
 
 rest_is : (c : After-product-made) → let a = (start-2 c).args in c.product-made.result.rest ≡ rest_of (long_product a.by a.m a.level)
 unfolding long_product
 rest_is c =
     let l = level-of c in
     let s = start-2 c in
-    rw (round_trip (near_fits l), near_is l, round_trip (overflow_mul-m (goal.at.After-product-made c).After-struct_told-3-1), m_is s, round_trip (base_fits s), round_trip (add_fits s)) at c.product-made.ensures.rest
+    rw (round_trip (sfits_of l.clamp-near.type_inv), near_is l, round_trip (overflow_mul-m (goal.at.After-product-made c).After-struct_told-3-1), to_z_pos w32 {n = s.args.m} (omega arith), round_trip (long_numbers s.requires).base, round_trip (long_numbers s.requires).add) at c.product-made.ensures.rest
 
 -- the two tests, in the contract's terms
 below_is : (c : After-product-made) {b : Bool} → let a = (start-2 c).args in lt_z c.product-made.result.over a.by.low ≡ b → lt_z (shift_right (long_product a.by a.m a.level) 7) a.by.low ≡ b
@@ -108,13 +84,13 @@ abbrev made-1 : Else-made-by → After-product-made
 made-1 c = (goal.at.Else-made-by c).After-product-made
 
 not_below : (c : Else-made-by) → let r = made-1 c in let a = (start-2 r).args in lt_z (shift_right (long_product a.by a.m a.level) 7) a.by.low ≡ false
-not_below c = let r = made-1 c in below_is r (lt_z_round_trip r.product-made.ensures.fits (low_fits (start-2 r)) c.if-made-by.false)
+not_below c = let r = made-1 c in below_is r (lt_z_round_trip r.product-made.ensures.fits (long_numbers (start-2 r).requires).low c.if-made-by.false)
 
 pub returns-then-made-by : goal.returns-then-made-by
 unfolding long_level
 returns-then-made-by c =
     let s = start-2 (goal.at.returns-then-made-by c).After-product-made in
-    let a = below_is (goal.at.returns-then-made-by c).After-product-made (lt_z_round_trip c.product-made.ensures.fits (low_fits s) c.if-made-by.true) in
+    let a = below_is (goal.at.returns-then-made-by c).After-product-made (lt_z_round_trip c.product-made.ensures.fits (long_numbers s.requires).low c.if-made-by.true) in
     record {
       value = round_trip (least_fits s) ∙ rw a;
       limited = ap (λ (b : Bool). cond b 1 0) (sym (long_below s.args.by s.args.m s.args.level a));
@@ -126,7 +102,7 @@ returns-then-by-made c =
     let r = made-1 (goal.at.returns-then-by-made c).Else-made-by in
     let s = start-2 r in
     let a = not_below (goal.at.returns-then-by-made c).Else-made-by in
-    let b = above_is r (lt_z_round_trip (top_fits s) r.product-made.ensures.fits c.if-by-made.true) in
+    let b = above_is r (lt_z_round_trip (long_numbers s.requires).top r.product-made.ensures.fits c.if-by-made.true) in
     record {
       value = round_trip (most_fits s) ∙ rw (a, b);
       limited = ap (λ (x : Bool). cond x 1 0) (sym (long_above s.args.by s.args.m s.args.level a b));
@@ -144,13 +120,13 @@ module _ (c : Else-by-made) where
   start = start-2 made
 
   not_above : let a = start.args in lt_z a.by.top (shift_right (long_product a.by a.m a.level) 7) ≡ false
-  not_above = above_is made (lt_z_round_trip (top_fits start) made.product-made.ensures.fits c.if-by-made.false)
+  not_above = above_is made (lt_z_round_trip (long_numbers start.requires).top made.product-made.ensures.fits c.if-by-made.false)
 
   over_low : start.args.by.low ≤ℤ made.product-made.result.over
-  over_low = lt_z_false (lt_z_round_trip made.product-made.ensures.fits (low_fits start) else-1.if-made-by.false)
+  over_low = lt_z_false (lt_z_round_trip made.product-made.ensures.fits (long_numbers start.requires).low else-1.if-made-by.false)
 
   over_top : made.product-made.result.over ≤ℤ start.args.by.top
-  over_top = lt_z_false (lt_z_round_trip (top_fits start) made.product-made.ensures.fits c.if-by-made.false)
+  over_top = lt_z_false (lt_z_round_trip (long_numbers start.requires).top made.product-made.ensures.fits c.if-by-made.false)
 
   whole_is : let a = start.args in made.product-made.result.over *ℤ pos 128 +ℤ made.product-made.result.rest ≡ long_product a.by a.m a.level
   whole_is =

@@ -14,10 +14,9 @@ use Rattle.stages.proofs.finish.put_rounded.Goals as goal
 
 pub loop-j-preserved : goal.loop-j-preserved
 loop-j-preserved g c =
-    rw (map-set g.V.Output.value c.loop-j.out (c.args.at + c.loop-j.j) c.of.result)
-    (placed_suc c.loop-j.invariant refl (omega (arith, length-map c.args.out.now g.V.Output.value))
-    (c.of.ensures ∙ ap (λ (x : ℤ). g.V.Output.made x) (to_z-of_z {w = w32} (sfits_of c.rounded.type_inv) ∙ c.rounded.ensures ∙ ap (λ (x : ℤ). round_shift x c.args.s) (lane_reads c.requires.0 c.loop-j.j (omega arith)))
-    ∙ c.requires.5 c.loop-j.j (omega arith)))
+    rw (map-set g.T.Output.value c.loop-j.out (c.args.at + c.loop-j.j) c.of.result)
+    (placed_suc c.loop-j.invariant refl (omega (arith, length-map c.args.out.now g.T.Output.value))
+    (c.of.ensures ∙ ap (λ (x : ℤ). g.T.Output.made x) (to_z-of_z {w = w32} (sfits_of c.rounded.type_inv) ∙ c.rounded.ensures ∙ ap (λ (x : ℤ). round_shift x c.args.s) (lane_reads c.requires.0 c.loop-j.j (omega arith)))))
 
 pub returns : goal.returns
 returns g c = placed_all _ (omega arith) c.loop-j.invariant

@@ -7,4 +7,4 @@ use Rattle.stages.proofs.finish.put_rounded.Given as goal
 
 abbrev pub invariant-loop-j : goal.invariant-loop-j
 invariant-loop-j g l =
-    Placed l.at l.j (λ k. round_shift (lane_output l.z k) l.s) (map g.V.Output.value l.initial.out) (map g.V.Output.value l.out)
+    Placed l.at l.j (λ k. g.T.Output.made (round_shift (lane_output l.z k) l.s)) (map g.T.Output.value l.initial.out) (map g.T.Output.value l.out)

@@ -15,7 +15,7 @@ use Rattle.h265.specs.Range.{clip_coeff}
 use Rattle.h265.proofs.RangeLaws.{size_bound, size_square}
 use Rattle.stages_wide.specs.Parts.{limited_at}
 use Rattle.stages_wide.proofs.PartsLaws.{limited_within}
-use Rattle.stages_wide.proofs.DcLaws.{first_inside, dc_value, filled_dc}
+use Rattle.stages_wide.proofs.DcLaws.{dc_value, filled_dc}
 use Rattle.stages_wide.proofs.blocks.dc_fill.Goals as goal
 use Rattle.stages_wide.proofs.blocks.dc_fill.Goals.{After-limited-d, After-limited-g, After-rounded-2}
 
@@ -24,9 +24,6 @@ product_within h = within_le (omega arith) (within_lit_mul 64 h)
 
 product_fits : {z : ℤ} → Within (2 ^ 22) z → SFits w32 (pos 64 *ℤ z)
 product_fits h = within_fits {b = 480 * 2 ^ 22} tt (product_within h)
-
-pub bounds-coeff-0 : goal.bounds-coeff-0
-bounds-coeff-0 c = first_inside (omega (arith, size_bound c.args.n c.requires.0)) c.requires.1.source
 
 module _ (c : After-limited-d) where
   source_fits : SFits w32 (get_or c.args.coeff.now 0 (pos 0))

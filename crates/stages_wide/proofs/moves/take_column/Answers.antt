@@ -1,20 +1,12 @@
 -- `stages_wide::moves::take_column` meets its contract: the values passed are copied.
-use Prim.Native.Nat.{◌*◌, ◌<◌}
+use Prim.Native.Nat.{◌*◌}
 use native.Mathlib.Omega.{arith}
-use lib.ListN.{length}
 use Rattle.std.proofs.Common.{rules}
 use Rattle.std.proofs.lemmas.List.{length-map, map-set}
 use Rattle.coefficients.proofs.RowsLaws.{row_inside}
 use Rattle.stages_wide.proofs.ColumnLaws.{column_placed_put, column_placed_all}
-use Rattle.stages_wide.proofs.moves.take_column.Given.{Over}
 use Rattle.stages_wide.proofs.moves.take_column.Goals as goal
 use Rattle.stages_wide.proofs.moves.take_column.Goals.{In-loop-k}
-
-put_at : (g : Over) (c : In-loop-k g) → c.loop-k.k * c.args.n < length c.args.g.now
-put_at g c = omega (arith, row_inside c.args.n c.loop-k.k 1 (omega arith) (omega arith), c.requires.1)
-
-pub offset_bounds-g-k : goal.offset_bounds-g-k
-offset_bounds-g-k g c = let b = put_at g (goal.at.offset_bounds-g-k g c).In-loop-k in search (rules, b)
 
 pub loop-k-preserved : goal.loop-k-preserved
 loop-k-preserved g c =

@@ -3,14 +3,8 @@ use native.Mathlib.Omega.{arith}
 use Rattle.transform_1d.specs.MatrixOf.{matrix_of}
 use Rattle.transform_1d.proofs.RowsLaws.{zeros-get_or}
 use Rattle.stages_wide.proofs.ResultLaws.{filled_stages}
-use Rattle.stages_wide.proofs.ProductsLaws.{limited_needs_four, four_rows}
+use Rattle.stages_wide.proofs.ProductsLaws.{four_rows}
 use Rattle.stages_wide.proofs.products.both_4.Goals as goal
-
-pub stage_4-requires : goal.stage_4-requires
-stage_4-requires c = let a = c.requires in limited_needs_four a.columns (omega arith) (omega arith) a.range_most a.source (omega arith)
-
-pub stage_4-requires-2 : goal.stage_4-requires-2
-stage_4-requires-2 c = let a = c.requires in limited_needs_four (omega arith) a.least a.most a.range_most (omega (arith, c.stage_4.ensures.long)) a.room
 
 pub returns : goal.returns
 returns c =

@@ -7,7 +7,7 @@ use mir.Syntax.{w32}
 use mir.Val.{SFits}
 use mir.Facts.{to_z-of_z}
 use Rattle.transform_1d.proofs.RowsLaws.{filled-all}
-use Rattle.stages_wide.proofs.ProductsLaws.{wide_values_picked, picked_four, round_needs_outputs, filled_products}
+use Rattle.stages_wide.proofs.ProductsLaws.{picked_four, filled_products}
 use Rattle.stages_wide.proofs.products.columns_4.Goals as goal
 use Rattle.stages_wide.proofs.products.columns_4.Goals.{After-v-in-loop-c-3-1}
 
@@ -23,14 +23,6 @@ module _ (c : After-v-in-loop-c-3-1) where
 
   fits_3 : SFits w32 (get_or c.args.x.now (c.loop-c.c + 12) (pos 0))
   fits_3 = record { sfits = c.v-in-loop-c-3-1.given }
-
-pub line_4-z-requires : goal.line_4-z-requires
-line_4-z-requires c = simp (to_z-of_z, fits_0 c, fits_1 c, fits_2 c, fits_3 c) (wide_values_picked c.requires.0.small (picked_four c.args.x.now c.loop-c.c))
-
-pub put_rounded-requires : goal.put_rounded-requires
-put_rounded-requires c =
-    let a = c.requires.0 in
-    (round_needs_outputs c.line_4-z.ensures a.shift_least a.shift_most, omega (arith, a.room, c.loop-c.invariant.long))
 
 pub loop-c-preserved : goal.loop-c-preserved
 loop-c-preserved c =

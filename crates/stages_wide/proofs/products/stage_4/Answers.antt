@@ -4,9 +4,6 @@ use Rattle.transform_1d.specs.MatrixOf.{matrix_of}
 use Rattle.stages_wide.proofs.ProductsLaws.{limited_needs_products, filled-limited}
 use Rattle.stages_wide.proofs.products.stage_4.Goals as goal
 
-pub limit-requires : goal.limit-requires
-limit-requires c = let a = c.requires in (a.range_most, a.source, a.whole)
-
 pub columns_4-requires : goal.columns_4-requires
 columns_4-requires c =
     let k = c.args in

@@ -2,14 +2,8 @@
 use native.Mathlib.Omega.{arith}
 use Rattle.transform_1d.specs.MatrixOf.{matrix_of}
 use Rattle.stages_wide.proofs.MovesLaws.{put-rows}
-use Rattle.stages_wide.proofs.ProductsLaws.{limited_needs_four, four_rows}
+use Rattle.stages_wide.proofs.ProductsLaws.{four_rows}
 use Rattle.stages_wide.proofs.sizes.columns_4.Goals as goal
-
-pub stage_4-requires : goal.stage_4-requires
-stage_4-requires c = let p = c.requires in limited_needs_four (omega arith) (omega arith) (omega arith) p.range_most p.source (omega arith)
-
-pub put_columns-requires : goal.put_columns-requires
-put_columns-requires c = let p = c.requires in (p.range_most, omega arith, omega (arith, c.stage_4.ensures.long), p.room)
 
 pub returns : goal.returns
 returns c =

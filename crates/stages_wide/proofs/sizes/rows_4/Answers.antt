@@ -5,12 +5,8 @@ use lib.IntN.{pos}
 use lib.ListN.{replicate}
 use Rattle.stages.proofs.SizesLaws.{stored_16}
 use Rattle.stages_wide.proofs.MovesLaws.{turned_rows}
-use Rattle.stages_wide.proofs.ProductsLaws.{limited_needs_four, four_rows}
+use Rattle.stages_wide.proofs.ProductsLaws.{four_rows}
 use Rattle.stages_wide.proofs.sizes.rows_4.Goals as goal
-
-pub stage_4-requires : goal.stage_4-requires
-stage_4-requires c =
-    let p = c.requires in limited_needs_four (omega arith) p.least p.most p.range_most (omega (arith, (stored_16 {xs = replicate 16 (pos 0)} c.turn.ensures).long)) p.room
 
 pub returns : goal.returns
 returns c =

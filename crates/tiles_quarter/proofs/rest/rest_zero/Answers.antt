@@ -3,11 +3,8 @@ use mathlib.Core.Path.{ap, sym, ◌∙◌}
 use native.Mathlib.Omega.{arith}
 use lib.IntN.{pos}
 use Rattle.std.proofs.lemmas.List.{get_or-map}
-use Rattle.tiles_quarter.proofs.RestLaws.{zero_none, zero_more}
+use Rattle.tiles_quarter.proofs.RestLaws.{zero_more}
 use Rattle.tiles_quarter.proofs.rest.rest_zero.Goals as goal
-
-pub loop-i-init : goal.loop-i-init
-loop-i-init g c = zero_none
 
 pub loop-i-preserved : goal.loop-i-preserved
 loop-i-preserved g c =
@@ -15,6 +12,3 @@ loop-i-preserved g c =
     let i = c.loop-i.i in
     zero_more c.loop-i.zero c.is_zero-zero.result c.loop-i.invariant
     (λ e. get_or-map f c.args.x.now i c.index-x-i.result (pos 0) (omega arith) ∙ ap f (sym c.index-x-i.is) ∙ c.is_zero-zero.ensures e)
-
-pub returns : goal.returns
-returns g c e i l h = c.loop-i.invariant.at e i l (omega arith)

@@ -1,5 +1,0 @@
--- `transform::inv_transform_dst_into_scalar16` meets its contract: it is the general function's, for the DST. Said outright, since a search that fails takes seconds.
-use Rattle.transform.proofs.inv_transform_dst_into_scalar16.Goals as goal
-
-pub returns : goal.returns
-returns c = c.invert_16.ensures
