@@ -1,7 +1,7 @@
 // What the two programs that read a feed from standard input do around a record: `feed_main` and `scale_trace_main`. Internal.
 #![tactic(auto)]
 
-ghost use Rattle.std.specs.Prelude.{◌≡◌, ◌≤◌, length, IfOk, None};
+ghost use Rattle.std.specs.Prelude.{◌≡◌, ◌≤◌, ◌⊎◌, pos, length, replicate, IfOk, None, Some, Ok};
 
 use feed::{Line, State, StepError, Taken};
 use std::io::Read;
@@ -16,7 +16,9 @@ pub struct Buffers {
 }
 
 impl Buffers {
-    pub fn new() -> Buffers {
+    pub fn new() -> Buffers
+        ensures { (result.levels ≡ replicate 1024 (pos 0)) × (result.coeff ≡ replicate 1024 (pos 0)) × (result.inter ≡ replicate 1024 (pos 0)) × (result.residual ≡ replicate 1024 (pos 0)) }
+    {
         Buffers {
             levels: [0; 1024],
             coeff: [0; 1024],
@@ -92,6 +94,7 @@ pub fn after_step<R: Print + Eprint>(
     out: &[u8],
 ) -> Option<State>
     requires { IfOk answer (λ taken. taken.end ≤ length out.now) }
+    ensures { (result ≡ None) ⊎ ((taken : Taken) × (answer ≡ Ok taken) × (result ≡ Some taken.state)) }
 {
     match answer {
         Ok(taken) => {
