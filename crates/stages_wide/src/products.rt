@@ -21,14 +21,15 @@ fn limit(s: &[i32], range: u32, x: &mut [i32])
     }
 }
 
-// A line's sums, rounded, from place at on.
+// w sums, rounded, from place at on.
 // Kept: no twin of `put_rounded` in `stages`, whose sums stand in two halves that are added first.
-// Kept: at beside the slice: of a part of out that is lent, each clause would say too that what is around it stays.
-pub fn put_rounded<const W: usize>(z: &[i32; W], shift: u32, out: &mut [i32], at: usize)
-    requires { RoundNeeds W z.now shift × (at + W ≤ length out.old) }
-    ensures { Placed at W (λ j. round_shift (get_or z.now j (pos 0)) shift) out.old out.new }
+// Kept: w and at beside the slices: with w a constant the loop is written out before its caller is shaped, and a block of 4 points takes half as long
+// again; of a part of out that is lent, each clause would say too that what is around it stays.
+pub fn put_rounded(z: &[i32], w: usize, shift: u32, out: &mut [i32], at: usize)
+    requires { RoundNeeds w z.now shift × (at + w ≤ length out.old) }
+    ensures { Placed at w (λ j. round_shift (get_or z.now j (pos 0)) shift) out.old out.new }
 {
-    for j in 0..W {
+    for j in 0..w {
         out[at + j] = rounded(z[j], shift);
     }
 }
@@ -42,7 +43,7 @@ fn columns_4(kind: Kind, x: &[i32], nx: usize, shift: u32, out: &mut [i32])
     for c in 0..nx {
         let v = [x[c], x[c + 4], x[c + 8], x[c + 12]];
         let z = line_4(kind, v);
-        put_rounded(&z, shift, out, c * 4);
+        put_rounded(&z[..], 4, shift, out, c * 4);
     }
 }
 

@@ -49,7 +49,7 @@ pub fn column_4(kind: Kind, coeff: &[i32], range: u32, column: usize, inter: &mu
     let mut r = [0i32; 4];
     limited_column(coeff, 4, range, column, &mut x[..]);
     let z = line_4(kind, x);
-    put_rounded(&z, 7, &mut r[..], 0);
+    put_rounded(&z[..], 4, 7, &mut r[..], 0);
     put_column(&r[..], range, inter, column);
 }
 
@@ -133,7 +133,7 @@ pub fn column_8(coeff: &[i32], range: u32, column: usize, inter: &mut [i32])
     let mut r = [0i32; 8];
     limited_column(coeff, 8, range, column, &mut x[..]);
     let z = line_8(x);
-    put_rounded(&z, 7, &mut r[..], 0);
+    put_rounded(&z[..], 8, 7, &mut r[..], 0);
     put_column(&r[..], range, inter, column);
 }
 

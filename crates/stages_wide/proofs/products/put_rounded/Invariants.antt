@@ -6,4 +6,4 @@ use Rattle.transform_1d.specs.Rows.{Placed}
 use Rattle.stages_wide.proofs.products.put_rounded.Given as goal
 
 abbrev pub invariant-loop-j : goal.invariant-loop-j
-invariant-loop-j g l = Placed l.at l.j (λ i. round_shift (get_or l.z i (pos 0)) l.shift) l.initial.out l.out
+invariant-loop-j l = Placed l.at l.j (λ i. round_shift (get_or l.z i (pos 0)) l.shift) l.initial.out l.out
