@@ -164,6 +164,16 @@ def page_rules():
         say("a picture that is not what tests/layers.py makes of crates.txt", layers.PICTURE)
 
 
+def need_rules():
+    """A crate names each that crates.txt says it builds on: `rt` walks these lines from crate to crate, so that a needless one costs time in every run."""
+    for name, (needs, _) in layers.crates().items():
+        folder = pathlib.Path("crates") / name
+        text = "".join(file.read_text() for part in ("src", "specs", "proofs") for file in sorted((folder / part).rglob("*")) if file.suffix in (".rt", ".antt"))
+        for need in needs:
+            if not re.search(rf"\b{need}(::|\.)", text):
+                say("a crate of crates.txt's line that no file names", f"{name}: {need}")
+
+
 def law_rules():
     stand = same_laws.repeated()
     if len(stand) > SAME_LAWS:
@@ -175,6 +185,7 @@ def law_rules():
 crate_rules()
 edit_rules()
 page_rules()
+need_rules()
 law_rules()
 text_rules(tracked())
 for line in found:

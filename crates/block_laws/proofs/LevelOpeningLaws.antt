@@ -23,11 +23,11 @@ use Rattle.h265.specs.ScalingFactor.{ScalingList}
 use Rattle.h265.specs.ScalingFactor.ScalingList.{flat, listed}
 use Rattle.h265.specs.Limited.{limited_count}
 use Rattle.refusal.specs.declared.Refusal.{Refusal}
-use Rattle.refusal.specs.Condition.{list_refused, block_refused}
+use Rattle.refusal.specs.Condition.{list_refused, block_refused, bits32}
 use Rattle.refusal.specs.Refusal.{number}
 use Rattle.refusal.specs.Outcome.{Outcome, accepted, refused, answer, outcome}
 use Rattle.refusal.proofs.RefusalLaws.{number_least}
-use Rattle.scaling_blocks.specs.Blocks.{bits32, scaling_ladder, block_written, dequantized, CountWrites}
+use Rattle.scaling_blocks.specs.Blocks.{scaling_ladder, block_written, dequantized, CountWrites}
 use Rattle.scaling_values.specs.Given.{entries_of}
 use Rattle.coefficients.specs.Outside.{outside_at, first_outside}
 use Rattle.block_rules.specs.declared.EditedBlock.{EditedBlock}

@@ -1,10 +1,10 @@
 -- Examples of the rules as one list of cases under one statement, worked out by clause 8.6 and the table of refusals: an opening, an edit right of
 -- the columns in use, edits that are refused, levels that are limited. All but the last are of a 4×4 DCT block at depth 8, in buffers that have
 -- one element more than the block.
---   Case           what a definition gives, and what is right
 --   examples       the list of cases
 --   ExamplesHold   the statement: every definition gives what is right
-use Rattle.std.specs.Prelude.{◌≡◌, Bool, false, cond, List, [], ◌∷◌, ◌++◌, map, ℕ, ℤ, pos, neg_ℤ, set, replicate}
+use Rattle.std.specs.Prelude.{Bool, false, cond, List, [], ◌∷◌, ◌++◌, map, ℕ, ℤ, pos, neg_ℤ, set, replicate}
+use Rattle.integers.specs.Examples.{Case, AllHold, ◌gives◌}
 use Rattle.refusal.specs.Outcome.{Outcome}
 use Rattle.transform_1d.specs.declared.Kind.TheVariants.{Dct}
 use Rattle.block_rules.specs.declared.EditedBlock.{EditedBlock}
@@ -12,14 +12,6 @@ use Rattle.block_rules.specs.declared.Source.{Source}
 use Rattle.block_rules.specs.Edit.{Buffers, Left, buffers, zero_block, edited}
 use Rattle.block_rules.specs.Opening.{Opening, on_coefficients, opened_as, block_of}
 use Rattle.block_rules.specs.Level.{scaled_by, LevelLeft, level_edited, on_levels, on_scaled_levels, OpenLeft, level_opened}
-
-pub record Case : Type 0 where
-  pub found : List ℤ
-  pub expected : List ℤ
-
-infix 20 ◌gives◌
-◌gives◌ : List ℤ → List ℤ → Case
-found gives expected = record { found = found; expected = expected }
 
 -- ---- blocks, with 7 behind each
 -- four equal rows
@@ -91,8 +83,8 @@ one_edit : List ℤ
 unfolding only zeros rows three
 one_edit = three (only 3 (pos 64)) (rows (pos 0) (pos 0) (pos 0) (pos 32)) (rows (pos 0) (neg_ℤ (pos 1)) (pos 1) (pos 0))
 
-unfoldable pub examples : List Case
-unfolding ◌gives◌ rows zeros only on_zeros coefficients levels listed blank flag numbers held left level_left open_left answer three one_edit
+unfoldable pub examples : List (Case (List ℤ))
+unfolding rows zeros only on_zeros coefficients levels listed blank flag numbers held left level_left open_left answer three one_edit
 examples =
     -- an opening, and one that is refused: the record is zeros
     (left (opened_as coefficients (buffers (only 0 (pos 64)) zeros zeros)) gives
@@ -131,4 +123,4 @@ examples =
     ∷ []
 
 unfoldable pub ExamplesHold : Type 0
-ExamplesHold = map (λ (c : Case). c.found) examples ≡ map (λ (c : Case). c.expected) examples
+ExamplesHold = AllHold examples

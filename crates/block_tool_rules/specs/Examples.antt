@@ -1,9 +1,9 @@
 -- Examples of the rules as one list of cases under one statement: rotation at size 4, sums along rows and down columns, all of them with a shift
 -- between rotation and accumulation, the order of the refusals, and how many coefficients were limited.
---   Case           what a definition gives, and what is right
 --   examples       the list of cases
 --   ExamplesHold   the statement: every definition gives what is right
-use Rattle.std.specs.Prelude.{◌≡◌, Bool, true, false, List, [], ◌∷◌, map, ℕ, suc, ℤ, pos, negsuc, get_or, replicate}
+use Rattle.std.specs.Prelude.{Bool, true, false, List, [], ◌∷◌, ℕ, suc, ℤ, pos, negsuc, get_or, replicate}
+use Rattle.integers.specs.Examples.{Case, AllHold, ◌gives◌}
 use Rattle.integers.specs.Lists.{tabulate}
 use Rattle.h265.specs.ScalingFactor.ScalingList.{flat}
 use Rattle.h265.specs.TransformSkip.{ts_residual}
@@ -11,14 +11,6 @@ use Rattle.scaling_blocks.specs.Blocks.{CountWritten}
 use Rattle.block_tool_rules.specs.declared.Accumulate.TheVariants.{Off, AlongRows, DownColumns}
 use Rattle.block_tool_rules.specs.Modification.{rotated, accumulated_row, accumulated_column, modified}
 use Rattle.block_tool_rules.specs.Residual.{Written, skip_residual, bypass_residual_at, bypass_residual}
-
-pub record Case : Type 0 where
-  pub found : List ℤ
-  pub expected : List ℤ
-
-infix 20 ◌gives◌
-◌gives◌ : List ℤ → List ℤ → Case
-found gives expected = record { found = found; expected = expected }
 
 row : ℕ → ℕ → ℕ → ℕ → List ℤ → List ℤ
 row a b c d rest = pos a ∷ pos b ∷ pos c ∷ pos d ∷ rest
@@ -45,8 +37,8 @@ skipped t n b level =
     let w : CountWritten = skip_residual Off t flat n (pos 4) b false (replicate 16 level) (replicate 16 (pos 0)) in
     pos w.answer.number ∷ pos w.answer.value ∷ get_or w.out 0 (pos 0) ∷ []
 
-unfoldable pub examples : List Case
-unfolding ◌gives◌ row three counted block_of bypassed skipped
+unfoldable pub examples : List (Case (List ℤ))
+unfolding row three counted block_of bypassed skipped
 examples =
     (block_of (rotated true 4 counted) gives row 16 15 14 13 (row 12 11 10 9 (row 8 7 6 5 (row 4 3 2 1 []))))
     ∷ (block_of (rotated false 4 counted) gives row 1 2 3 4 (row 5 6 7 8 (row 9 10 11 12 (row 13 14 15 16 []))))
@@ -69,4 +61,4 @@ examples =
     ∷ []
 
 unfoldable pub ExamplesHold : Type 0
-ExamplesHold = map (λ (c : Case). c.found) examples ≡ map (λ (c : Case). c.expected) examples
+ExamplesHold = AllHold examples

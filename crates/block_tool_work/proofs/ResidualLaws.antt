@@ -28,7 +28,7 @@ use Rattle.h265.specs.Limited.{limited_count}
 use Rattle.h265.proofs.RangeLaws.{transform_range_most, clip_coeff_id, clip_coeff_within, outside_range_false}
 use Rattle.refusal.specs.declared.Refusal.{Refusal}
 use Rattle.refusal.specs.declared.Refusal.TheVariants.{SizeInvalid, DepthInvalid, RotationSizeInvalid, InputTooShort, OutputTooShort}
-use Rattle.refusal.specs.Condition.{size_refused, depth_refused, rotation_refused, block_refused}
+use Rattle.refusal.specs.Condition.{size_refused, depth_refused, rotation_refused, block_refused, bits32}
 use Rattle.refusal.specs.Outcome.{Outcome, accepted, refused, answer}
 use Rattle.refusal.proofs.ConditionLaws.{size_accepted, depth_accepted, block_room}
 use Rattle.refusal.proofs.LadderLaws.{Rung, Passed, first, first_accepted, first_refused, first_passed}
@@ -36,7 +36,7 @@ use Rattle.refusal.proofs.LadderLaws.Rung.{rung}
 use Rattle.refusal.proofs.RefusalLaws.{number_least}
 use Rattle.coefficients.specs.Outside.{first_outside, refusal_at}
 use Rattle.coefficients.proofs.OutsideLaws.{first_outside-inside}
-use Rattle.scaling_blocks.specs.Blocks.{bits32, scaling_ladder, block_written, transform_skipped, CountWritten, CountWrites, left_as_lent, counted}
+use Rattle.scaling_blocks.specs.Blocks.{scaling_ladder, block_written, transform_skipped, CountWritten, CountWrites, left_as_lent, counted}
 use Rattle.scaling_values.specs.Given.{entries_of}
 use Rattle.scaling_blocks.proofs.BlockLaws.{rungs}
 use Rattle.block_tool_rules.specs.declared.Accumulate.{Accumulate}

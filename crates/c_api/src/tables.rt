@@ -1,6 +1,6 @@
 // Scaling lists of two streams in one lent table.
 // Kept: C has each function under a name of its own, by the width of its output, and hands over depth and flag, a list and its DC, and table, stream and number, apart.
-ghost use Rattle.scaling_blocks.specs.Blocks.{bits16, bits32};
+ghost use Rattle.refusal.specs.Condition.{bits16, bits32};
 ghost use Rattle.list_places.specs.Table.{stream_of, short};
 ghost use Rattle.list_blocks.specs.Scale.{block, scale_answer};
 ghost use Rattle.list_blocks.specs.Scale.Work.{coefficients, residuals};

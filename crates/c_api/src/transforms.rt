@@ -2,7 +2,8 @@
 // Kept: C has the six functions under the names of the ported Rust: DCT and DST, plain, extended and 16-bit.
 ghost use Rattle.std.specs.Prelude.{true, false};
 ghost use Rattle.transform_1d.specs.declared.Kind.TheVariants.{Dct, Dst};
-ghost use Rattle.transform_blocks.specs.Blocks.{inverted, bits16, bits32, plain_range, extended_range};
+ghost use Rattle.refusal.specs.Condition.{bits16, bits32};
+ghost use Rattle.transform_blocks.specs.Blocks.{inverted, plain_range, extended_range};
 ghost use Rattle.c_api.specs.Blocks.{Writes};
 
 use crate::Answered;

@@ -2,7 +2,8 @@
 // Kept: C has each function under the name of the ported Rust, by the width of its output and with a list or without one, and hands over depth and flag, and a list and its DC, apart.
 ghost use Rattle.std.specs.Prelude.{◌≡◌};
 ghost use Rattle.h265.specs.ScalingFactor.ScalingList.{flat, listed};
-ghost use Rattle.scaling_blocks.specs.Blocks.{bits16, bits32, dequantized, transform_skipped};
+ghost use Rattle.refusal.specs.Condition.{bits16, bits32};
+ghost use Rattle.scaling_blocks.specs.Blocks.{dequantized, transform_skipped};
 ghost use Rattle.scaling.specs.Factor.{scaling_coeff};
 ghost use Rattle.scaling.specs.Level.{scaled_level};
 ghost use Rattle.c_api.specs.Answers.{of_number, of_level};

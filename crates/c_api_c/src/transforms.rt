@@ -1,7 +1,8 @@
 // The inverse transforms of whole blocks: the DCT with a column count, and the DST of size 4.
 // Kept: C has the six functions under the names of the ported Rust: DCT and DST, plain, extended and 16-bit.
 ghost use Rattle.transform_1d.specs.declared.Kind.TheVariants.{Dct, Dst};
-ghost use Rattle.transform_blocks.specs.Blocks.{inverted, bits16, bits32, plain_range, extended_range};
+ghost use Rattle.refusal.specs.Condition.{bits16, bits32};
+ghost use Rattle.transform_blocks.specs.Blocks.{inverted, plain_range, extended_range};
 ghost use Rattle.c_api.specs.Blocks.{Writes};
 
 use c_api::Answered;

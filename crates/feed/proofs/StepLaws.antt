@@ -21,7 +21,7 @@ use Rattle.feed_state.specs.Buffers.{Lent, Buffered}
 use Rattle.feed_state.specs.Taken.{state_of, answer_of, Ample, Takes}
 use Rattle.feed_state.proofs.StateLaws.{capped_id}
 use Rattle.feed_history.specs.Stepping.{too_short}
-use Rattle.feed_history.specs.Stepping.Room.{too_little, enough}
+use Rattle.feed_history.specs.Stepping.IfRoom.{too_little, enough}
 use Rattle.integers.proofs.TestLaws.{neither}
 use Rattle.feed.specs.declared.StepError.{StepError}
 use Rattle.feed.specs.declared.StepError.TheVariants.{Refused, NoRoom}

@@ -10,13 +10,13 @@ use Rattle.feed_rules.specs.Feed.{feed_text}
 use Rattle.feed_state.specs.declared.State.{State}
 use Rattle.feed_state.specs.Buffers.{Lent}
 use Rattle.feed_state.specs.Taken.{state_of, capped, state_after, end_after}
-use Rattle.feed_history.specs.Stepping.{Room, Stepping}
-use Rattle.feed_history.specs.Stepping.Room.{too_little, enough}
+use Rattle.feed_history.specs.Stepping.{IfRoom, Stepping}
+use Rattle.feed_history.specs.Stepping.IfRoom.{too_little, enough}
 use Rattle.feed.specs.declared.StepError.{StepError}
 use Rattle.feed.specs.declared.StepError.TheVariants.{Refused, NoRoom}
 use Rattle.feed_state.specs.declared.Taken.{Taken}
 
-abbrev pub step_answer : Result Taken StepError → Room (Outcome (Unit {0}))
+abbrev pub step_answer : Result Taken StepError → IfRoom (Outcome (Unit {0}))
 step_answer (Ok t) = enough (accepted tt)
 step_answer (Err (Refused e)) = enough (refused tt e)
 step_answer (Err NoRoom) = too_little

@@ -20,9 +20,9 @@ use native.Mathlib.Omega.{arith}
 use Rattle.refusal.specs.Outcome.{Outcome, outcome}
 use Rattle.refusal.specs.Refusal.{number}
 use Rattle.refusal.proofs.RefusalLaws.{number_least}
-use Rattle.refusal.specs.Condition.{size_refused, depth_refused, list_refused, block_refused}
+use Rattle.refusal.specs.Condition.{size_refused, depth_refused, list_refused, block_refused, bits32}
 use Rattle.refusal.specs.declared.Refusal.{Refusal}
-use Rattle.scaling_blocks.specs.Blocks.{bits32, scaling_ladder, block_written, transform_skipped, CountWritten, CountWrites, counted}
+use Rattle.scaling_blocks.specs.Blocks.{scaling_ladder, block_written, transform_skipped, CountWritten, CountWrites, counted}
 use Rattle.scaling_values.specs.Given.{entries_of}
 use Rattle.feed_block.specs.Work.{Leaves}
 

@@ -19,7 +19,7 @@ use Rattle.feed_state.specs.Buffers.{Lent, Buffered, in_buffers}
 use Rattle.feed_state.specs.Taken.{answer_of, Ample}
 use Rattle.feed_state.proofs.StateLaws.{capped_id}
 use Rattle.feed_history.specs.Stepping.{too_short, stepping_by}
-use Rattle.feed_history.specs.Stepping.Room.{enough}
+use Rattle.feed_history.specs.Stepping.IfRoom.{enough}
 use Rattle.feed_history.specs.Steps.{steps_from, stepped_text, StepsFollowHistory}
 use Rattle.feed_history.proofs.FollowLaws.{Follows, after_same, record_follows, follows_start}
 

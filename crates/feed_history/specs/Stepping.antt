@@ -1,5 +1,5 @@
 -- One record given to a step with some room for its text.
---   Room A                      too little room, decided before anything else; else an answer
+--   IfRoom A                    too little room, decided before anything else; else an answer
 --   Stepping                    the answer to one record, the state and the text
 --   too_short w                  a buffer of the open block has no room for the largest block
 --   stepping_by, stepping        the step for a buffer of some length: by what a record does and the bytes that its text may take, and that of the feed
@@ -10,12 +10,12 @@ use Rattle.feed_rules.specs.Record.{FeedState, Effect, record_effect}
 use Rattle.feed_state.specs.Buffers.{Lent, Buffered, in_buffers}
 use Rattle.feed_state.specs.Taken.{answer_of}
 
-pub data Room (A : Type 0) : Type 0 where
-  too_little : Room A
-  enough : A → Room A
+pub data IfRoom (A : Type 0) : Type 0 where
+  too_little : IfRoom A
+  enough : A → IfRoom A
 
 pub record Stepping : Type 0 where
-  pub answer : Room (Outcome (Unit {0}))
+  pub answer : IfRoom (Outcome (Unit {0}))
   pub state : FeedState Buffered
   pub text : List ℕ
 

@@ -12,14 +12,14 @@ use Rattle.feed_rules.specs.Record.{FeedState, record_effect}
 use Rattle.feed_rules.specs.Feed.{text_by, beginning, last_line, feed_text}
 use Rattle.feed_state.specs.Buffers.{Lent, Buffered, closed, in_buffers}
 use Rattle.feed_state.specs.Taken.{capped, Ample}
-use Rattle.feed_history.specs.Stepping.{Room, Stepping, stepping}
-use Rattle.feed_history.specs.Stepping.Room.{too_little, enough}
+use Rattle.feed_history.specs.Stepping.{IfRoom, Stepping, stepping}
+use Rattle.feed_history.specs.Stepping.IfRoom.{too_little, enough}
 
 unfoldable pub buffered_text : Lent → List ℕ → List ℕ
 buffered_text w bytes = text_by (record_effect in_buffers) last_line (length bytes + 1) (beginning (closed w)) bytes
 
 -- after a step's text: the rest; or the line of a refusal, and nothing after it; nothing at all where there was no room
-abbrev pub after_step : Room (Outcome (Unit {0})) → ℕ → List ℕ → List ℕ
+abbrev pub after_step : IfRoom (Outcome (Unit {0})) → ℕ → List ℕ → List ℕ
 after_step too_little at rest = []
 after_step (enough o) at rest = cond (eqb o.number 0) rest (refused_text o.number at)
 

@@ -1,10 +1,10 @@
 -- The marked examples of the requirements as one list of cases under one statement, with what they do not cover: each entry of level_scale, a
 -- level that must be limited first, a level or a result that was limited, a skipped level, a residual beyond the range, a sum beyond 32 bits,
 -- and the largest sums of absolute entries, which no wrong entry of F leaves alone.
---   Case           what a definition gives, and what the requirements say
 --   examples       the list of cases
 --   ExamplesHold   the statement: every definition gives what is expected of it
-use Rattle.std.specs.Prelude.{◌≡◌, Bool, true, false, cond, List, [], ◌∷◌, ◌++◌, map, ℕ, ℤ, pos, negsuc, neg_ℤ, nat_abs, replicate}
+use Rattle.std.specs.Prelude.{Bool, true, false, cond, List, [], ◌∷◌, ◌++◌, ℕ, ℤ, pos, negsuc, neg_ℤ, nat_abs, replicate}
+use Rattle.integers.specs.Examples.{Case, AllHold, ◌gives◌}
 use Rattle.integers.specs.Lists.{tabulate}
 use Rattle.h265.specs.Range.{log2_size, transform_range}
 use Rattle.h265.specs.Quantization.{qp_prime, clip_qp_prime}
@@ -15,14 +15,6 @@ use Rattle.h265.specs.Limited.{level_limited, result_limited, limited_count}
 use Rattle.h265.specs.TransformSkip.{ts_shift, ts_residual, skipped_at}
 use Rattle.h265.specs.Matrix.{trans_matrix, dst_matrix, abs_sum}
 use Rattle.h265.specs.Transform.{row_order, columns_read, stage_one_sum, stage_one_value, intermediate, residual}
-
-pub record Case : Type 0 where
-  pub found : List ℤ
-  pub expected : List ℤ
-
-infix 20 ◌gives◌
-◌gives◌ : List ℤ → List ℤ → Case
-found gives expected = record { found = found; expected = expected }
 
 one : ℤ → List ℤ
 one z = z ∷ []
@@ -44,8 +36,8 @@ flags b x m q level =
     ∷ []
 
 -- how many of a 4×4 block, depth 8
-limited : ScalingList → ℤ → List ℤ → List ℤ
-limited list q levels = one (pos (limited_count list 4 8 false q levels))
+limited_of_block : ScalingList → ℤ → List ℤ → List ℤ
+limited_of_block list q levels = one (pos (limited_count list 4 8 false q levels))
 
 -- m at an index, of the list that has 20 at entry 0 and 7 elsewhere, with DC 30
 factor : ℕ → ℕ → List ℤ
@@ -72,8 +64,8 @@ all z = replicate 16 z
 norms : (ℕ → ℕ → ℤ) → ℕ → List ℤ
 norms t n = tabulate n (abs_sum t n)
 
-unfoldable pub examples : List Case
-unfolding ◌gives◌ one range_of scaled flags limited factor shift_of only rows full all norms
+unfoldable pub examples : List (Case (List ℤ))
+unfolding one range_of scaled flags limited_of_block factor shift_of only rows full all norms
 examples =
     -- R
     (range_of 8 true gives one (pos 15))
@@ -118,10 +110,10 @@ examples =
     ∷ (flags 8 false 16 (pos 51) (pos 4) gives (pos 0 ∷ pos 0 ∷ []))
     ∷ (flags 8 false 16 (pos 60) (pos 5) gives (pos 0 ∷ pos 1 ∷ []))
     -- how many of a block: none, three of the four that are not zero, and all
-    ∷ (limited flat (pos 4) (replicate 16 (pos 1023)) gives one (pos 0))
-    ∷ (limited flat (pos 4) (pos 1024 ∷ pos 1023 ∷ neg_ℤ (pos 32769) ∷ pos 40000 ∷ replicate 12 (pos 0)) gives one (pos 3))
-    ∷ (limited flat (pos 4) (replicate 16 (pos 1024)) gives one (pos 16))
-    ∷ (limited (listed (0 ∷ replicate 63 16) 16) (pos 4) (pos 32768 ∷ pos 1024 ∷ replicate 14 (pos 0)) gives one (pos 2))
+    ∷ (limited_of_block flat (pos 4) (replicate 16 (pos 1023)) gives one (pos 0))
+    ∷ (limited_of_block flat (pos 4) (pos 1024 ∷ pos 1023 ∷ neg_ℤ (pos 32769) ∷ pos 40000 ∷ replicate 12 (pos 0)) gives one (pos 3))
+    ∷ (limited_of_block flat (pos 4) (replicate 16 (pos 1024)) gives one (pos 16))
+    ∷ (limited_of_block (listed (0 ∷ replicate 63 16) 16) (pos 4) (pos 32768 ∷ pos 1024 ∷ replicate 14 (pos 0)) gives one (pos 2))
     -- m
     ∷ (factor 16 0 gives one (pos 30))
     ∷ (factor 16 1 gives one (pos 20))
@@ -166,4 +158,4 @@ examples =
     ∷ []
 
 unfoldable pub ExamplesHold : Type 0
-ExamplesHold = map (λ (c : Case). c.found) examples ≡ map (λ (c : Case). c.expected) examples
+ExamplesHold = AllHold examples

@@ -4,3 +4,4 @@ pub mod Sum
 pub mod Lists
 pub mod Search
 pub mod Within
+pub mod Examples

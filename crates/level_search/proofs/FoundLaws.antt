@@ -32,7 +32,8 @@ use Rattle.parameters.specs.declared.TransformSkipParams.{TransformSkipParams}
 use Rattle.parameters.specs.Answers.{no_transform_skip}
 use Rattle.parameters.specs.Parameters.{dequant_of, transform_skip_of, KnownSize}
 use Rattle.scaling_values.proofs.LevelLaws.{dequant_of_manageable, listed_level_eq}
-use Rattle.scaling_blocks.specs.Blocks.{bits32, scaling_ladder, block_params}
+use Rattle.refusal.specs.Condition.{bits32}
+use Rattle.scaling_blocks.specs.Blocks.{scaling_ladder, block_params}
 use Rattle.scaling_values.specs.Given.{entries_of}
 use Rattle.scaling_blocks.proofs.BlockLaws.{rungs, Ready}
 use Rattle.least_level.specs.Level.{LeastLevel, equal, level_missing, least_level, Scales}

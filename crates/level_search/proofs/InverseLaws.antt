@@ -23,14 +23,14 @@ use Rattle.h265.specs.Scaling.{scaled_at}
 use Rattle.h265.specs.Limited.{limited_count}
 use Rattle.h265.specs.ScalingFactor.{ScalingList}
 use Rattle.refusal.specs.declared.Refusal.{Refusal}
-use Rattle.refusal.specs.Condition.{block_refused}
+use Rattle.refusal.specs.Condition.{block_refused, bits32}
 use Rattle.refusal.specs.Refusal.{number}
 use Rattle.refusal.specs.Written.{Written, left}
 use Rattle.refusal.proofs.RefusalLaws.{number_least}
 use Rattle.refusal.proofs.LadderLaws.{Rung, Passed, first, first_passed}
 use Rattle.refusal.proofs.LadderLaws.Rung.{rung}
 use Rattle.parameters.specs.Parameters.{KnownSize}
-use Rattle.scaling_blocks.specs.Blocks.{bits32, scaling_ladder, block_written, dequantized, left_as_lent, counted}
+use Rattle.scaling_blocks.specs.Blocks.{scaling_ladder, block_written, dequantized, left_as_lent, counted}
 use Rattle.scaling_values.specs.Given.{entries_of}
 use Rattle.scaling_blocks.proofs.BlockLaws.{rungs}
 use Rattle.least_level.specs.Level.{LeastLevel}

@@ -20,11 +20,11 @@ use Rattle.h265.specs.Scaling.{bd_shift, scale_level}
 use Rattle.h265.specs.ScalingFactor.{ScalingList, repeated_position, factor_source, factor_by, scaling_factor}
 use Rattle.h265.specs.ScalingFactor.ScalingList.{flat, listed}
 use Rattle.refusal.specs.declared.Refusal.TheVariants.{LevelMissing}
-use Rattle.refusal.specs.Condition.{size_refused}
+use Rattle.refusal.specs.Condition.{size_refused, bits32}
 use Rattle.refusal.specs.Written.{Written, left, wrote}
 use Rattle.refusal.proofs.ConditionLaws.{size_accepted}
 use Rattle.scaling_values.proofs.FactorLaws.{size_large, factor_small, factor_first, factor_later, position_inside}
-use Rattle.scaling_blocks.specs.Blocks.{bits32, scaling_ladder}
+use Rattle.scaling_blocks.specs.Blocks.{scaling_ladder}
 use Rattle.least_level.specs.Level.{level_missing, least_level}
 use Rattle.level_search.specs.Found.{scaling_at, missing_at, first_missing, least_at, block_found, levels_found}
 

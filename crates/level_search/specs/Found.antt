@@ -15,7 +15,8 @@ use Rattle.h265.specs.Scaling.{bd_shift, scale_level}
 use Rattle.h265.specs.ScalingFactor.{ScalingList, scaling_factor}
 use Rattle.refusal.specs.declared.Refusal.TheVariants.{LevelMissing}
 use Rattle.refusal.specs.Written.{Written, left, wrote}
-use Rattle.scaling_blocks.specs.Blocks.{bits32, scaling_ladder}
+use Rattle.refusal.specs.Condition.{bits32}
+use Rattle.scaling_blocks.specs.Blocks.{scaling_ladder}
 use Rattle.scaling_values.specs.Given.{entries_of}
 use Rattle.least_level.specs.Level.{Gives, level_missing, least_level}
 

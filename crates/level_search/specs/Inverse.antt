@@ -9,7 +9,8 @@ use Rattle.h265.specs.Range.{is_size, transform_range}
 use Rattle.h265.specs.ScalingFactor.{ScalingList}
 use Rattle.h265.specs.Limited.{limited_count}
 use Rattle.refusal.specs.Refusal.{number}
-use Rattle.scaling_blocks.specs.Blocks.{bits32, scaling_ladder, dequantized, counted}
+use Rattle.refusal.specs.Condition.{bits32}
+use Rattle.scaling_blocks.specs.Blocks.{scaling_ladder, dequantized, counted}
 use Rattle.scaling_values.specs.Given.{entries_of}
 use Rattle.least_level.specs.Level.{LeastLevel}
 use Rattle.level_search.specs.Found.{scaling_at, levels_found, Missing}

@@ -1,6 +1,6 @@
 -- Laws of the 8-point line by its halves.
 --   line_low, line_high    outputs j and 7 - j, as the sum and the difference of output j of each half
---   Halves x e o           e and o are the lines over the values of x in even and odd places
+--   EvenAndOdd x e o           e and o are the lines over the values of x in even and odd places
 --   low_fits, high_fits    those sums and differences fit 32 bits
 --   joined, outputs_8      the eight that the machine makes of two halves are the line
 use mathlib.Core.Path.{◌≡◌, refl, sym, ap₂, subst, ◌∙◌}
@@ -45,12 +45,12 @@ module _ (y : ℕ → ℤ) (j : ℕ) (l : j < 4) where
   unfolding transform_line mirrors all_below trans_matrix trans_matrix32 folded_entry folded_angle folding folding_values
   line_high = split-high 4 refl tt y j l
 
-pub record Halves (x e o : List ℤ) : Type 0 where
+pub record EvenAndOdd (x e o : List ℤ) : Type 0 where
   pub all : WideValues 8 x
   pub even : WideOutputs (trans_matrix 4) 4 (picked (λ k. 2 * k) x) e
   pub odd : WideOutputs odd_rows 4 (picked (λ k. 2 * k + 1) x) o
 
-module _ {x e o : List ℤ} (h : Halves x e o) (j : ℕ) (l : j < 4) where
+module _ {x e o : List ℤ} (h : EvenAndOdd x e o) (j : ℕ) (l : j < 4) where
   abbrev line_at : ℕ → ℤ
   line_at m = transform_line (trans_matrix 8) 8 (λ k. get_or x k (pos 0)) m
 
@@ -113,7 +113,7 @@ module _ (e o : List ℤ) where
   abbrev joined : List ℤ
   joined = low_at 0 ∷ low_at 1 ∷ low_at 2 ∷ low_at 3 ∷ high_at 3 ∷ high_at 2 ∷ high_at 1 ∷ high_at 0 ∷ []
 
-pub outputs_8 : {x e o : List ℤ} → Halves x e o → WideOutputs (trans_matrix 8) 8 x (joined e o)
+pub outputs_8 : {x e o : List ℤ} → EvenAndOdd x e o → WideOutputs (trans_matrix 8) 8 x (joined e o)
 outputs_8 {x} {e} {o} h =
     let low = low_output h in
     let high = high_output h in

@@ -1,10 +1,11 @@
 -- Examples of the definitions, as one list of cases under one statement: sums limited at both ends with the largest residuals, a block in a
 -- plane whose stride is above its width, and 13 before 12.
-use mathlib.Core.Path.{◌≡◌, refl}
-use mathlib.Core.List.{List, [], ◌∷◌, map}
+use mathlib.Core.Path.{refl}
+use mathlib.Core.List.{List, [], ◌∷◌}
 use Prim.Native.Nat.{ℕ}
 use lib.IntN.{pos, negsuc}
 use lib.ListN.{replicate}
+use Rattle.integers.specs.Examples.{Case, AllHold, ◌gives◌}
 use Rattle.integers.specs.Clip.{clip3}
 use Rattle.integers.specs.Lists.{tabulate, tabulate_from}
 use Rattle.integers.specs.Search.{first_where}
@@ -12,15 +13,6 @@ use Rattle.refusal.specs.Condition.{size_refused, depth_refused, block_refused}
 use Rattle.planes.specs.Picture.{side_refused, stride_refused, picture_refused, block_outside}
 use Rattle.picture.specs.Samples.{sample_max, rebuilt_sample, rebuilt_at, among, placed_at, rebuilt_plane, first_above}
 use Rattle.picture.specs.Rebuild.{Rebuilt, rebuilt}
-
--- what a definition gives, and what is right
-pub record Case : Type 0 where
-  pub found : List ℕ
-  pub expected : List ℕ
-
-infix 20 ◌gives◌
-◌gives◌ : List ℕ → List ℕ → Case
-found gives expected = record { found = found; expected = expected }
 
 one : ℕ → List ℕ
 one k = k ∷ []
@@ -31,8 +23,8 @@ answered width =
     let w : Rebuilt = rebuilt 4 8 (replicate 16 (pos 0)) (replicate 16 256) width 4 4 0 0 (replicate 16 0) in
     w.answer.number ∷ w.answer.place ∷ []
 
-pub examples : List Case
-unfolding ◌gives◌ one answered
+pub examples : List (Case (List ℕ))
+unfolding one answered
 examples =
     (one (rebuilt_sample 255 200 (pos 55)) gives one 255)
     ∷ (one (rebuilt_sample 255 200 (pos 2147483647)) gives one 255)
@@ -43,6 +35,6 @@ examples =
     ∷ (answered 4 gives (12 ∷ 0 ∷ []))
     ∷ []
 
-pub examples_hold : map (λ c. c.found) examples ≡ map (λ c. c.expected) examples
-unfolding examples ◌gives◌ one answered rebuilt_sample rebuilt_plane placed_at rebuilt_at among sample_max rebuilt first_above picture_refused side_refused stride_refused block_outside size_refused depth_refused block_refused clip3 tabulate tabulate_from first_where
+pub examples_hold : AllHold examples
+unfolding examples one answered rebuilt_sample rebuilt_plane placed_at rebuilt_at among sample_max rebuilt first_above picture_refused side_refused stride_refused block_outside size_refused depth_refused block_refused clip3 tabulate tabulate_from first_where
 examples_hold = refl

@@ -6,8 +6,13 @@
 --   rotation_refused t n    25: rotation, and the size is not 4
 --   list_refused len        5: the list has not 64 entries
 --   block_refused n len     6, 7: a buffer has fewer than n² elements
-use Rattle.std.specs.Prelude.{Bool, not, ◌&&◌, ◌||◌, ℕ, ◌*◌, eqb, ltb}
+--   bits16, bits32          how wide an element of the output is: row 3 applies to 16-bit output alone
+--   output_ladder           rows 1, 2 and 3, lowest first, and then `go`; `stop` makes something of a refusal
+--   buffer_ladder           rows 6 and 7 in the same way, of a buffer that is read and one that is written
+use Rattle.std.specs.Prelude.{Bool, true, false, cond, not, ◌&&◌, ◌||◌, ℕ, ◌*◌, eqb, ltb}
 use Rattle.h265.specs.Range.{is_size}
+use Rattle.refusal.specs.declared.Refusal.{Refusal}
+use Rattle.refusal.specs.declared.Refusal.TheVariants.{SizeInvalid, DepthInvalid, WidthTooNarrow, InputTooShort, OutputTooShort}
 
 unfoldable pub size_refused : ℕ → Bool
 size_refused n = not (is_size n)
@@ -26,3 +31,20 @@ block_refused n len = ltb len (n * n)
 
 unfoldable pub rotation_refused : Bool → ℕ → Bool
 rotation_refused t n = t && not (eqb n 4)
+
+abbrev pub bits16 : Bool
+bits16 = true
+
+abbrev pub bits32 : Bool
+bits32 = false
+
+abbrev pub output_ladder : {A : Type 0} → (Refusal → A) → Bool → ℕ → ℕ → Bool → A → A
+output_ladder stop narrow n b x go =
+    cond (size_refused n) (stop SizeInvalid)
+    (cond (depth_refused b) (stop DepthInvalid)
+    (cond (narrow && width_refused b x) (stop WidthTooNarrow) go))
+
+abbrev pub buffer_ladder : {A : Type 0} → (Refusal → A) → ℕ → ℕ → ℕ → A → A
+buffer_ladder stop n read written go =
+    cond (block_refused n read) (stop InputTooShort)
+    (cond (block_refused n written) (stop OutputTooShort) go)

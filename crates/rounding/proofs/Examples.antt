@@ -1,11 +1,12 @@
 -- Examples as one list of cases under one statement: the exact product, the residual beside it, and the bound. Among them a block that goes
 -- past half a step by the rounding of stage one, and one that goes past the bound since a stage-one value was limited.
-use mathlib.Core.Path.{◌≡◌, refl}
+use mathlib.Core.Path.{refl}
 use mathlib.Core.Bool.{Bool, true, false}
-use mathlib.Core.List.{List, [], ◌∷◌, ◌++◌, map}
+use mathlib.Core.List.{List, [], ◌∷◌, ◌++◌}
 use Prim.Native.Nat.{ℕ, ◌+◌}
 use lib.IntN.{ℤ, pos, neg_ℤ, ◌-ℤ◌, ◌*ℤ◌}
 use lib.ListN.{replicate}
+use Rattle.integers.specs.Examples.{Case, AllHold, ◌gives◌}
 use Rattle.integers.specs.Clip.{clip3}
 use Rattle.integers.specs.Lists.{tabulate, tabulate_from}
 use Rattle.integers.specs.Shift.{pow2, shift_right, round_shift}
@@ -17,15 +18,6 @@ use Rattle.transform_1d.specs.declared.Kind.{Kind}
 use Rattle.transform_1d.specs.declared.Kind.TheVariants.{Dct, Dst}
 use Rattle.transform_1d.specs.MatrixOf.{matrix_of}
 use Rattle.rounding.specs.Exact.{exact_product, dct_sum, entry_sum, shift_of, rounding_bound}
-
--- what a definition gives, and what it has to give
-pub record Case : Type 0 where
-  pub found : List ℤ
-  pub expected : List ℤ
-
-infix 20 ◌gives◌
-◌gives◌ : List ℤ → List ℤ → Case
-found gives expected = record { found = found; expected = expected }
 
 same : ℤ → List ℤ
 same z = replicate 4 z
@@ -52,8 +44,8 @@ bounds b x =
     pos (rounding_bound Dct 4 b x) ∷ pos (rounding_bound Dct 8 b x) ∷ pos (rounding_bound Dct 16 b x) ∷ pos (rounding_bound Dct 32 b x)
     ∷ pos (rounding_bound Dst 4 b x) ∷ []
 
-pub examples : List Case
-unfolding ◌gives◌ only full same exact_row differences bounds
+pub examples : List (Case (List ℤ))
+unfolding only full same exact_row differences bounds
 examples =
     -- half a step off
     (exact_row Dct 4 (only 0 (pos 64)) gives same (pos 262144))
@@ -73,6 +65,6 @@ examples =
     ∷ (bounds 16 false gives (pos 16832 ∷ pos 31680 ∷ pos 61184 ∷ pos 120192 ∷ pos 16512 ∷ []))
     ∷ []
 
-pub examples_hold : map (λ (c : Case). c.found) examples ≡ map (λ (c : Case). c.expected) examples
-unfolding ◌gives◌ only full same exact_row differences bounds examples transform_range coeff_min coeff_max clip_coeff folding_values folding folded_entry folded_angle trans_matrix32 trans_matrix dst_entries dst_matrix transform_line block_at columns_read stage_one_sum stage_one_value intermediate stage_two_sum stage_two_shift stage_two residual clip3 tabulate tabulate_from shift_right round_shift sum matrix_of exact_product dct_sum entry_sum shift_of rounding_bound
+pub examples_hold : AllHold examples
+unfolding only full same exact_row differences bounds examples transform_range coeff_min coeff_max clip_coeff folding_values folding folded_entry folded_angle trans_matrix32 trans_matrix dst_entries dst_matrix transform_line block_at columns_read stage_one_sum stage_one_value intermediate stage_two_sum stage_two_shift stage_two residual clip3 tabulate tabulate_from shift_right round_shift sum matrix_of exact_product dct_sum entry_sum shift_of rounding_bound
 examples_hold = refl

@@ -33,7 +33,7 @@ use Rattle.scale_trace_block.proofs.RoomLaws.{room_none}
 use Rattle.feed_rules.specs.Feed.{History, in_history}
 use Rattle.feed.specs.Answers.{step_answer}
 use Rattle.feed_history.specs.Stepping.{Stepping}
-use Rattle.feed_history.specs.Stepping.Room.{enough}
+use Rattle.feed_history.specs.Stepping.IfRoom.{enough}
 use Rattle.feed_history.proofs.FollowLaws.{Follows, Same, record_follows, walks_agree, follows_start}
 use Rattle.feed_history.proofs.StepsLaws.{enough_room}
 use Rattle.feed_history.proofs.WalkLaws.{Walk, walk_text, Going, Turn, Passed, passed, going_refused}

@@ -33,8 +33,8 @@ use Rattle.feed.specs.declared.StepError.{StepError}
 use Rattle.feed.specs.declared.StepError.TheVariants.{Refused, NoRoom}
 use Rattle.feed_state.specs.declared.Taken.{Taken}
 use Rattle.feed.specs.Answers.{step_answer, Steps}
-use Rattle.feed_history.specs.Stepping.{Room, Stepping, too_short, stepping_by, stepping}
-use Rattle.feed_history.specs.Stepping.Room.{too_little, enough}
+use Rattle.feed_history.specs.Stepping.{IfRoom, Stepping, too_short, stepping_by, stepping}
+use Rattle.feed_history.specs.Stepping.IfRoom.{too_little, enough}
 use Rattle.scale_trace_rules.specs.Block.{lines_from, block_lines}
 use Rattle.scale_trace_rules.specs.Trace.{levels_lines, record_lines, trace_effect, list_room, size_of}
 use Rattle.scale_trace_block.proofs.RoomLaws.{room_is}
@@ -68,7 +68,7 @@ lines_of (Some Edit) s = sym (lines_none s.given s.list)
 lines_of (Some Reading) s = sym (lines_none s.given s.list)
 
 -- ---- answers
-abbrev pub number_in : Room (Outcome (Unit {0})) → ℕ
+abbrev pub number_in : IfRoom (Outcome (Unit {0})) → ℕ
 number_in too_little = 0
 number_in (enough q) = q.number
 

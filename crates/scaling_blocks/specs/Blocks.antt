@@ -1,7 +1,7 @@
 -- Whole blocks, refused calls included. docs/RULES.md, "Scaling", "Transform skip", and rows 1, 2, 3, 5, 6, 7 of its table;
 -- change request R-6.
 -- Letters: n size, q QP' as given, b depth, x extended precision.
---   output_width           how wide an element of the output is
+--   output_width           what an element of the output has room for
 --   scaling_ladder           what `stop` makes of the lowest refusal that applies, else `done`
 --   block_answer           the ladder alone; not_refused: it refuses nothing
 --   count_outcome          the answer of a call: its value is how many coefficients were limited, 0 on refusal
@@ -11,7 +11,7 @@
 --   transform_skipped      transform skip: the residuals stand there; the coefficients that were limited count, before the skip shift
 --   CountWrites r after w a call's answer r and output `after` are what w says
 --   block_params           the numbers by which a call works, below the same ladder
-use Rattle.std.specs.Prelude.{◌≡◌, Bool, true, false, ◌&&◌, cond, List, ℕ, ◌*◌, ℤ, length, Result}
+use Rattle.std.specs.Prelude.{◌≡◌, Bool, cond, List, ℕ, ◌*◌, ℤ, length, Result}
 use Rattle.std.specs.Int.{Width, w16, w32}
 use Rattle.integers.specs.Lists.{overwrite}
 use Rattle.h265.specs.Range.{log2_size}
@@ -21,32 +21,19 @@ use Rattle.scaling_values.specs.Given.{entries_of}
 use Rattle.h265.specs.Limited.{limited_count}
 use Rattle.h265.specs.TransformSkip.{skipped_at}
 use Rattle.refusal.specs.declared.Refusal.{Refusal}
-use Rattle.refusal.specs.declared.Refusal.TheVariants.{SizeInvalid, DepthInvalid, WidthTooNarrow, ListLengthInvalid, InputTooShort, OutputTooShort}
-use Rattle.refusal.specs.Condition.{size_refused, depth_refused, width_refused, list_refused, block_refused}
+use Rattle.refusal.specs.declared.Refusal.TheVariants.{ListLengthInvalid}
+use Rattle.refusal.specs.Condition.{list_refused, output_ladder, buffer_ladder}
 use Rattle.refusal.specs.Outcome.{Outcome, accepted, refused, outcome}
 use Rattle.parameters.specs.declared.TransformSkipParams.{TransformSkipParams}
 use Rattle.parameters.specs.Answers.{no_transform_skip}
 use Rattle.parameters.specs.Parameters.{transform_skip_of}
 
--- the output's width: row 3 applies to 16-bit output alone
-abbrev pub bits16 : Bool
-bits16 = true
-
-abbrev pub bits32 : Bool
-bits32 = false
-
--- what an element of the output has room for
 abbrev pub output_width : Bool → Width
 output_width narrow = cond narrow w16 w32
 
 unfoldable pub scaling_ladder : {A : Type 0} → (Refusal → A) → A → Bool → ℕ → ℕ → Bool → ℕ → ℕ → ℕ → A
 scaling_ladder stop done narrow n b x entries levels places =
-    cond (size_refused n) (stop SizeInvalid)
-    (cond (depth_refused b) (stop DepthInvalid)
-    (cond (narrow && width_refused b x) (stop WidthTooNarrow)
-    (cond (list_refused entries) (stop ListLengthInvalid)
-    (cond (block_refused n levels) (stop InputTooShort)
-    (cond (block_refused n places) (stop OutputTooShort) done)))))
+    output_ladder stop narrow n b x (cond (list_refused entries) (stop ListLengthInvalid) (buffer_ladder stop n levels places done))
 
 -- the ladder alone
 abbrev pub block_answer : Bool → ℕ → ℕ → Bool → ℕ → ℕ → ℕ → Outcome (Unit {0})

@@ -1,5 +1,5 @@
 -- One list: coded in full, or taken over.
---   all_below, below_both     that numbers lie below one, as a test, and its parts
+--   each_below, below_both     that numbers lie below one, as a test, and its parts
 --   positions_inside         the positions of a size lie among 64 entries
 --   coded_got, coded_stop    entries that are read, with a DC that is known
 --   coded_plain, coded_dc, coded_dc_stop   a list without and with a DC of its own
@@ -27,18 +27,18 @@ use Rattle.scaling_lists_taken.specs.Held.{held_at, held}
 use Rattle.scaling_lists.specs.Work.{Positions}
 
 -- ---- positions
-abbrev pub all_below : ℕ → List ℕ → Bool
-all_below n [] = true
-all_below n (p ∷ ps) = ltb p n && all_below n ps
+abbrev pub each_below : ℕ → List ℕ → Bool
+each_below n [] = true
+each_below n (p ∷ ps) = ltb p n && each_below n ps
 
 pub below_both : (s t : Bool) → T (s && t) → T s × T t
 below_both true t h = (tt, h)
 below_both false t h = absurd h
 
-below_at : (n : ℕ) (ps : List ℕ) → T (all_below n ps) → (i : ℕ) → i < length ps → get_or ps i 0 < n
+below_at : (n : ℕ) (ps : List ℕ) → T (each_below n ps) → (i : ℕ) → i < length ps → get_or ps i 0 < n
 below_at n [] a i h = absurd (not-suc-le-zero h)
-below_at n (p ∷ ps) a zero h = ltb→lt p n (below_both (ltb p n) (all_below n ps) a).0
-below_at n (p ∷ ps) a (suc i) h = below_at n ps (below_both (ltb p n) (all_below n ps) a).1 i (omega arith)
+below_at n (p ∷ ps) a zero h = ltb→lt p n (below_both (ltb p n) (each_below n ps) a).0
+below_at n (p ∷ ps) a (suc i) h = below_at n ps (below_both (ltb p n) (each_below n ps) a).1 i (omega arith)
 
 four_inside : Positions (up_right 4) 64
 unfolding inside diagonal diagonals up_right

@@ -25,7 +25,7 @@ use Rattle.bits_written.proofs.BytesLaws.{begins_first, begins_second, begins_th
 use Rattle.bits_written.proofs.CodesLaws.{unsigned_read}
 use Rattle.diagonal.specs.Scan.{inside, diagonal, diagonals, up_right}
 use Rattle.scaling_lists_codes.specs.Syntax.{number_at, FactorList, Defaults, and_then, matrix_step, size_id, matrix_id, list_number, default_for, positions, blank, coded_entries, dc_code, coded_list, reference_code, referred, taken_over, none, list_by, list_code}
-use Rattle.scaling_lists.proofs.ListLaws.{all_below, below_both}
+use Rattle.scaling_lists.proofs.ListLaws.{each_below, below_both}
 use Rattle.scaling_lists_written.specs.Same.{has_dc, used_count, entry, same_list, used_list, Proper, list_at}
 use Rattle.scaling_lists_written.specs.Written.{difference, delta_bits, full_bits, default_list, earlier, nearest, form_of, form_bits, list_bits, read_list, Whole}
 use Rattle.scaling_lists_written.specs.Written.Form.{taken, full}
@@ -33,11 +33,11 @@ use Rattle.scaling_lists_written.proofs.SameLaws.{same_used, used_same, used_who
 use Rattle.scaling_lists_written.proofs.DeltaLaws.{dc_read, Entries, placed, entries_read}
 
 -- ---- a list in full
-entries_below : (n : ℕ) (ps : List ℕ) (l : FactorList) → T (all_below n ps)
+entries_below : (n : ℕ) (ps : List ℕ) (l : FactorList) → T (each_below n ps)
     → ((i : ℕ) → i < n → 1 ≤ entry l i) → ((i : ℕ) → i < n → entry l i ≤ 255) → Entries ps l.entries
 entries_below n [] l a lo hi = tt
 entries_below n (p ∷ ps) l a lo hi =
-    let b = below_both (ltb p n) (all_below n ps) a in
+    let b = below_both (ltb p n) (each_below n ps) a in
     let h = ltb→lt p n b.0 in
     (lo p h, hi p h, entries_below n ps l b.1 lo hi)
 

@@ -3,7 +3,8 @@
 
 ghost use Rattle.std.specs.Prelude.{◌≡◌};
 ghost use Rattle.h265.specs.ScalingFactor.ScalingList.{flat, listed};
-ghost use Rattle.scaling_blocks.specs.Blocks.{bits16, dequantized, transform_skipped, CountWrites};
+ghost use Rattle.refusal.specs.Condition.{bits16};
+ghost use Rattle.scaling_blocks.specs.Blocks.{dequantized, transform_skipped, CountWrites};
 
 use parameters::QpPrime;
 use refusal::{Precision, Refusal};

@@ -21,7 +21,7 @@ use Rattle.h265.proofs.TransformLaws.{transform_line_cong}
 use Rattle.transform_1d.specs.Rows.{Filled}
 use Rattle.transform_1d.proofs.RowsLaws.{filled_cong}
 use Rattle.tiles.specs.Tile.{line_value}
-use Rattle.wide_parts.specs.Split.{Narrow}
+use Rattle.integers.specs.Within.{Narrow}
 use Rattle.wide_parts.proofs.SplitLaws.{clip_coeff_narrow}
 use Rattle.stages_wide.specs.Wide.{limited_block}
 use Rattle.stages_wide.specs.Parts.{stage_of, ColumnPlaced, NarrowColumn}

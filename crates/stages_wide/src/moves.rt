@@ -3,7 +3,7 @@ ghost use Rattle.std.specs.Prelude.{◌≡◌, Bool, true, false, ℕ, ◌+◌, 
 ghost use Rattle.std.specs.Int.{w16};
 ghost use Rattle.std.proofs.Common.{SFits};
 ghost use Rattle.transform_1d.specs.Rows.{Placed, Filled};
-ghost use Rattle.wide_parts.specs.Split.{Narrow};
+ghost use Rattle.integers.specs.Within.{Narrow};
 ghost use Rattle.stages_wide.specs.Parts.{limited_at, ColumnOf, ColumnPlaced, NarrowColumn};
 
 use crate::parts::limited;

@@ -23,7 +23,7 @@ use lib.Signed.{shr_z, ◌≤ℤ◌}
 use Rattle.integers.specs.Lists.{tabulate}
 use Rattle.integers.specs.Shift.{pow2, shift_right}
 use Rattle.integers.specs.Sum.{sum}
-use Rattle.integers.specs.Within.{Within}
+use Rattle.integers.specs.Within.{Within, Narrow}
 use Rattle.integers.proofs.LinearLaws.{split, ring, diff_ext}
 use Rattle.integers.proofs.OrderLaws.{shr_shift}
 use Rattle.integers.proofs.ShiftLaws.{shift_right_zero, shift_right_within}
@@ -38,7 +38,7 @@ use Rattle.transform_1d.specs.Rows.{Placed, Filled}
 use Rattle.transform_1d.proofs.RowsLaws.{filled_cong, zeros-get_or}
 use Rattle.transform_1d.proofs.MatrixLaws.{transform_line_within}
 use Rattle.tiles.specs.Tile.{line_value}
-use Rattle.wide_parts.specs.Split.{high_of, low_of, Narrow, JoinNeeds}
+use Rattle.wide_parts.specs.Split.{high_of, low_of, JoinNeeds}
 use Rattle.tiles_wide.specs.Pass.{limited_list, PassGives}
 use Rattle.wide_parts.proofs.SplitLaws.{parts_exact, high_within, low_within, clip_coeff_narrow, placed_run}
 

@@ -4,7 +4,8 @@
 ghost use Rattle.std.specs.Prelude.{true, false};
 ghost use Rattle.refusal.specs.Written.{Writes};
 ghost use Rattle.transform_1d.specs.declared.Kind.TheVariants.{Dct, Dst};
-ghost use Rattle.transform_blocks.specs.Blocks.{bits16, bits32, plain_range, extended_range, inverted};
+ghost use Rattle.refusal.specs.Condition.{bits16, bits32};
+ghost use Rattle.transform_blocks.specs.Blocks.{plain_range, extended_range, inverted};
 
 use refusal::{Precision, Refusal};
 use transform_1d::Kind;

@@ -37,7 +37,7 @@ use Rattle.transform_1d.specs.declared.Kind.{Kind}
 use Rattle.transform_1d.specs.declared.Kind.TheVariants.{Dct}
 use Rattle.transform_1d.specs.MatrixOf.{matrix_of}
 use Rattle.stages.specs.Plain.{PlainNeeds}
-use Rattle.transform_blocks.specs.Blocks.{block_ladder, inverted, OfKind}
+use Rattle.transform_blocks.specs.Blocks.{transform_ladder, inverted, OfKind}
 
 pub writes_refused : {w : Written} {out : List ℤ} (e : Refusal) → w ≡ left out e → Writes (Err e) out w
 writes_refused e h = record { answered = sym (ap (λ (v : Written). v.answer) h); out = sym (ap (λ (v : Written). v.out) h) }
@@ -67,7 +67,7 @@ rungs narrow n b x coeff out =
     ∷ []
 
 module _ (narrow : Bool) (kind : Kind) (n b : ℕ) (x : Bool) (nx : ℕ) (coeff out : List ℤ) where
-  pub ladder_refused : (e : Refusal) → answer (Err e) ≡ block_ladder (refused tt) (accepted tt) narrow n b x (length coeff) (length out)
+  pub ladder_refused : (e : Refusal) → answer (Err e) ≡ transform_ladder (refused tt) (accepted tt) narrow n b x (length coeff) (length out)
       → Writes (Err e) out (inverted narrow kind n b x nx coeff out)
   unfolding inverted
   ladder_refused e h =
@@ -77,7 +77,7 @@ module _ (narrow : Bool) (kind : Kind) (n b : ℕ) (x : Bool) (nx : ℕ) (coeff 
       (cond (ltb first (n * n)) (left out (refusal_at r n coeff first)) (wrote (overwrite (n * n) (row_order n (residual (matrix_of kind n) n b r nx coeff)) out)))
       (λ w. Writes (Err e) out w) e (λ f k. record { answered = k; out = refl }) (rungs narrow n b x (length coeff) (length out)) h
 
-  pub ladder_passed : answer (Ok tt) ≡ block_ladder (refused tt) (accepted tt) narrow n b x (length coeff) (length out) → Checked narrow n b x (length coeff) (length out)
+  pub ladder_passed : answer (Ok tt) ≡ transform_ladder (refused tt) (accepted tt) narrow n b x (length coeff) (length out) → Checked narrow n b x (length coeff) (length out)
   ladder_passed h =
       let p = (first_accepted tt tt tt (rungs narrow n b x (length coeff) (length out)) h).0 in
       record { size = p.0; depth = p.1.0; width = p.1.1.0; input = p.1.1.1.0; output = p.1.1.1.1.0 }

@@ -20,7 +20,7 @@ use Rattle.integers.proofs.SearchLaws.{None, first_where-none}
 use Rattle.h265.specs.Range.{transform_range, coeff_min, coeff_max, outside_range}
 use Rattle.h265.proofs.RangeLaws.{outside_range_false}
 use Rattle.coefficients.specs.Outside.{outside_at, first_outside}
-use Rattle.transform_blocks.specs.Blocks.{Fit16}
+use Rattle.integers.specs.Within.{Narrow}
 
 pub range_plain : (b : ℕ) → transform_range b Bool.false ≡ 15
 unfolding transform_range
@@ -39,7 +39,7 @@ pub inside_fits : (z : ℤ) → outside_range 15 z ≡ false → SFits w16 z
 unfolding coeff_min coeff_max
 inside_fits z e = let h = outside_range_false 15 z e in between z h.0 h.1
 
-pub none_outside : (n nx : ℕ) (xs : List ℤ) → Fit16 (n * n) xs → n * n ≤ first_outside 15 n nx xs
+pub none_outside : (n nx : ℕ) (xs : List ℤ) → Narrow (n * n) xs → n * n ≤ first_outside 15 n nx xs
 unfolding first_outside outside_at
 none_outside n nx xs f = le_of_eq (sym (first_where-none (n * n) (le_refl (n * n)) none))
   where

@@ -1,32 +1,21 @@
 -- Whole blocks, refused calls included. docs/RULES.md, "Inverse transforms", and rows 1, 2, 3, 6, 7, 9, 19 of its table.
 -- Letters: n size, b depth, x extended precision, nx column count.
---   bits16, bits32, plain_range, extended_range   names of the flags
---   block_ladder stop go narrow n b x coeff out   the conditions before row 9, lowest number first
+--   plain_range, extended_range               names of the flag
+--   transform_ladder stop go narrow n b x coeff out   the conditions before row 9, lowest number first
 --   inverted narrow kind n b x nx coeff out   what a transform answers and what its output holds afterwards; `narrow`: 16-bit output
 --   OfKind kind n                             what the functions below the refusals rely on: the DST has four points
 --   InRange                                   size, kind, depth, range and lengths are right, and the coefficients read lie in the range
---   Fit16 len xs                              the first len elements of xs fit 16 bits
-use Rattle.std.specs.Prelude.{◌≡◌, Bool, true, false, ◌&&◌, cond, List, ℕ, ◌+◌, ◌*◌, ◌<◌, ◌≤◌, T, ltb, ℤ, pos, get_or, length}
-use Rattle.std.specs.Int.{w16}
-use Rattle.std.proofs.Common.{SFits}
+use Rattle.std.specs.Prelude.{◌≡◌, Bool, true, false, cond, List, ℕ, ◌+◌, ◌*◌, ◌<◌, ◌≤◌, T, ltb, ℤ, pos, get_or, length}
 use Rattle.integers.specs.Lists.{overwrite}
 use Rattle.h265.specs.Range.{is_size, transform_range, outside_range}
 use Rattle.h265.specs.Transform.{row_order, residual}
 use Rattle.refusal.specs.declared.Refusal.{Refusal}
-use Rattle.refusal.specs.declared.Refusal.TheVariants.{SizeInvalid, DepthInvalid, WidthTooNarrow, InputTooShort, OutputTooShort}
-use Rattle.refusal.specs.Condition.{size_refused, depth_refused, width_refused, block_refused}
+use Rattle.refusal.specs.Condition.{output_ladder, buffer_ladder}
 use Rattle.refusal.specs.Written.{Written, left, wrote}
 use Rattle.transform_1d.specs.declared.Kind.{Kind}
 use Rattle.transform_1d.specs.declared.Kind.TheVariants.{Dst}
 use Rattle.transform_1d.specs.MatrixOf.{matrix_of}
 use Rattle.coefficients.specs.Outside.{first_outside, refusal_at}
-
--- the output's width: row 3 applies to 16-bit output alone
-abbrev pub bits16 : Bool
-bits16 = true
-
-abbrev pub bits32 : Bool
-bits32 = false
 
 -- the range of coefficients: R = 15, or by extended precision
 abbrev pub plain_range : Bool
@@ -36,28 +25,20 @@ abbrev pub extended_range : Bool
 extended_range = true
 
 -- by the lengths of the buffers; `stop` makes something of a refusal
-abbrev pub block_ladder : {A : Type 0} → (Refusal → A) → A → Bool → ℕ → ℕ → Bool → ℕ → ℕ → A
-block_ladder stop go narrow n b x coeff out =
-    cond (size_refused n) (stop SizeInvalid)
-    (cond (depth_refused b) (stop DepthInvalid)
-    (cond (narrow && width_refused b x) (stop WidthTooNarrow)
-    (cond (block_refused n coeff) (stop InputTooShort)
-    (cond (block_refused n out) (stop OutputTooShort) go))))
+abbrev pub transform_ladder : {A : Type 0} → (Refusal → A) → A → Bool → ℕ → ℕ → Bool → ℕ → ℕ → A
+transform_ladder stop go narrow n b x coeff out = output_ladder stop narrow n b x (buffer_ladder stop n coeff out go)
 
 unfoldable pub inverted : Bool → Kind → ℕ → ℕ → Bool → ℕ → List ℤ → List ℤ → Written
 inverted narrow kind n b x nx coeff out =
     let r : ℕ = transform_range b x in
     let first : ℕ = first_outside r n nx coeff in
-    block_ladder (left out)
+    transform_ladder (left out)
     (cond (ltb first (n * n)) (left out (refusal_at r n coeff first))
     (wrote (overwrite (n * n) (row_order n (residual (matrix_of kind n) n b r nx coeff)) out)))
     narrow n b x (length coeff) (length out)
 
 pub record OfKind (kind : Kind) (n : ℕ) : Type 0 where
   pub dst : kind ≡ Dst → n ≡ 4
-
-pub record Fit16 (len : ℕ) (xs : List ℤ) : Type 0 where
-  pub at : (i : ℕ) → i < len → SFits w16 (get_or xs i (pos 0))
 
 pub record InRange (kind : Kind) (n b r nx : ℕ) (coeff : List ℤ) (places : ℕ) : Type 0 where
   pub size : T (is_size n)

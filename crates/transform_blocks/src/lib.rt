@@ -8,7 +8,9 @@ ghost use Rattle.h265.specs.Transform.{row_order, residual};
 ghost use Rattle.refusal.specs.Outcome.{answer, accepted, refused};
 ghost use Rattle.refusal.specs.Written.{Writes};
 ghost use Rattle.transform_1d.specs.MatrixOf.{matrix_of};
-ghost use Rattle.transform_blocks.specs.Blocks.{block_ladder, inverted, OfKind, Fit16, InRange, bits16, bits32, plain_range};
+ghost use Rattle.integers.specs.Within.{Narrow};
+ghost use Rattle.refusal.specs.Condition.{bits16, bits32};
+ghost use Rattle.transform_blocks.specs.Blocks.{transform_ladder, inverted, OfKind, InRange, plain_range};
 
 use refusal::{Precision, Refusal};
 use transform_1d::Kind;
@@ -23,7 +25,7 @@ fn block_refusal(
     coeff: usize,
     out: usize,
 ) -> Result<(), Refusal>
-    ensures { answer result ≡ block_ladder (refused tt) (accepted tt) narrow n precision.bit_depth precision.extended coeff out }
+    ensures { answer result ≡ transform_ladder (refused tt) (accepted tt) narrow n precision.bit_depth precision.extended coeff out }
 {
     refusal::check_size(n)?;
     refusal::check_depth(precision.bit_depth)?;
@@ -38,7 +40,7 @@ fn block_refusal(
 // Reads each element: of a slice of signed numbers, only what is read is known to fit its type. The loop does nothing, and the compiler leaves it out.
 fn elements_fit(xs: &[i16], len: usize)
     requires { len ≤ length xs.now }
-    ensures { Fit16 len xs.now }
+    ensures { Narrow len xs.now }
 {
     for i in 0..len {
         let _value = xs[i];

@@ -22,7 +22,7 @@ use mir.Syntax.{w16, w32}
 use mir.Val.{SFits}
 use Rattle.integers.specs.Clip.{clip3}
 use Rattle.integers.specs.Shift.{pow2, shift_right}
-use Rattle.integers.specs.Within.{Within}
+use Rattle.integers.specs.Within.{Within, Narrow}
 use Rattle.integers.proofs.LinearLaws.{pos_part, neg_part, split, ring, diff_ext, parts_ext, parts_add, parts_add_le, parts_mul, parts_neg, le_in, le_out, lt_in, lt_out}
 use Rattle.integers.proofs.MachineLaws.{lt_z_false, sfits_out, sfits_pos_part, sfits_neg_part}
 use Rattle.integers.proofs.OrderLaws.{Floor, shr_floor}
@@ -31,7 +31,7 @@ use Rattle.integers.proofs.ClipLaws.{clip3_low, clip3_high, clip3_id, clip3_case
 use Rattle.h265.specs.Range.{clip_coeff, coeff_min, coeff_max}
 use Rattle.h265.proofs.RangeLaws.{clip_coeff_within, clip_coeff_id}
 use Rattle.transform_1d.specs.Rows.{Placed}
-use Rattle.wide_parts.specs.Split.{high_of, low_of, Narrow}
+use Rattle.wide_parts.specs.Split.{high_of, low_of}
 
 -- ---- the parts of x, with m for 2^k
 module _ (m : ℕ) (h : 0 < m) (x : ℤ) where

@@ -7,10 +7,10 @@ ghost use Rattle.std.specs.Int.{w16};
 ghost use Rattle.std.proofs.Common.{SFits};
 ghost use Rattle.integers.specs.Clip.{clip3};
 ghost use Rattle.integers.specs.Shift.{pow2, shift_right};
-ghost use Rattle.integers.specs.Within.{Within};
+ghost use Rattle.integers.specs.Within.{Within, Narrow};
 ghost use Rattle.h265.specs.Range.{clip_coeff};
 ghost use Rattle.transform_1d.specs.Rows.{Placed};
-ghost use Rattle.wide_parts.specs.Split.{high_of, low_of, Narrow, JoinNeeds};
+ghost use Rattle.wide_parts.specs.Split.{high_of, low_of, JoinNeeds};
 
 // `false` only where x fits 16 bits; `true` says nothing.
 pub fn is_wide(x: i32) -> bool
@@ -131,9 +131,9 @@ fn lows(s: &[i32], h: &[i16], k: u32, l: &mut [i16])
     bounded(l, low_most(k));
 }
 
-// Both parts of the first values: as many as h and l have.
+// Both parts of the first values: as many high ones as h has, and as many low ones as l.
 pub fn split(s: &[i32], k: u32, h: &mut [i16], l: &mut [i16])
-    requires { (k ≤ 7) × (length h.old ≤ length s.now) × (length l.old ≡ length h.old) }
+    requires { (k ≤ 7) × (length h.old ≤ length s.now) × (length l.old ≤ length h.old) }
     ensures placed { Placed 0 (length h.old) (λ j. high_of k (get_or s.now j (pos 0))) h.old h.new }
     ensures placed_2 { Placed 0 (length l.old) (λ j. low_of k (get_or s.now j (pos 0))) l.old l.new }
 {

@@ -9,7 +9,8 @@ use Rattle.std.proofs.lemmas.List.{map-id}
 use Rattle.h265.specs.ScalingFactor.{ScalingList}
 use Rattle.refusal.specs.Outcome.{accepted, refused, answer, outcome}
 use Rattle.refusal.proofs.ConditionLaws.{list_whole}
-use Rattle.scaling_blocks.specs.Blocks.{bits32, dequantized, CountWrites}
+use Rattle.refusal.specs.Condition.{bits32}
+use Rattle.scaling_blocks.specs.Blocks.{dequantized, CountWrites}
 use Rattle.scaling_values.specs.Given.{entries_of}
 use Rattle.scaling_values.specs.Given.{list_of as given_list}
 use Rattle.block_rules.specs.declared.Source.{Source}

@@ -3,7 +3,7 @@ use mathlib.Core.Path.{◌≡◌}
 use lib.ListN.{length}
 use Rattle.std.proofs.Common.{rules, Err}
 use Rattle.scaling_values.specs.Given.{list_of, entries_of}
-use Rattle.scaling_blocks.specs.Blocks.{bits32}
+use Rattle.refusal.specs.Condition.{bits32}
 use Rattle.scaling_blocks.proofs.BlockLaws.{Ready, block_ready}
 use Rattle.level_search.proofs.FoundLaws.{levels-refused, levels_found_lem, ready_invertible}
 use Rattle.level_search.proofs.find_levels.Goals as goal

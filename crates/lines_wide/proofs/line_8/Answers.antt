@@ -1,11 +1,11 @@
 -- `lines_wide::line_8` meets its contract: even rows are the 4-point DCT's, and the right half of the matrix mirrors the left, odd rows
 -- with their sign changed.
 use native.Mathlib.Omega.{arith}
-use Rattle.lines_wide.proofs.HalvesLaws.{Halves, low_fits, high_fits, outputs_8}
+use Rattle.lines_wide.proofs.HalvesLaws.{EvenAndOdd, low_fits, high_fits, outputs_8}
 use Rattle.lines_wide.proofs.line_8.Goals as goal
 use Rattle.lines_wide.proofs.line_8.Goals.{After-odd_8-o}
 
-halves : (c : After-odd_8-o) → Halves c.args.x c.dct_4-e.result c.odd_8-o.result
+halves : (c : After-odd_8-o) → EvenAndOdd c.args.x c.dct_4-e.result c.odd_8-o.result
 halves c = record { all = c.requires; even = c.dct_4-e.ensures; odd = c.odd_8-o.ensures }
 
 pub overflow_add-result : goal.overflow_add-result

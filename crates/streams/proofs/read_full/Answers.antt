@@ -1,17 +1,12 @@
 -- `streams::read_full` meets its contract: what one read gave stands behind what earlier ones gave.
-use Rattle.std.proofs.Common.{Option, None, Some, append_assoc, drop, ◌≡◌, ℕ, ◌+◌, ◌-◌, ◌≤◌, List, ◌++◌, rules, arith, length, take, slice_range, sym, ap, ◌∙◌, subst, le_refl, drop_at, length-take-le}
+use Rattle.std.proofs.Common.{drop, ◌≡◌, ℕ, ◌+◌, ◌-◌, ◌≤◌, List, ◌++◌, rules, arith, length, take, slice_range, sym, ap, ◌∙◌, subst, le_refl, drop_at, length-take-le}
 use Rattle.std.proofs.lemmas.Slice.{take-put_mid_below}
 use Rattle.std.specs.Io.KnownBytes.{Consumes}
 use Rattle.std.proofs.lemmas.List.{take-append-le}
 use borrow.Rule.Slice.PartMut.{put_mid, post_of}
 use lib.Seq.{take-add}
+use Rattle.streams.proofs.ReadLaws.{consumes_trans}
 use Rattle.streams.proofs.read_full.Goals as goal
-
-consumes_trans : (a b c : Option (List ℕ)) (xs ys : List ℕ) → Consumes a b xs → Consumes b c ys → Consumes a c (xs ++ ys)
-consumes_trans None b c xs ys p q = tt
-consumes_trans (Some l) None c xs ys p q = elim p [ ]
-consumes_trans (Some l) (Some m) None xs ys p q = elim q [ ]
-consumes_trans (Some l) (Some m) (Some n) xs ys p q = p ∙ ap (λ t. xs ++ t) q ∙ sym (append_assoc xs ys n)
 
 take_split : (a n : ℕ) (xs : List ℕ) → take a xs ++ slice_range xs a (a + n) ≡ take (a + n) xs
 take_split a n xs =

@@ -2,7 +2,7 @@
 use mathlib.Core.Path.{◌≡◌}
 use mathlib.Core.Bool.{true}
 use Prim.Native.Nat.{◌≤◌}
-use Rattle.wide_parts.specs.Split.{Narrow}
+use Rattle.integers.specs.Within.{Narrow}
 use Rattle.wide_parts.proofs.narrow_run.Given as goal
 
 abbrev pub invariant-loop-j : goal.invariant-loop-j

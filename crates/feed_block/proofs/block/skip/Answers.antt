@@ -3,7 +3,8 @@ use borrow.Author.Rules.{sfits_of}
 use lib.IntN.{pos}
 use Rattle.std.proofs.lemmas.List.{map-id}
 use Rattle.integers.proofs.MachineLaws.{round_trip}
-use Rattle.scaling_blocks.specs.Blocks.{bits32, transform_skipped, CountWrites}
+use Rattle.refusal.specs.Condition.{bits32}
+use Rattle.scaling_blocks.specs.Blocks.{transform_skipped, CountWrites}
 use Rattle.feed_format.specs.declared.Mode.TheVariants.{Skip}
 use Rattle.feed_rules.specs.Block.{list_for, list_in}
 use Rattle.feed_block.proofs.ScaleLaws.{skipped_ok, skipped_out}

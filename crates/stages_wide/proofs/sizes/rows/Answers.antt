@@ -5,7 +5,7 @@ use Rattle.h265.specs.Matrix.{trans_matrix}
 use mir.Syntax.{w32}
 use mir.Facts.{to_z-of_z}
 use borrow.Author.Rules.{sfits_of}
-use Rattle.wide_parts.specs.Split.{Narrow}
+use Rattle.integers.specs.Within.{Narrow}
 use Rattle.stages.proofs.SizesLaws.{stored_16}
 use Rattle.stages_wide.proofs.NarrowLaws.{narrow_stage, turned_narrow}
 use Rattle.stages_wide.proofs.MovesLaws.{turned_rows}

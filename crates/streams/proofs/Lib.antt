@@ -1,0 +1,2 @@
+-- Laws for what this crate reads.
+pub mod ReadLaws
