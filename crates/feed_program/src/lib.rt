@@ -1,7 +1,11 @@
 // What the two programs that read a feed from standard input do around a record: `feed_main` and `scale_trace_main`. Internal.
 #![tactic(auto)]
 
-ghost use Rattle.std.specs.Prelude.{◌≡◌, ◌≤◌, ◌⊎◌, pos, length, replicate, IfOk, None, Some, Ok};
+ghost use Rattle.std.specs.Prelude.{◌≡◌, ◌≤◌, ◌⊎◌, pos, true, length, replicate, IfOk, None, Some, Ok};
+ghost use Rattle.feed_rules.specs.Feed.{beginning};
+ghost use Rattle.feed_state.specs.Buffers.{Lent, closed};
+ghost use Rattle.feed_state.specs.Taken.{state_of};
+ghost use Rattle.feed_program.specs.Reading.{Ended, NextRead, TurnsFrom};
 
 use feed::{Line, State, StepError, Taken};
 use std::io::Read;
@@ -57,7 +61,9 @@ pub fn write_last<R: Print + Eprint>(rt: &R, program: &str, line: Line) -> Optio
 }
 
 // Whether one more read says that the input has ended.
-fn has_ended(stdin: &mut impl Read) -> bool {
+fn has_ended<R: Read>(stdin: &mut R) -> bool
+    ensures { result ≡ true → Ended (R.remaining stdin.old) (R.remaining stdin.new) }
+{
     let mut byte = [0u8; 1];
     matches!(stdin.read(&mut byte), Ok(0))
 }
@@ -67,10 +73,12 @@ fn has_ended(stdin: &mut impl Read) -> bool {
 pub struct ReadFailed;
 
 // The next record, its kind and its body, where the input has one. A body is cut short where the input has ended; where one more read does not say so, a read failed.
-pub fn next_record<'a>(
-    stdin: &mut impl Read,
+pub fn next_record<'a, R: Read>(
+    stdin: &mut R,
     room: &'a mut [u8; 4096],
-) -> Result<Option<(u8, &'a [u8])>, ReadFailed> {
+) -> Result<Option<(u8, &'a [u8])>, ReadFailed>
+    ensures { IfOk result (λ next. NextRead (R.remaining stdin.old) next (R.remaining stdin.new)) }
+{
     let mut byte = [0u8; 1];
     let got = stdin.read(&mut byte).map_err(|_| ReadFailed)?;
     if got == 0 {
@@ -111,9 +119,10 @@ pub fn after_step<R: Print + Eprint>(
 // The loop over the records of a feed, which ends where a turn answers no state.
 pub fn run<F: FnMut(State) -> Option<State>>(mut turn: F)
     requires { F.IsAlwaysCallable turn }
+    ensures { (first : State) × ((w : Lent) → state_of first w ≡ beginning (closed w)) × TurnsFrom F.step turn first }
 {
     let mut state = feed::start();
-    for _ in 0..u64::MAX {
+    for done in 0..u64::MAX {
         let Some(next) = turn(state) else {
             break;
         };
