@@ -1,14 +1,13 @@
 // Lines of 2 to 32 points by even and odd parts, at twice their value, on 16-bit data. x holds the first values of a line, and those past its
-// end are zero: all of a line, or its first part (half of 8 points, a quarter of 16 and 32). A line of n points reads every st-th value, and is one
-// function for each length of x.
+// end are zero: all of a line, or its first part (half of 8 points, a quarter of 16 and 32). A line of n points reads every st-th value.
 #![tactic(auto)]
 
-ghost use Rattle.std.specs.Prelude.{◌≡◌, ◌*◌, ◌≤◌, pos, ◌+ℤ◌, ◌*ℤ◌, get_or};
+ghost use Rattle.std.specs.Prelude.{◌≡◌, ℕ, ◌*◌, ◌/◌, ◌<◌, ◌≤◌, pos, ◌+ℤ◌, ◌*ℤ◌, length, get_or};
 ghost use Rattle.integers.specs.Within.{Within};
-ghost use Rattle.lines.specs.Fold.{value_most, dot_sum, Small, DotNeeds, FoldNeeds, Folded, Twice, TwiceOdd};
+ghost use Rattle.lines.specs.Fold.{value_most, dot_sum, Small, DotNeeds, Paired, FoldNeeds, Folded, Twice, TwiceOdd};
 
-// Value i.
-fn value<const N: usize>(x: &[i16; N], i: usize) -> i16
+// Value i; past the end, zero.
+fn value(x: &[i16], i: usize) -> i16
     ensures { result ≡ get_or x.now i (pos 0) }
 {
     x.get(i).copied().unwrap_or(0)
@@ -22,19 +21,37 @@ fn pair(u: i16, x: i16, v: i16, y: i16) -> i32
     (u as i32) * (x as i32) + (v as i32) * (y as i32)
 }
 
-// The odd values of x, st apart, by the entries t, in pairs: of these the compiler makes its 16-bit multiply-add.
-fn dot<const N: usize, const H: usize>(x: &[i16; N], st: usize, t: [i16; H]) -> i32
-    requires { DotNeeds H st t }
-    ensures { (result ≡ dot_sum H t.entry st x.now) × Within (H * value_most) result }
+// The products of the odd values of x, st apart, with the entries t, two and two together: of these the compiler makes its 16-bit multiply-add.
+// Kept: turns by what x has. Of a count that is known before the line is in its tile the compiler makes one chain of all products, with two
+// multiply-adds for most pairs, and a dense block of 32 points takes a third longer; a `for` over (x.len() + 3 * st) / (4 * st) is as fast as this
+// and says its end less plainly.
+fn pairs<const H: usize>(x: &[i16], st: usize, t: &[i16; H]) -> [i32; H]
+    requires { DotNeeds H st t.now (length x.now) }
+    ensures { (k : ℕ) → k < H / 2 → Paired t.now st x.now k (get_or result k (pos 0)) }
 {
-    let mut s: i32 = 0;
-    for k in 0..H / 2 {
-        s += pair(
+    let mut s = [0i32; H];
+    let mut k = 0;
+    while st * (4 * k + 1) < x.len() {
+        s[k] = pair(
             t[2 * k],
             value(x, st * (4 * k + 1)),
             t[2 * k + 1],
             value(x, st * (4 * k + 3)),
         );
+        k += 1;
+    }
+    s
+}
+
+// The odd values of x, st apart, by the entries t.
+fn dot<const H: usize>(x: &[i16], st: usize, t: &[i16; H]) -> i32
+    requires { DotNeeds H st t.now (length x.now) }
+    ensures { (result ≡ dot_sum H t.now st x.now) × Within (H * value_most) result }
+{
+    let p = pairs(x, st, t);
+    let mut s: i32 = 0;
+    for k in 0..H / 2 {
+        s += p[k];
     }
     s
 }
@@ -55,7 +72,7 @@ fn fold<const H: usize, const M: usize>(e: &[i32; H], o: &[i32; H]) -> [i32; M]
 // Kept: a function for each size, and the bound on st of each. A line of n points calls that of n / 2, which Rust takes for no const argument,
 // and literal entries save lending a table through every line, with three facts for each read (DECISIONS 71).
 #[inline(always)]
-fn line_2<const N: usize>(x: &[i16; N], st: usize) -> [i32; 2]
+fn line_2(x: &[i16], st: usize) -> [i32; 2]
     ensures { Twice 2 st x.now result }
 {
     let a = value(x, 0);
@@ -64,16 +81,16 @@ fn line_2<const N: usize>(x: &[i16; N], st: usize) -> [i32; 2]
 }
 
 #[inline(always)]
-fn odd_4<const N: usize>(x: &[i16; N], st: usize) -> [i32; 2]
-    requires { 4 * st ≤ 32 }
+fn odd_4(x: &[i16], st: usize) -> [i32; 2]
+    requires { (1 ≤ st) × (4 * st ≤ 32) × (length x.now ≤ 4 * st) }
     ensures { TwiceOdd 2 st x.now result }
 {
-    [dot(x, st, [166, 72]), dot(x, st, [72, -166])]
+    [dot(x, st, &[166, 72]), dot(x, st, &[72, -166])]
 }
 
 #[inline(always)]
-fn line_4<const N: usize>(x: &[i16; N], st: usize) -> [i32; 4]
-    requires { 4 * st ≤ 32 }
+fn line_4(x: &[i16], st: usize) -> [i32; 4]
+    requires { (1 ≤ st) × (4 * st ≤ 32) × (length x.now ≤ 4 * st) }
     ensures { Twice 4 st x.now result }
 {
     let e = line_2(x, 2 * st);
@@ -82,21 +99,21 @@ fn line_4<const N: usize>(x: &[i16; N], st: usize) -> [i32; 4]
 }
 
 #[inline(always)]
-fn odd_8<const N: usize>(x: &[i16; N], st: usize) -> [i32; 4]
-    requires { 8 * st ≤ 32 }
+fn odd_8(x: &[i16], st: usize) -> [i32; 4]
+    requires { (1 ≤ st) × (8 * st ≤ 32) × (length x.now ≤ 8 * st) }
     ensures { TwiceOdd 4 st x.now result }
 {
     [
-        dot(x, st, [178, 150, 100, 36]),
-        dot(x, st, [150, -36, -178, -100]),
-        dot(x, st, [100, -178, 36, 150]),
-        dot(x, st, [36, -100, 150, -178]),
+        dot(x, st, &[178, 150, 100, 36]),
+        dot(x, st, &[150, -36, -178, -100]),
+        dot(x, st, &[100, -178, 36, 150]),
+        dot(x, st, &[36, -100, 150, -178]),
     ]
 }
 
 #[inline(always)]
-pub fn line_8<const N: usize>(x: &[i16; N], st: usize) -> [i32; 8]
-    requires { 8 * st ≤ 32 }
+pub fn line_8(x: &[i16], st: usize) -> [i32; 8]
+    requires { (1 ≤ st) × (8 * st ≤ 32) × (length x.now ≤ 8 * st) }
     ensures { Twice 8 st x.now result }
 {
     let e = line_4(x, 2 * st);
@@ -105,25 +122,25 @@ pub fn line_8<const N: usize>(x: &[i16; N], st: usize) -> [i32; 8]
 }
 
 #[inline(always)]
-fn odd_16<const N: usize>(x: &[i16; N], st: usize) -> [i32; 8]
-    requires { 16 * st ≤ 32 }
+fn odd_16(x: &[i16], st: usize) -> [i32; 8]
+    requires { (1 ≤ st) × (16 * st ≤ 32) × (length x.now ≤ 16 * st) }
     ensures { TwiceOdd 8 st x.now result }
 {
     [
-        dot(x, st, [180, 174, 160, 140, 114, 86, 50, 18]),
-        dot(x, st, [174, 114, 18, -86, -160, -180, -140, -50]),
-        dot(x, st, [160, 18, -140, -174, -50, 114, 180, 86]),
-        dot(x, st, [140, -86, -174, 18, 180, 50, -160, -114]),
-        dot(x, st, [114, -160, -50, 180, -18, -174, 86, 140]),
-        dot(x, st, [86, -180, 114, 50, -174, 140, 18, -160]),
-        dot(x, st, [50, -140, 180, -160, 86, 18, -114, 174]),
-        dot(x, st, [18, -50, 86, -114, 140, -160, 174, -180]),
+        dot(x, st, &[180, 174, 160, 140, 114, 86, 50, 18]),
+        dot(x, st, &[174, 114, 18, -86, -160, -180, -140, -50]),
+        dot(x, st, &[160, 18, -140, -174, -50, 114, 180, 86]),
+        dot(x, st, &[140, -86, -174, 18, 180, 50, -160, -114]),
+        dot(x, st, &[114, -160, -50, 180, -18, -174, 86, 140]),
+        dot(x, st, &[86, -180, 114, 50, -174, 140, 18, -160]),
+        dot(x, st, &[50, -140, 180, -160, 86, 18, -114, 174]),
+        dot(x, st, &[18, -50, 86, -114, 140, -160, 174, -180]),
     ]
 }
 
 #[inline(always)]
-pub fn line_16<const N: usize>(x: &[i16; N], st: usize) -> [i32; 16]
-    requires { 16 * st ≤ 32 }
+pub fn line_16(x: &[i16], st: usize) -> [i32; 16]
+    requires { (1 ≤ st) × (16 * st ≤ 32) × (length x.now ≤ 16 * st) }
     ensures { Twice 16 st x.now result }
 {
     let e = line_8(x, 2 * st);
@@ -133,31 +150,33 @@ pub fn line_16<const N: usize>(x: &[i16; N], st: usize) -> [i32; 16]
 
 #[rattlefmt::skip]
 #[inline(always)]
-fn odd_32<const N: usize>(x: &[i16; N]) -> [i32; 16]
+fn odd_32(x: &[i16]) -> [i32; 16]
+    requires { length x.now ≤ 32 }
     ensures { TwiceOdd 16 1 x.now result }
 {
     [
-        dot(x, 1, [180, 180, 176, 170, 164, 156, 146, 134, 122, 108, 92, 76, 62, 44, 26, 8]),
-        dot(x, 1, [180, 164, 134, 92, 44, -8, -62, -108, -146, -170, -180, -176, -156, -122, -76, -26]),
-        dot(x, 1, [176, 134, 62, -26, -108, -164, -180, -156, -92, -8, 76, 146, 180, 170, 122, 44]),
-        dot(x, 1, [170, 92, -26, -134, -180, -146, -44, 76, 164, 176, 108, -8, -122, -180, -156, -62]),
-        dot(x, 1, [164, 44, -108, -180, -122, 26, 156, 170, 62, -92, -180, -134, 8, 146, 176, 76]),
-        dot(x, 1, [156, -8, -164, -146, 26, 170, 134, -44, -176, -122, 62, 180, 108, -76, -180, -92]),
-        dot(x, 1, [146, -62, -180, -44, 156, 134, -76, -180, -26, 164, 122, -92, -176, -8, 170, 108]),
-        dot(x, 1, [134, -108, -156, 76, 170, -44, -180, 8, 180, 26, -176, -62, 164, 92, -146, -122]),
-        dot(x, 1, [122, -146, -92, 164, 62, -176, -26, 180, -8, -180, 44, 170, -76, -156, 108, 134]),
-        dot(x, 1, [108, -170, -8, 176, -92, -122, 164, 26, -180, 76, 134, -156, -44, 180, -62, -146]),
-        dot(x, 1, [92, -180, 76, 108, -180, 62, 122, -176, 44, 134, -170, 26, 146, -164, 8, 156]),
-        dot(x, 1, [76, -176, 146, -8, -134, 180, -92, -62, 170, -156, 26, 122, -180, 108, 44, -164]),
-        dot(x, 1, [62, -156, 180, -122, 8, 108, -176, 164, -76, -44, 146, -180, 134, -26, -92, 170]),
-        dot(x, 1, [44, -122, 170, -180, 146, -76, -8, 92, -156, 180, -164, 108, -26, -62, 134, -176]),
-        dot(x, 1, [26, -76, 122, -156, 176, -180, 170, -146, 108, -62, 8, 44, -92, 134, -164, 180]),
-        dot(x, 1, [8, -26, 44, -62, 76, -92, 108, -122, 134, -146, 156, -164, 170, -176, 180, -180]),
+        dot(x, 1, &[180, 180, 176, 170, 164, 156, 146, 134, 122, 108, 92, 76, 62, 44, 26, 8]),
+        dot(x, 1, &[180, 164, 134, 92, 44, -8, -62, -108, -146, -170, -180, -176, -156, -122, -76, -26]),
+        dot(x, 1, &[176, 134, 62, -26, -108, -164, -180, -156, -92, -8, 76, 146, 180, 170, 122, 44]),
+        dot(x, 1, &[170, 92, -26, -134, -180, -146, -44, 76, 164, 176, 108, -8, -122, -180, -156, -62]),
+        dot(x, 1, &[164, 44, -108, -180, -122, 26, 156, 170, 62, -92, -180, -134, 8, 146, 176, 76]),
+        dot(x, 1, &[156, -8, -164, -146, 26, 170, 134, -44, -176, -122, 62, 180, 108, -76, -180, -92]),
+        dot(x, 1, &[146, -62, -180, -44, 156, 134, -76, -180, -26, 164, 122, -92, -176, -8, 170, 108]),
+        dot(x, 1, &[134, -108, -156, 76, 170, -44, -180, 8, 180, 26, -176, -62, 164, 92, -146, -122]),
+        dot(x, 1, &[122, -146, -92, 164, 62, -176, -26, 180, -8, -180, 44, 170, -76, -156, 108, 134]),
+        dot(x, 1, &[108, -170, -8, 176, -92, -122, 164, 26, -180, 76, 134, -156, -44, 180, -62, -146]),
+        dot(x, 1, &[92, -180, 76, 108, -180, 62, 122, -176, 44, 134, -170, 26, 146, -164, 8, 156]),
+        dot(x, 1, &[76, -176, 146, -8, -134, 180, -92, -62, 170, -156, 26, 122, -180, 108, 44, -164]),
+        dot(x, 1, &[62, -156, 180, -122, 8, 108, -176, 164, -76, -44, 146, -180, 134, -26, -92, 170]),
+        dot(x, 1, &[44, -122, 170, -180, 146, -76, -8, 92, -156, 180, -164, 108, -26, -62, 134, -176]),
+        dot(x, 1, &[26, -76, 122, -156, 176, -180, 170, -146, 108, -62, 8, 44, -92, 134, -164, 180]),
+        dot(x, 1, &[8, -26, 44, -62, 76, -92, 108, -122, 134, -146, 156, -164, 170, -176, 180, -180]),
     ]
 }
 
 #[inline(always)]
-pub fn line_32<const N: usize>(x: &[i16; N]) -> [i32; 32]
+pub fn line_32(x: &[i16]) -> [i32; 32]
+    requires { length x.now ≤ 32 }
     ensures { Twice 32 1 x.now result }
 {
     let e = line_16(x, 2);

@@ -271,7 +271,7 @@ pub struct Whole8;
 impl Line<8, 8> for Whole8 {
     #[inline(always)]
     fn line(x: &[i16; 8]) -> [i32; 8] {
-        lines::line_8(x, 1)
+        lines::line_8(&x[..], 1)
     }
 }
 
@@ -296,7 +296,7 @@ pub struct Whole16;
 impl Line<16, 16> for Whole16 {
     #[inline(always)]
     fn line(x: &[i16; 16]) -> [i32; 16] {
-        lines::line_16(x, 1)
+        lines::line_16(&x[..], 1)
     }
 }
 

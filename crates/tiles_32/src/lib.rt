@@ -12,7 +12,7 @@ pub struct Whole32;
 impl Line<32, 32> for Whole32 {
     #[inline(always)]
     fn line(x: &[i16; 32]) -> [i32; 32] {
-        lines::line_32(x)
+        lines::line_32(&x[..])
     }
 }
 

@@ -16,7 +16,7 @@ pub struct Quarter8;
 impl Line<4, 8> for Quarter8 {
     #[inline(always)]
     fn line(x: &[i16; 4]) -> [i32; 8] {
-        lines::line_8(x, 1)
+        lines::line_8(&x[..], 1)
     }
 }
 
@@ -41,7 +41,7 @@ pub struct Quarter16;
 impl Line<4, 16> for Quarter16 {
     #[inline(always)]
     fn line(x: &[i16; 4]) -> [i32; 16] {
-        lines::line_16(x, 1)
+        lines::line_16(&x[..], 1)
     }
 }
 
@@ -66,7 +66,7 @@ pub struct Quarter32;
 impl Line<8, 32> for Quarter32 {
     #[inline(always)]
     fn line(x: &[i16; 8]) -> [i32; 32] {
-        lines::line_32(x)
+        lines::line_32(&x[..])
     }
 }
 

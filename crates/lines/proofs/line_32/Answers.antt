@@ -3,4 +3,4 @@ use Rattle.lines.proofs.FoldLaws.{fold_16}
 use Rattle.lines.proofs.line_32.Goals as goal
 
 pub returns : goal.returns
-returns g c = fold_16 c.line_16-e.ensures c.odd_32-o.ensures c.fold.ensures
+returns c = fold_16 c.line_16-e.ensures c.odd_32-o.ensures c.fold.ensures

@@ -3,4 +3,4 @@ use Rattle.lines.proofs.FoldLaws.{fold_2}
 use Rattle.lines.proofs.line_4.Goals as goal
 
 pub returns : goal.returns
-returns g c = fold_2 c.line_2-e.ensures c.odd_4-o.ensures c.fold.ensures
+returns c = fold_2 c.line_2-e.ensures c.odd_4-o.ensures c.fold.ensures

@@ -8,7 +8,7 @@ use Rattle.lines.proofs.odd_16.Goals as goal
 
 pub returns : goal.returns
 unfolding odd_column trans_matrix trans_matrix32 folded_entry folded_angle folding folding_values tabulate tabulate_from
-returns g c =
+returns c =
     odds 8 _ refl
     (dot_out 8 _ 0 refl tt c.dot.ensures
     then dot_out 8 _ 1 refl tt c.dot-2.ensures
