@@ -168,9 +168,10 @@ def need_rules():
     """A crate names each that crates.txt says it builds on: `rt` walks these lines from crate to crate, so that a needless one costs time in every run."""
     for name, (needs, _) in layers.crates().items():
         folder = pathlib.Path("crates") / name
-        text = "".join(file.read_text() for part in ("src", "specs", "proofs") for file in sorted((folder / part).rglob("*")) if file.suffix in (".rt", ".antt"))
+        texts = [file.read_text() for part in ("src", "specs", "proofs") for file in sorted((folder / part).rglob("*")) if file.suffix in (".rt", ".antt")]
+        text = re.sub(r"(?m)(//|--).*", "", "\n".join(texts))
         for need in needs:
-            if not re.search(rf"\b{need}(::|\.)", text):
+            if not re.search(rf"Rattle\.{need}\.|(?<![\w:.]){need}::", text):
                 say("a crate of crates.txt's line that no file names", f"{name}: {need}")
 
 

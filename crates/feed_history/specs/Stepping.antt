@@ -1,6 +1,6 @@
 -- One record given to a step with some room for its text.
---   IfRoom A                    too little room, decided before anything else; else an answer
---   Stepping                    the answer to one record, the state and the text
+--   IfRoom A                     too little room, decided before anything else; else an answer
+--   Stepping                     the answer to one record, the state and the text
 --   too_short w                  a buffer of the open block has no room for the largest block
 --   stepping_by, stepping        the step for a buffer of some length: by what a record does and the bytes that its text may take, and that of the feed
 use Rattle.std.specs.Prelude.{Bool, ◌||◌, cond, List, [], ℕ, ltb, length}

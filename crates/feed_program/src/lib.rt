@@ -60,7 +60,7 @@ pub fn write_last<R: Print + Eprint>(rt: &R, program: &str, line: Line) -> Optio
     None
 }
 
-// Whether one more read says that the input has ended.
+// Whether one more read says that the input has ended; `false` says nothing.
 fn has_ended<R: Read>(stdin: &mut R) -> bool
     ensures { result ≡ true → Ended (R.remaining stdin.old) (R.remaining stdin.new) }
 {
@@ -116,10 +116,10 @@ pub fn after_step<R: Print + Eprint>(
     }
 }
 
-// The loop over the records of a feed, which ends where a turn answers no state.
-pub fn run<F: FnMut(State) -> Option<State>>(mut turn: F)
-    requires { F.IsAlwaysCallable turn }
-    ensures { (first : State) × ((w : Lent) → state_of first w ≡ beginning (closed w)) × TurnsFrom F.step turn first }
+// The loop over the records of a feed, which ends where a turn answers no state. The count of turns is for the proof alone.
+pub fn run<F: FnMut(State) -> Option<State>>(turn: &mut F)
+    requires { F.IsAlwaysCallable turn.old }
+    ensures { (first : State) × ((w : Lent) → state_of first w ≡ beginning (closed w)) × TurnsFrom F.step turn.old first turn.new }
 {
     let mut state = feed::start();
     for done in 0..u64::MAX {

@@ -1,6 +1,6 @@
 -- Examples of definitions as a list of cases under one statement.
---   Case A    what a definition gives, and what it has to give
---   AllHold   the statement: each gives what it has to
+--   Case A         what a definition gives, and what it has to give: found gives expected
+--   AllHold cases  the statement: each gives what it has to
 use Rattle.std.specs.Prelude.{◌≡◌, List, map}
 
 pub record Case (A : Type 0) : Type 0 where

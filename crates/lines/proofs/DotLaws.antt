@@ -1,6 +1,6 @@
 -- Dot products over the odd values, a pair at a time.
 --   PairsTo h t st xs k z  the invariant: the first k pairs stand in z, which has zeros behind them
---   pair_room, pairs_next, pairs_all   a value that is there has its place, one pair more, and where x has no more values
+--   pair_room, paired, pairs_next, pairs_all   a value that is there has its place, a pair as the machine has it, one pair more, and where x has no more values
 --   Dotted t st xs k s   the invariant: s is what the first k pairs add up to
 --   dotted_none, dotted_next   before the first pair, and one pair more
 --   sum_fits             no sum wraps

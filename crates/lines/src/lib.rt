@@ -21,10 +21,11 @@ fn pair(u: i16, x: i16, v: i16, y: i16) -> i32
     (u as i32) * (x as i32) + (v as i32) * (y as i32)
 }
 
-// The products of the odd values of x, st apart, with the entries t, two and two together: of these the compiler makes its 16-bit multiply-add.
+// The products of the odd values of x, st apart, with the entries t, two and two together, in the first half of what is handed back: of these the
+// compiler makes its 16-bit multiply-add.
 // Kept: turns by what x has. Of a count that is known before the line is in its tile the compiler makes one chain of all products, with two
-// multiply-adds for most pairs, and a dense block of 32 points takes a third longer; a `for` over (x.len() + 3 * st) / (4 * st) is as fast as this
-// and says its end less plainly.
+// multiply-adds for most pairs, and a dense block of 32 points takes a third longer; a `for` over a count by (x.len() + 3 * st) / (4 * st), tried,
+// is as fast as this and says its end less plainly.
 fn pairs<const H: usize>(x: &[i16], st: usize, t: &[i16; H]) -> [i32; H]
     requires { DotNeeds H st t.now (length x.now) }
     ensures { (k : ℕ) → k < H / 2 → Paired t.now st x.now k (get_or result k (pos 0)) }

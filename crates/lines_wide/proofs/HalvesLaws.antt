@@ -1,6 +1,6 @@
 -- Laws of the 8-point line by its halves.
 --   line_low, line_high    outputs j and 7 - j, as the sum and the difference of output j of each half
---   EvenAndOdd x e o           e and o are the lines over the values of x in even and odd places
+--   EvenAndOdd x e o       e and o are the lines over the values of x in even and odd places
 --   low_fits, high_fits    those sums and differences fit 32 bits
 --   joined, outputs_8      the eight that the machine makes of two halves are the line
 use mathlib.Core.Path.{◌≡◌, refl, sym, ap₂, subst, ◌∙◌}

@@ -36,5 +36,5 @@ fn turn<R: Print + Eprint>(
 fn main(rt: HostRuntime) {
     let mut stdin = rt.stdin();
     let mut buffers = Buffers::new();
-    feed_program::run(|state| turn(&rt, &mut stdin, state, &mut buffers));
+    feed_program::run(&mut |state| turn(&rt, &mut stdin, state, &mut buffers));
 }

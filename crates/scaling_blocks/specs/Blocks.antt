@@ -4,8 +4,7 @@
 --   output_width           what an element of the output has room for
 --   scaling_ladder           what `stop` makes of the lowest refusal that applies, else `done`
 --   block_answer           the ladder alone; not_refused: it refuses nothing
---   count_outcome          the answer of a call: its value is how many coefficients were limited, 0 on refusal
---   CountWritten          what a call hands back: its outcome with that count, and its output buffer afterwards
+--   CountWritten          what a call hands back: its outcome, whose value is how many coefficients were limited, and its output buffer afterwards
 --   left_as_lent, counted   refused, with the output as lent; accepted
 --   dequantized           scaling: the coefficients stand in the first n² places of the output
 --   transform_skipped      transform skip: the residuals stand there; the coefficients that were limited count, before the skip shift

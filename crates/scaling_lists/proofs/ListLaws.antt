@@ -1,5 +1,5 @@
 -- One list: coded in full, or taken over.
---   each_below, below_both     that numbers lie below one, as a test, and its parts
+--   each_below, below_both    that numbers lie below one, as a test, and its parts
 --   positions_inside         the positions of a size lie among 64 entries
 --   coded_got, coded_stop    entries that are read, with a DC that is known
 --   coded_plain, coded_dc, coded_dc_stop   a list without and with a DC of its own

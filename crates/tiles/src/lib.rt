@@ -1,6 +1,6 @@
 // One stage over a block of 8 × 8 to 32 × 32 on 16-bit data: the line over column c becomes row c, so that each stage reads columns and writes
 // rows, four lines at a time. The compiler makes its vectors only where the line, the columns and the tile are inlined into the loop over them,
-// and an array is lent as an array.
+// and the source is lent as an array.
 // Internal: no refusal; callers meet each `requires`.
 #![tactic(auto)]
 
