@@ -1,4 +1,5 @@
-/* The H.265 residual path for C: what the archive of the crate c_api_c defines, on x86-64. docs/RULES.md has the rules in full.
+/* The H.265 residual path for C: what the archive of the crate c_api_c defines, on x86-64. docs/RULES.md has the rules in full. The code needs a
+ * processor with SSE4.2 (x86-64-v2) and does not test for it.
  *
  * Answers. Every call but residual_version and those of a feed answers a record that begins with a number and a place: zeros, or the number of a refusal (residual_refusals.h)
  * with the place that it names. The place of a coefficient is its row and column; any other is one number. A refused call changes no element of any buffer, and
