@@ -1,12 +1,14 @@
 -- Dot products over the odd values, a pair at a time.
 --   PairsTo h t st xs k z  the invariant: the first k pairs stand in z, which has zeros behind them
---   pair_room, paired, pairs_next, pairs_all   a value that is there has its place, a pair as the machine has it, one pair more, and where x has no more values
+--   pair_room, paired      a value that is there has its place, and a pair as the call of `products` tells it
+--   pairs_none, pairs_next, pairs_all   before the first pair, one pair more, and where x has no more values
 --   Dotted t st xs k s   the invariant: s is what the first k pairs add up to
 --   dotted_none, dotted_next   before the first pair, and one pair more
 --   sum_fits             no sum wraps
 use mathlib.Core.Path.{◌≡◌, sym, ap, ap₂, ◌∙◌, subst}
 use mathlib.Core.List.{List}
 use Prim.Native.Nat.{ℕ, suc, ◌+◌, ◌*◌, ◌/◌, ◌<◌, ◌≤◌}
+use native.Mathlib.Nat.{not-suc-le-zero}
 use native.Mathlib.Decide.{ℕ_discrete, dec_lt}
 use Rattle.std.proofs.Common.{mul-le-mul, le_refl}
 use Rattle.std.proofs.Math.Nat.{mul_comm}
@@ -15,18 +17,17 @@ use lib.IntN.{ℤ, pos, ◌+ℤ◌, ◌*ℤ◌, +ℤ_assoc}
 use lib.ListN.{get_or, length, set, length-set, get_or-eq_default}
 use lib.Seq.{get_or-set_same, get_or-set_other}
 use Rattle.std.proofs.Math.IntN.{*ℤ-zero}
-use mir.Syntax.{w32}
+use mir.Syntax.{w16, w32}
 use mir.Val.{to_z, of_z, SFits}
 use mir.Facts.{to_z-of_z}
 use Rattle.integers.specs.Sum.{sum}
 use Rattle.integers.specs.Within.{Within}
-use Rattle.integers.proofs.BoundLaws.{within_add, within_eq, within_le, within_pos, by_32}
+use Rattle.integers.proofs.BoundLaws.{within_add, within_eq, within_le, within_pos, within_fits, by_32}
 use Rattle.integers.proofs.SumLaws.{sum_zero, sum_suc}
-use Rattle.lines.specs.Fold.{value_most, dot_sum, DotNeeds, Paired}
+use Rattle.lines.specs.Fold.{value_most, dot_sum, Small, DotNeeds, Paired}
 
 -- ---- pairs
 pub record PairsTo (h : ℕ) (t : List ℤ) (st : ℕ) (xs : List ℤ) (k : ℕ) (z : List ℤ) : Type 0 where
-  pub most : k ≤ h / 2
   pub long : length z ≡ h
   pub done : (j : ℕ) → j < k → Paired t st xs j (get_or z j (pos 0))
   pub rest : (j : ℕ) → k ≤ j → get_or z j (pos 0) ≡ pos 0
@@ -42,17 +43,22 @@ pair_room {h} {st} {w} {k} a l =
           absurd (let c : ⊥ = omega (arith, far, e, a.few, l) in c)
     ]
 
-pub paired : {t xs : List ℤ} {st k : ℕ} {p : ℤ} → Within (2 * value_most) p
-    → p ≡ get_or t (2 * k) (pos 0) *ℤ get_or xs (st * (4 * k + 1)) (pos 0) +ℤ get_or t (2 * k + 1) (pos 0) *ℤ get_or xs (st * (4 * k + 3)) (pos 0)
-    → Paired t st xs k (to_z w32 (of_z w32 p))
-paired {p = p} w e =
-    let same : to_z w32 (of_z w32 p) ≡ p = to_z-of_z {w = w32} (by_32 (within_le (omega arith) w)) in
-    record { is = same ∙ e; small = within_eq same w }
+-- a pair as the caller of `products` reads it
+pub paired : {t xs : List ℤ} {st k : ℕ} {p a b : ℤ} → Small 180 t
+    → (p ≡ to_z w16 (of_z w16 (get_or t (2 * k) (pos 0))) *ℤ a +ℤ to_z w16 (of_z w16 (get_or t (2 * k + 1) (pos 0))) *ℤ b) × Within (2 * value_most) p
+    → a ≡ get_or xs (st * (4 * k + 1)) (pos 0) → b ≡ get_or xs (st * (4 * k + 3)) (pos 0) → Paired t st xs k p
+paired {t} {k = k} s e f g =
+    record { is = e.0 ∙ ap₂ ◌+ℤ◌ (ap₂ ◌*ℤ◌ (entry (2 * k)) f) (ap₂ ◌*ℤ◌ (entry (2 * k + 1)) g); small = e.1 }
+  where
+    entry : (i : ℕ) → to_z w16 (of_z w16 (get_or t i (pos 0))) ≡ get_or t i (pos 0)
+    entry i = to_z-of_z {w = w16} (within_fits tt (s.at i))
+
+pub pairs_none : {h st : ℕ} {t xs z : List ℤ} → length z ≡ h → ((i : ℕ) → get_or z i (pos 0) ≡ pos 0) → PairsTo h t st xs 0 z
+pairs_none l p = record { long = l; done = λ j b. absurd (not-suc-le-zero b); rest = λ j b. p j }
 
 pub pairs_next : {h st k : ℕ} {t xs z : List ℤ} {p : ℤ} → PairsTo h t st xs k z → k < h / 2 → Paired t st xs k p → PairsTo h t st xs (k + 1) (set z k p)
 pairs_next {h} {st} {k} {t} {xs} {z} {p} a l e =
     record {
-      most = omega (arith, l);
       long = length-set z k p ∙ a.long;
       done = λ j b.
           elim (ℕ_discrete j k) [
@@ -85,28 +91,23 @@ pub record Dotted (t : List ℤ) (st : ℕ) (xs : List ℤ) (k : ℕ) (s : ℤ) 
   pub is : s ≡ dot_sum (2 * k) t st xs
   pub small : Within (2 * k * value_most) s
 
-pub dotted_none : (t : List ℤ) (st : ℕ) (xs : List ℤ) → Dotted t st xs 0 (pos 0)
+pub dotted_none : (t : List ℤ) (st : ℕ) (xs : List ℤ) {s : ℤ} → s ≡ pos 0 → Dotted t st xs 0 s
 unfolding dot_sum
-dotted_none t st xs = record { is = sym (sum_zero _); small = within_pos (omega arith) }
+dotted_none t st xs e = record { is = e ∙ sym (sum_zero _); small = within_eq e (within_pos (omega arith)) }
 
-module _ {h st w' : ℕ} {t xs : List ℤ} {k : ℕ} {s v : ℤ} (a : DotNeeds h st t w') (l : k < h / 2) (p : Dotted t st xs k s) (w : Within (2 * value_most) v) where
-  v_is : to_z w32 (of_z w32 v) ≡ v
-  v_is = to_z-of_z {w = w32} (by_32 (within_le (omega arith) w))
+module _ {h st w' : ℕ} {t xs : List ℤ} {k : ℕ} {s v : ℤ} (a : DotNeeds h st t w') (l : k < h / 2) (p : Dotted t st xs k s) (q : Paired t st xs k v) where
+  more : Within (2 * (k + 1) * value_most) (s +ℤ v)
+  more = within_le (omega arith) (within_add p.small q.small)
 
-  more : Within (2 * (k + 1) * value_most) (s +ℤ to_z w32 (of_z w32 v))
-  more = within_le (omega arith) (within_add p.small (within_eq v_is w))
-
-  pub sum_fits : SFits w32 (s +ℤ to_z w32 (of_z w32 v))
+  pub sum_fits : SFits w32 (s +ℤ v)
   sum_fits = by_32 (within_le (omega (arith, l, a.even, a.most)) more)
 
-  pub dotted_next : v ≡ get_or t (2 * k) (pos 0) *ℤ get_or xs (st * (4 * k + 1)) (pos 0) +ℤ get_or t (2 * k + 1) (pos 0) *ℤ get_or xs (st * (4 * k + 3)) (pos 0)
-      → Dotted t st xs (k + 1) (to_z w32 (of_z w32 (s +ℤ to_z w32 (of_z w32 v))))
+  pub dotted_next : {r : ℤ} → r ≡ s +ℤ v → Dotted t st xs (k + 1) r
   unfolding dot_sum
   dotted_next e =
-      let trip : to_z w32 (of_z w32 (s +ℤ to_z w32 (of_z w32 v))) ≡ s +ℤ to_z w32 (of_z w32 v) = to_z-of_z sum_fits in
       record {
-        is = trip ∙ ap₂ ◌+ℤ◌ p.is (v_is ∙ e ∙ ap₂ ◌+ℤ◌ (at (2 * k) (4 * k + 1) (omega arith)) (at (2 * k + 1) (4 * k + 3) (omega arith))) ∙ sym two_more;
-        small = within_eq trip more;
+        is = e ∙ ap₂ ◌+ℤ◌ p.is (q.is ∙ ap₂ ◌+ℤ◌ (at (2 * k) (4 * k + 1) (omega arith)) (at (2 * k + 1) (4 * k + 3) (omega arith))) ∙ sym two_more;
+        small = within_eq e more;
       }
     where
       term : ℕ → ℤ

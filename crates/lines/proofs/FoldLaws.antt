@@ -1,79 +1,57 @@
--- A line from its even and odd parts, as the machine computes it, and the dot products.
---   FoldedTo, folded_next    the loop that adds and subtracts the parts
+-- A line from its even and odd parts, with a number added to each output, and the dot products.
+--   plus_fits, minus_fits    the sums and differences of the parts fit 32 bits
+--   FoldedTo, folded_none, folded_next   the loop that adds and subtracts the parts
+--   parts_fit                a line of h points and an odd part are what putting parts together asks
 --   fold                     the one law: twice the h-point line and twice the odd part make twice the 2h-point line
 --   fold_2 to fold_16        the same at each size
 --   dot_out, odds            dot products by the literal columns are the odd part
 --   line_two                 the line of two points, where all starts
 use mathlib.Core.Path.{◌≡◌, refl, sym, ap, ap₂, ◌∙◌, subst}
 use mathlib.Core.List.{List, [], ◌∷◌}
-use Prim.Native.Nat.{ℕ, zero, suc, ◌+◌, ◌*◌, ◌-◌, ◌/◌, ◌^◌, ◌≤◌, ◌<◌}
+use Prim.Native.Nat.{ℕ, zero, suc, ◌+◌, ◌*◌, ◌-◌, ◌/◌, ◌≤◌, ◌<◌}
 use native.Mathlib.Nat.{not-suc-le-zero, zero-add}
 use native.Mathlib.Decide.{ℕ_discrete, dec_lt}
 use native.Mathlib.Omega.{arith}
-use lib.Dec.{T, ltb}
+use lib.Dec.{T}
 use lib.IntN.{ℤ, pos, negsuc, ◌+ℤ◌, ◌-ℤ◌, ◌*ℤ◌}
 use lib.ListN.{get_or, length, set, length-set, get_or-eq_default}
 use lib.Seq.{get_or-set_same, get_or-set_other}
-use mir.Syntax.{w16, w32}
-use mir.Val.{to_z, of_z, SFits}
-use mir.Facts.{to_z-of_z}
+use mir.Syntax.{w32}
+use mir.Val.{SFits}
 use Rattle.integers.specs.Sum.{sum}
 use Rattle.integers.specs.Within.{Within}
 use Rattle.integers.proofs.LinearLaws.{split, ring, diff_ext}
-use Rattle.integers.proofs.OrderLaws.{*ℤ-+ℤ, *ℤ_assoc}
-use Rattle.integers.proofs.BoundLaws.{within_add, within_neg, within_fits, within_eq, within_le, within_pos, by_32}
+use Rattle.integers.proofs.OrderLaws.{*ℤ_assoc}
+use Rattle.integers.proofs.BoundLaws.{within_add, within_neg, within_eq, within_le, within_pos, by_32}
 use Rattle.integers.proofs.ListsLaws.{tabulate-get_or}
 use Rattle.integers.proofs.SumLaws.{sum_cong, sum_scale}
 use Rattle.h265.specs.Matrix.{folding_values, folding, folded_entry, folded_angle, trans_matrix32, trans_matrix}
 use Rattle.h265.specs.Transform.{transform_line}
 use Rattle.h265.proofs.TransformLaws.{transform_line_cong}
-use Rattle.lines.specs.Fold.{value_most, dot_sum, odd_sum, odd_column, Small, FoldNeeds, Twice, TwiceOdd, Folded}
+use Rattle.lines.specs.Fold.{value_most, round_most, dot_sum, odd_sum, odd_column, Small, FoldNeeds, Twice, TwiceOdd, Folded}
 use Rattle.integers.proofs.TestLaws.{all_below}
 use Rattle.lines.proofs.SplitLaws.{mirrors, line_low, line_high}
 
--- ---- what the machine makes of a sum and a difference
-abbrev pub plus32 : ℤ → ℤ → ℤ
-plus32 a b = to_z w32 (of_z w32 (to_z w32 (of_z w32 a) +ℤ to_z w32 (of_z w32 b)))
-
-abbrev pub minus32 : ℤ → ℤ → ℤ
-minus32 a b = to_z w32 (of_z w32 (to_z w32 (of_z w32 a) -ℤ to_z w32 (of_z w32 b)))
-
+-- ---- the sums and differences that are stored
 module _ {h m : ℕ} {e o : List ℤ} (a : FoldNeeds h m e o) where
-  both : (i : ℕ) → Within (2 * h * value_most) (get_or e i (pos 0) +ℤ get_or o i (pos 0))
+  both : (i : ℕ) → Within (2 * h * value_most + round_most) (get_or e i (pos 0) +ℤ get_or o i (pos 0))
   both i = within_le (omega arith) (within_add (a.even_small.at i) (a.odd_small.at i))
 
-  less : (i : ℕ) → Within (2 * h * value_most) (get_or e i (pos 0) -ℤ get_or o i (pos 0))
+  less : (i : ℕ) → Within (2 * h * value_most + round_most) (get_or e i (pos 0) -ℤ get_or o i (pos 0))
   less i = within_le (omega arith) (within_add (a.even_small.at i) (within_neg (a.odd_small.at i)))
 
-  fits : {z : ℤ} → Within (2 * h * value_most) z → SFits w32 z
-  fits w = by_32 (within_le (omega (arith, a.most)) w)
+  pub plus_fits : (i : ℕ) → SFits w32 (get_or e i (pos 0) +ℤ get_or o i (pos 0))
+  plus_fits i = by_32 (within_le (omega (arith, a.most)) (both i))
 
-  e_fits : (i : ℕ) → SFits w32 (get_or e i (pos 0))
-  e_fits i = fits (within_le (omega arith) (a.even_small.at i))
-
-  o_fits : (i : ℕ) → SFits w32 (get_or o i (pos 0))
-  o_fits i = fits (within_le (omega arith) (a.odd_small.at i))
-
-  plus_fits : (i : ℕ) → SFits w32 (to_z w32 (of_z w32 (get_or e i (pos 0))) +ℤ to_z w32 (of_z w32 (get_or o i (pos 0))))
-  plus_fits i = simp (to_z-of_z, e_fits i, o_fits i) (fits (both i))
-
-  minus_fits : (i : ℕ) → SFits w32 (to_z w32 (of_z w32 (get_or e i (pos 0))) -ℤ to_z w32 (of_z w32 (get_or o i (pos 0))))
-  minus_fits i = simp (to_z-of_z, e_fits i, o_fits i) (fits (less i))
-
-  -- the machine's sum and difference are the sum and the difference
-  plus_is : (i : ℕ) → plus32 (get_or e i (pos 0)) (get_or o i (pos 0)) ≡ get_or e i (pos 0) +ℤ get_or o i (pos 0)
-  plus_is i = to_z-of_z (plus_fits i) ∙ ap₂ ◌+ℤ◌ (to_z-of_z (e_fits i)) (to_z-of_z (o_fits i))
-
-  minus_is : (i : ℕ) → minus32 (get_or e i (pos 0)) (get_or o i (pos 0)) ≡ get_or e i (pos 0) -ℤ get_or o i (pos 0)
-  minus_is i = to_z-of_z (minus_fits i) ∙ ap₂ ◌-ℤ◌ (to_z-of_z (e_fits i)) (to_z-of_z (o_fits i))
+  pub minus_fits : (i : ℕ) → SFits w32 (get_or e i (pos 0) -ℤ get_or o i (pos 0))
+  minus_fits i = by_32 (within_le (omega (arith, a.most)) (less i))
 
 -- ---- the loop that folds: the first k sums, and as many differences
 pub record FoldedTo (h : ℕ) (e o : List ℤ) (k : ℕ) (z : List ℤ) : Type 0 where
-  pub most : k ≤ h
   pub long : length z ≡ 2 * h
   pub low : (m : ℕ) → m < k → get_or z m (pos 0) ≡ get_or e m (pos 0) +ℤ get_or o m (pos 0)
   pub high : (m : ℕ) → m < k → get_or z (2 * h - 1 - m) (pos 0) ≡ get_or e m (pos 0) -ℤ get_or o m (pos 0)
-  pub small : Small (2 * h * value_most) z
+  pub small : Small (2 * h * value_most + round_most) z
 
 small_set : {b : ℕ} {z : List ℤ} (i : ℕ) {v : ℤ} → i < length z → Small b z → Within b v → Small b (set z i v)
 small_set {z = z} i {v} l p w =
@@ -85,99 +63,108 @@ small_set {z = z} i {v} l p w =
           ];
     }
 
-pub folded_next : {h n : ℕ} {e o z : List ℤ} {k : ℕ} → FoldNeeds h n e o → FoldedTo h e o k z → k < h
-    → FoldedTo h e o (k + 1) (set (set z k (plus32 (get_or e k (pos 0)) (get_or o k (pos 0)))) (n - 1 - k) (minus32 (get_or e k (pos 0)) (get_or o k (pos 0))))
-folded_next {h} {n} {e} {o} {z} {k} a f l =
+pub folded_none : {h n : ℕ} {e o z : List ℤ} → FoldNeeds h n e o → length z ≡ n → ((i : ℕ) → get_or z i (pos 0) ≡ pos 0) → FoldedTo h e o 0 z
+folded_none a l p =
+    record {
+      long = l ∙ a.twice;
+      low = λ m b. absurd (not-suc-le-zero b);
+      high = λ m b. absurd (not-suc-le-zero b);
+      small = record { at = λ i. within_eq (p i) (within_pos (omega arith)) };
+    }
+
+pub folded_next : {h n : ℕ} {e o z : List ℤ} {k : ℕ} {v w : ℤ} → FoldNeeds h n e o → FoldedTo h e o k z → k < h
+    → v ≡ get_or e k (pos 0) +ℤ get_or o k (pos 0) → w ≡ get_or e k (pos 0) -ℤ get_or o k (pos 0)
+    → FoldedTo h e o (k + 1) (set (set z k v) (n - 1 - k) w)
+folded_next {h} {n} {e} {o} {z} {k} {v} {w} a f l v_is w_is =
     rw a.twice
     record {
-      most = omega arith;
       long = length-set y (2 * h - 1 - k) w ∙ long;
       low = λ m b.
           get_or-set_other y (2 * h - 1 - k) m w (pos 0) (λ x. let c : ⊥ = omega arith in c)
           ∙ elim (ℕ_discrete m k) [
-            | yes x ↦ rw x (get_or-set_same z k v (pos 0) (omega (arith, f.long)) ∙ plus_is a k)
+            | yes x ↦ rw x (get_or-set_same z k v (pos 0) (omega (arith, f.long)) ∙ v_is)
             | no d ↦ get_or-set_other z k m v (pos 0) d ∙ f.low m (omega arith)
           ];
       high = λ m b.
           elim (ℕ_discrete m k) [
-            | yes x ↦ rw x (get_or-set_same y (2 * h - 1 - k) w (pos 0) (omega (arith, long)) ∙ minus_is a k)
-            | no d ↦ get_or-set_other y (2 * h - 1 - k) (2 * h - 1 - m) w (pos 0) (λ x. d (omega (arith, f.most)))
+            | yes x ↦ rw x (get_or-set_same y (2 * h - 1 - k) w (pos 0) (omega (arith, long)) ∙ w_is)
+            | no d ↦ get_or-set_other y (2 * h - 1 - k) (2 * h - 1 - m) w (pos 0) (λ x. d (omega arith))
                 ∙ get_or-set_other z k (2 * h - 1 - m) v (pos 0) (λ x. let c : ⊥ = omega arith in c)
                 ∙ f.high m (omega arith)
           ];
       small = small_set (2 * h - 1 - k) (omega (arith, long))
-          (small_set k (omega (arith, f.long)) f.small (within_eq (plus_is a k) (both a k)))
-          (within_eq (minus_is a k) (less a k));
+          (small_set k (omega (arith, f.long)) f.small (within_eq v_is (both a k)))
+          (within_eq w_is (less a k));
     }
   where
-    v : ℤ
-    v = plus32 (get_or e k (pos 0)) (get_or o k (pos 0))
-
-    w : ℤ
-    w = minus32 (get_or e k (pos 0)) (get_or o k (pos 0))
-
     y : List ℤ
     y = set z k v
 
     long : length (set z k v) ≡ 2 * h
     long = length-set z k v ∙ f.long
 
+pub parts_fit : {h m st su : ℕ} {xs ys : List ℤ} {r : ℤ} {e o : List ℤ} → m ≡ 2 * h → h ≤ 16 → Twice h st xs r e → TwiceOdd h su ys o → FoldNeeds h m e o
+parts_fit d l p q = record { twice = d; most = l; even_small = p.small; odd_small = q.small }
+
 -- ---- the one law
-twice_less : (a b : ℤ) → pos 2 *ℤ a -ℤ pos 2 *ℤ b ≡ pos 2 *ℤ (a -ℤ b)
-twice_less a b = rw (← split a, ← split b) (simp ring (diff_ext _ _ _ _ (omega arith)))
+twice_sum : (a b r : ℤ) → pos 2 *ℤ a +ℤ r +ℤ pos 2 *ℤ b ≡ pos 2 *ℤ (a +ℤ b) +ℤ r
+twice_sum a b r = rw (← split a, ← split b, ← split r) (simp ring (diff_ext _ _ _ _ (omega arith)))
+
+twice_difference : (a b r : ℤ) → pos 2 *ℤ a +ℤ r -ℤ pos 2 *ℤ b ≡ pos 2 *ℤ (a -ℤ b) +ℤ r
+twice_difference a b r = rw (← split a, ← split b, ← split r) (simp ring (diff_ext _ _ _ _ (omega arith)))
 
 module _ (h st : ℕ) (steps : 2 * (32 / (2 * h)) ≡ 32 / h) (mirrored : T (mirrors h)) where
   abbrev even_part : List ℤ → ℕ → ℤ
   even_part xs m = transform_line (trans_matrix h) h (λ k. get_or xs (st * (2 * k)) (pos 0)) m
 
-  even_is : {xs e : List ℤ} → Twice h (2 * st) xs e → (m : ℕ) → m < h → get_or e m (pos 0) ≡ pos 2 *ℤ even_part xs m
-  even_is {xs} p m l =
+  even_is : {xs : List ℤ} {r : ℤ} {e : List ℤ} → Twice h (2 * st) xs r e → (m : ℕ) → m < h → get_or e m (pos 0) ≡ pos 2 *ℤ even_part xs m +ℤ r
+  even_is {xs} {r} p m l =
       p.at m l
-      ∙ ap (λ (x : ℤ). pos 2 *ℤ x)
+      ∙ ap (λ (x : ℤ). pos 2 *ℤ x +ℤ r)
       (transform_line_cong (trans_matrix h) h (λ k. get_or xs (2 * st * k) (pos 0)) (λ k. get_or xs (st * (2 * k)) (pos 0)) m
       (λ k a. ap (λ (i : ℕ). get_or xs i (pos 0)) (omega arith)))
 
-  pub fold : {xs e o z : List ℤ} → Twice h (2 * st) xs e → TwiceOdd h st xs o → Folded h e o z → Twice (2 * h) st xs z
+  pub fold : {xs : List ℤ} {r : ℤ} {e o z : List ℤ} → Twice h (2 * st) xs r e → TwiceOdd h st xs o → Folded h e o z → Twice (2 * h) st xs r z
   unfolding odd_sum
-  fold {xs} {e} {o} {z} p q f =
+  fold {xs} {r} {e} {o} {z} p q f =
       record {
         at = λ m l.
             elim (dec_lt m h) [
               | yes a ↦ low m a
-              | no d ↦ subst (λ (i : ℕ). get_or z i (pos 0) ≡ pos 2 *ℤ transform_line (trans_matrix (2 * h)) (2 * h) (λ k. get_or xs (st * k) (pos 0)) i)
+              | no d ↦ subst (λ (i : ℕ). get_or z i (pos 0) ≡ pos 2 *ℤ transform_line (trans_matrix (2 * h)) (2 * h) (λ k. get_or xs (st * k) (pos 0)) i +ℤ r)
                   (let b : 2 * h - 1 - (2 * h - 1 - m) ≡ m = omega arith in b) (high (2 * h - 1 - m) (omega arith))
             ];
         small = f.small;
       }
     where
-      low : (m : ℕ) → m < h → get_or z m (pos 0) ≡ pos 2 *ℤ transform_line (trans_matrix (2 * h)) (2 * h) (λ k. get_or xs (st * k) (pos 0)) m
+      low : (m : ℕ) → m < h → get_or z m (pos 0) ≡ pos 2 *ℤ transform_line (trans_matrix (2 * h)) (2 * h) (λ k. get_or xs (st * k) (pos 0)) m +ℤ r
       low m l =
           f.low m l
           ∙ ap₂ ◌+ℤ◌ (even_is p m l) (q.at m l)
-          ∙ sym (*ℤ-+ℤ (pos 2) (even_part xs m) (odd_sum h st xs m))
-          ∙ ap (λ (x : ℤ). pos 2 *ℤ x) (sym (line_low h steps (λ k. get_or xs (st * k) (pos 0)) m))
+          ∙ twice_sum (even_part xs m) (odd_sum h st xs m) r
+          ∙ ap (λ (x : ℤ). pos 2 *ℤ x +ℤ r) (sym (line_low h steps (λ k. get_or xs (st * k) (pos 0)) m))
 
-      high : (m : ℕ) → m < h → get_or z (2 * h - 1 - m) (pos 0) ≡ pos 2 *ℤ transform_line (trans_matrix (2 * h)) (2 * h) (λ k. get_or xs (st * k) (pos 0)) (2 * h - 1 - m)
+      high : (m : ℕ) → m < h → get_or z (2 * h - 1 - m) (pos 0) ≡ pos 2 *ℤ transform_line (trans_matrix (2 * h)) (2 * h) (λ k. get_or xs (st * k) (pos 0)) (2 * h - 1 - m) +ℤ r
       high m l =
           f.high m l
           ∙ ap₂ ◌-ℤ◌ (even_is p m l) (q.at m l)
-          ∙ twice_less (even_part xs m) (odd_sum h st xs m)
-          ∙ ap (λ (x : ℤ). pos 2 *ℤ x) (sym (line_high h steps mirrored (λ k. get_or xs (st * k) (pos 0)) m l))
+          ∙ twice_difference (even_part xs m) (odd_sum h st xs m) r
+          ∙ ap (λ (x : ℤ). pos 2 *ℤ x +ℤ r) (sym (line_high h steps mirrored (λ k. get_or xs (st * k) (pos 0)) m l))
 
 -- the same at each size, where the matrix mirrors by computation
-pub fold_2 : {st : ℕ} {xs e o z : List ℤ} → Twice 2 (2 * st) xs e → TwiceOdd 2 st xs o → Folded 2 e o z → Twice 4 st xs z
+pub fold_2 : {st : ℕ} {xs : List ℤ} {r : ℤ} {e o z : List ℤ} → Twice 2 (2 * st) xs r e → TwiceOdd 2 st xs o → Folded 2 e o z → Twice 4 st xs r z
 unfolding mirrors all_below trans_matrix trans_matrix32 folded_entry folded_angle folding folding_values
 fold_2 = fold 2 _ refl tt
 
-pub fold_4 : {st : ℕ} {xs e o z : List ℤ} → Twice 4 (2 * st) xs e → TwiceOdd 4 st xs o → Folded 4 e o z → Twice 8 st xs z
+pub fold_4 : {st : ℕ} {xs : List ℤ} {r : ℤ} {e o z : List ℤ} → Twice 4 (2 * st) xs r e → TwiceOdd 4 st xs o → Folded 4 e o z → Twice 8 st xs r z
 unfolding mirrors all_below trans_matrix trans_matrix32 folded_entry folded_angle folding folding_values
 fold_4 = fold 4 _ refl tt
 
-pub fold_8 : {st : ℕ} {xs e o z : List ℤ} → Twice 8 (2 * st) xs e → TwiceOdd 8 st xs o → Folded 8 e o z → Twice 16 st xs z
+pub fold_8 : {st : ℕ} {xs : List ℤ} {r : ℤ} {e o z : List ℤ} → Twice 8 (2 * st) xs r e → TwiceOdd 8 st xs o → Folded 8 e o z → Twice 16 st xs r z
 unfolding mirrors all_below trans_matrix trans_matrix32 folded_entry folded_angle folding folding_values
 fold_8 = fold 8 _ refl tt
 
-pub fold_16 : {xs e o z : List ℤ} → Twice 16 2 xs e → TwiceOdd 16 1 xs o → Folded 16 e o z → Twice 32 1 xs z
+pub fold_16 : {xs : List ℤ} {r : ℤ} {e o z : List ℤ} → Twice 16 2 xs r e → TwiceOdd 16 1 xs o → Folded 16 e o z → Twice 32 1 xs r z
 unfolding mirrors all_below trans_matrix trans_matrix32 folded_entry folded_angle folding folding_values
 fold_16 = fold 16 1 refl tt
 
@@ -200,19 +187,16 @@ pub record OddOut (h st : ℕ) (xs : List ℤ) (m : ℕ) (r : ℤ) : Type 0 wher
   pub small : Within (h * value_most) r
 
 -- the literal column t is the rule's, by computation
-pub dot_out : (h st : ℕ) {xs t : List ℤ} (m : ℕ) {r : ℤ} → t ≡ odd_column h m → T (ltb (h * value_most) (2 ^ 31))
-    → (r ≡ dot_sum h t st xs) × Within (h * value_most) r → OddOut h st xs m (to_z w32 (of_z w32 r))
+pub dot_out : (h st : ℕ) {xs t : List ℤ} (m : ℕ) {r : ℤ} → t ≡ odd_column h m → (r ≡ dot_sum h t st xs) × Within (h * value_most) r → OddOut h st xs m r
 unfolding dot_sum odd_sum odd_column
-dot_out h st {xs} {t} m {r} e f (d, w) =
-    let trip : to_z w32 (of_z w32 r) ≡ r = to_z-of_z {w = w32} (within_fits f w) in
+dot_out h st {xs} {t} m {r} e (d, w) =
     record {
-      is = trip
-          ∙ d
+      is = d
           ∙ sum_cong h (λ k. get_or t k (pos 0) *ℤ get_or xs (st * (2 * k + 1)) (pos 0)) (λ k. pos 2 *ℤ (trans_matrix (2 * h) (2 * k + 1) m *ℤ get_or xs (st * (2 * k + 1)) (pos 0)))
           (λ k l. ap (λ (z : ℤ). z *ℤ get_or xs (st * (2 * k + 1)) (pos 0)) (ap (λ (c : List ℤ). get_or c k (pos 0)) e ∙ tabulate-get_or h (λ k. pos 2 *ℤ trans_matrix (2 * h) (2 * k + 1) m) k (pos 0) l)
           ∙ *ℤ_assoc (pos 2) (trans_matrix (2 * h) (2 * k + 1) m) (get_or xs (st * (2 * k + 1)) (pos 0)))
           ∙ sum_scale (pos 2) h (λ k. trans_matrix (2 * h) (2 * k + 1) m *ℤ get_or xs (st * (2 * k + 1)) (pos 0));
-      small = within_eq trip w;
+      small = w;
     }
 
 pub odds : (h st : ℕ) {xs z : List ℤ} → length z ≡ h → Each (OddOut h st xs) 0 z → TwiceOdd h st xs z
@@ -231,47 +215,33 @@ odds h st {xs} {z} e p =
     out : (m : ℕ) → m < h → OddOut h st xs m (get_or z m (pos 0))
     out m l = subst (λ (j : ℕ). OddOut h st xs j (get_or z m (pos 0))) (zero-add m) (each_at p m (omega arith))
 
--- ---- one call of `pair`, as a caller reads it
-pub entry_fits : {t : List ℤ} → Small 180 t → (i : ℕ) → SFits w16 (get_or t i (pos 0))
-entry_fits p i = within_fits tt (p.at i)
-
-pub pair_of : {u x v y a b r : ℤ} → SFits w16 u → SFits w16 x → x ≡ a → SFits w16 v → SFits w16 y → y ≡ b
-    → r ≡ to_z w16 (of_z w16 u) *ℤ to_z w16 (of_z w16 x) +ℤ to_z w16 (of_z w16 v) *ℤ to_z w16 (of_z w16 y) → r ≡ u *ℤ a +ℤ v *ℤ b
-pair_of f g c h k d e = e ∙ ap₂ ◌+ℤ◌ (ap₂ ◌*ℤ◌ (to_z-of_z f) (to_z-of_z g ∙ c)) (ap₂ ◌*ℤ◌ (to_z-of_z h) (to_z-of_z k ∙ d))
-
 -- ---- the two-point line, where all starts
-module _ (st : ℕ) {xs : List ℤ} {a b r s : ℤ} where
-  pub line_two : SFits w16 a → a ≡ get_or xs 0 (pos 0) → SFits w16 b → b ≡ get_or xs st (pos 0)
-      → (r ≡ pos 128 *ℤ to_z w16 (of_z w16 a) +ℤ pos 128 *ℤ to_z w16 (of_z w16 b)) × Within (2 * value_most) r
-      → (s ≡ pos 128 *ℤ to_z w16 (of_z w16 a) +ℤ negsuc 127 *ℤ to_z w16 (of_z w16 b)) × Within (2 * value_most) s
-      → Twice 2 st xs (to_z w32 (of_z w32 r) ∷ to_z w32 (of_z w32 s) ∷ [])
+module _ (st : ℕ) {xs : List ℤ} {a b r u v y z : ℤ} where
+  pub line_two : a ≡ get_or xs 0 (pos 0) → b ≡ get_or xs st (pos 0) → Within round_most r
+      → (u ≡ pos 128 *ℤ a +ℤ pos 128 *ℤ b) × Within (2 * value_most) u
+      → (v ≡ pos 128 *ℤ a +ℤ negsuc 127 *ℤ b) × Within (2 * value_most) v
+      → y ≡ u +ℤ r → z ≡ v +ℤ r → Twice 2 st xs r (y ∷ z ∷ [])
   unfolding transform_line sum trans_matrix trans_matrix32 folded_entry folded_angle folding folding_values
-  line_two g c k d e f = record { at = at; small = record { at = small } }
+  line_two c d w e f g k = record { at = at; small = record { at = small } }
     where
-      trip_r : to_z w32 (of_z w32 r) ≡ r
-      trip_r = to_z-of_z {w = w32} (within_fits tt e.1)
+      first : a ≡ get_or xs (st * 0) (pos 0)
+      first = c ∙ ap (λ (i : ℕ). get_or xs i (pos 0)) (let q : 0 ≡ st * 0 = omega arith in q)
 
-      trip_s : to_z w32 (of_z w32 s) ≡ s
-      trip_s = to_z-of_z {w = w32} (within_fits tt f.1)
+      second : b ≡ get_or xs (st * 1) (pos 0)
+      second = d ∙ ap (λ (i : ℕ). get_or xs i (pos 0)) (let q : st ≡ st * 1 = omega arith in q)
 
-      first : to_z w16 (of_z w16 a) ≡ get_or xs (st * 0) (pos 0)
-      first = to_z-of_z g ∙ c ∙ ap (λ (i : ℕ). get_or xs i (pos 0)) (let u : 0 ≡ st * 0 = omega arith in u)
+      plus : (p q : ℤ) → pos 128 *ℤ p +ℤ pos 128 *ℤ q ≡ pos 2 *ℤ (pos 0 +ℤ pos 64 *ℤ p +ℤ pos 64 *ℤ q)
+      plus p q = rw (← split p, ← split q) (simp ring (diff_ext _ _ _ _ (omega arith)))
 
-      second : to_z w16 (of_z w16 b) ≡ get_or xs (st * 1) (pos 0)
-      second = to_z-of_z k ∙ d ∙ ap (λ (i : ℕ). get_or xs i (pos 0)) (let u : st ≡ st * 1 = omega arith in u)
+      minus : (p q : ℤ) → pos 128 *ℤ p +ℤ negsuc 127 *ℤ q ≡ pos 2 *ℤ (pos 0 +ℤ pos 64 *ℤ p +ℤ negsuc 63 *ℤ q)
+      minus p q = rw (← split p, ← split q) (simp ring (diff_ext _ _ _ _ (omega arith)))
 
-      plus : (x y : ℤ) → pos 128 *ℤ x +ℤ pos 128 *ℤ y ≡ pos 2 *ℤ (pos 0 +ℤ pos 64 *ℤ x +ℤ pos 64 *ℤ y)
-      plus x y = rw (← split x, ← split y) (simp ring (diff_ext _ _ _ _ (omega arith)))
-
-      minus : (x y : ℤ) → pos 128 *ℤ x +ℤ negsuc 127 *ℤ y ≡ pos 2 *ℤ (pos 0 +ℤ pos 64 *ℤ x +ℤ negsuc 63 *ℤ y)
-      minus x y = rw (← split x, ← split y) (simp ring (diff_ext _ _ _ _ (omega arith)))
-
-      at : (m : ℕ) → m < 2 → get_or (to_z w32 (of_z w32 r) ∷ to_z w32 (of_z w32 s) ∷ []) m (pos 0) ≡ pos 2 *ℤ transform_line (trans_matrix 2) 2 (λ k. get_or xs (st * k) (pos 0)) m
-      at zero l = trip_r ∙ e.0 ∙ ap₂ (λ (x y : ℤ). pos 128 *ℤ x +ℤ pos 128 *ℤ y) first second ∙ plus (get_or xs (st * 0) (pos 0)) (get_or xs (st * 1) (pos 0))
-      at (suc zero) l = trip_s ∙ f.0 ∙ ap₂ (λ (x y : ℤ). pos 128 *ℤ x +ℤ negsuc 127 *ℤ y) first second ∙ minus (get_or xs (st * 0) (pos 0)) (get_or xs (st * 1) (pos 0))
+      at : (m : ℕ) → m < 2 → get_or (y ∷ z ∷ []) m (pos 0) ≡ pos 2 *ℤ transform_line (trans_matrix 2) 2 (λ k. get_or xs (st * k) (pos 0)) m +ℤ r
+      at zero l = g ∙ ap (λ (x : ℤ). x +ℤ r) (e.0 ∙ ap₂ (λ (p q : ℤ). pos 128 *ℤ p +ℤ pos 128 *ℤ q) first second ∙ plus (get_or xs (st * 0) (pos 0)) (get_or xs (st * 1) (pos 0)))
+      at (suc zero) l = k ∙ ap (λ (x : ℤ). x +ℤ r) (f.0 ∙ ap₂ (λ (p q : ℤ). pos 128 *ℤ p +ℤ negsuc 127 *ℤ q) first second ∙ minus (get_or xs (st * 0) (pos 0)) (get_or xs (st * 1) (pos 0)))
       at (suc (suc m)) l = absurd (let b : ⊥ = omega arith in b)
 
-      small : (i : ℕ) → Within (2 * value_most) (get_or (to_z w32 (of_z w32 r) ∷ to_z w32 (of_z w32 s) ∷ []) i (pos 0))
-      small zero = within_eq trip_r e.1
-      small (suc zero) = within_eq trip_s f.1
+      small : (i : ℕ) → Within (2 * value_most + round_most) (get_or (y ∷ z ∷ []) i (pos 0))
+      small zero = within_eq g (within_add e.1 w)
+      small (suc zero) = within_eq k (within_add f.1 w)
       small (suc (suc i)) = within_pos (omega arith)

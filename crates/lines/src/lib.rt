@@ -1,39 +1,36 @@
-// Lines of 2 to 32 points by even and odd parts, at twice their value, on 16-bit data. x holds the first values of a line, and those past its
-// end are zero: all of a line, or its first part (half of 8 points, a quarter of 16 and 32). A line of n points reads every st-th value.
+// Lines of 2 to 32 points by even and odd parts, at twice their value, on 16-bit data, four columns at a time. x holds the first values of four
+// lines, and those past its end are zero: all of a line, or its first part (half of 8 points, a quarter of 16 and 32). A line of n points reads every
+// st-th value. r is added to each output, since a line's even part is the one place where it is added once for two outputs.
 #![tactic(auto)]
 
 ghost use Rattle.std.specs.Prelude.{◌≡◌, ℕ, ◌*◌, ◌/◌, ◌<◌, ◌≤◌, pos, ◌+ℤ◌, ◌*ℤ◌, length, get_or};
 ghost use Rattle.integers.specs.Within.{Within};
-ghost use Rattle.lines.specs.Fold.{value_most, dot_sum, Small, DotNeeds, Paired, FoldNeeds, Folded, Twice, TwiceOdd};
+ghost use Rattle.vectors.specs.Lanes.{lane, column};
+ghost use Rattle.lines.specs.Fold.{value_most, round_most, dot_sum, Small, DotNeeds, Paired, FoldNeeds, Folded, Twice, TwiceOdd};
 
-// Value i; past the end, zero.
-fn value(x: &[i16], i: usize) -> i16
-    ensures { result ≡ get_or x.now i (pos 0) }
-{
-    x.get(i).copied().unwrap_or(0)
-}
+use vectors::{Sums, Values, products};
 
-// Two products.
-fn pair(u: i16, x: i16, v: i16, y: i16) -> i32
-    requires { Within 180 u × Within 180 v }
-    ensures { (result ≡ u *ℤ x +ℤ v *ℤ y) × Within (2 * value_most) result }
+// Value i of each line; past the end, zero.
+#[inline(always)]
+fn value(x: &[Values], i: usize) -> Values
+    ensures { (j : ℕ) → lane j result.v ≡ get_or (column (λ q. q.v) j x.now) i (pos 0) }
 {
-    (u as i32) * (x as i32) + (v as i32) * (y as i32)
+    x.get(i).copied().unwrap_or(Values::zero())
 }
 
 // The products of the odd values of x, st apart, with the entries t, two and two together, in the first half of what is handed back: of these the
 // compiler makes its 16-bit multiply-add.
-// Kept: turns by what x has. Of a count that is known before the line is in its tile the compiler makes one chain of all products, with two
+// Kept: turns by what x has. Of a count that is known before the line is in its stage the compiler makes one chain of all products, with two
 // multiply-adds for most pairs, and a dense block of 32 points takes a third longer; a `for` over a count by (x.len() + 3 * st) / (4 * st), tried,
 // is as fast as this and says its end less plainly.
-fn pairs<const H: usize>(x: &[i16], st: usize, t: &[i16; H]) -> [i32; H]
+fn pairs<const H: usize>(x: &[Values], st: usize, t: &[i16; H]) -> [Sums; H]
     requires { DotNeeds H st t.now (length x.now) }
-    ensures { (k : ℕ) → k < H / 2 → Paired t.now st x.now k (get_or result k (pos 0)) }
+    ensures { (j k : ℕ) → k < H / 2 → Paired t.now st (column (λ q. q.v) j x.now) k (get_or (column (λ q. q.v) j result) k (pos 0)) }
 {
-    let mut s = [0i32; H];
+    let mut s = [Sums::zero(); H];
     let mut k = 0;
     while st * (4 * k + 1) < x.len() {
-        s[k] = pair(
+        s[k] = products(
             t[2 * k],
             value(x, st * (4 * k + 1)),
             t[2 * k + 1],
@@ -45,27 +42,27 @@ fn pairs<const H: usize>(x: &[i16], st: usize, t: &[i16; H]) -> [i32; H]
 }
 
 // The odd values of x, st apart, by the entries t.
-fn dot<const H: usize>(x: &[i16], st: usize, t: &[i16; H]) -> i32
+fn dot<const H: usize>(x: &[Values], st: usize, t: &[i16; H]) -> Sums
     requires { DotNeeds H st t.now (length x.now) }
-    ensures { (result ≡ dot_sum H t.now st x.now) × Within (H * value_most) result }
+    ensures { (j : ℕ) → (lane j result.v ≡ dot_sum H t.now st (column (λ q. q.v) j x.now)) × Within (H * value_most) (lane j result.v) }
 {
     let p = pairs(x, st, t);
-    let mut s: i32 = 0;
+    let mut s = Sums::zero();
     for k in 0..H / 2 {
-        s += p[k];
+        s = s.plus(p[k]);
     }
     s
 }
 
-// The line of M points from twice its even and its odd part: sums, and from the end on differences.
-fn fold<const H: usize, const M: usize>(e: &[i32; H], o: &[i32; H]) -> [i32; M]
-    requires { FoldNeeds H M e.now o.now }
-    ensures { Folded H e.now o.now result }
+// The lines of M points from twice their even and their odd parts: sums, and from the end on differences.
+fn fold<const H: usize, const M: usize>(e: &[Sums; H], o: &[Sums; H]) -> [Sums; M]
+    requires { (j : ℕ) → FoldNeeds H M (column (λ q. q.v) j e.now) (column (λ q. q.v) j o.now) }
+    ensures { (j : ℕ) → Folded H (column (λ q. q.v) j e.now) (column (λ q. q.v) j o.now) (column (λ q. q.v) j result) }
 {
-    let mut z = [0i32; M];
+    let mut z = [Sums::zero(); M];
     for m in 0..H {
-        z[m] = e[m] + o[m];
-        z[M - 1 - m] = e[m] - o[m];
+        z[m] = e[m].plus(o[m]);
+        z[M - 1 - m] = e[m].minus(o[m]);
     }
     z
 }
@@ -73,36 +70,37 @@ fn fold<const H: usize, const M: usize>(e: &[i32; H], o: &[i32; H]) -> [i32; M]
 // Kept: a function for each size, and the bound on st of each. A line of n points calls that of n / 2, which Rust takes for no const argument,
 // and literal entries save lending a table through every line, with three facts for each read (DECISIONS 71).
 #[inline(always)]
-fn line_2(x: &[i16], st: usize) -> [i32; 2]
-    ensures { Twice 2 st x.now result }
+fn line_2(x: &[Values], st: usize, r: Sums) -> [Sums; 2]
+    requires { (j : ℕ) → Within round_most (lane j r.v) }
+    ensures { (j : ℕ) → Twice 2 st (column (λ q. q.v) j x.now) (lane j r.v) (column (λ q. q.v) j result) }
 {
     let a = value(x, 0);
     let b = value(x, st);
-    [pair(128, a, 128, b), pair(128, a, -128, b)]
+    [products(128, a, 128, b).plus(r), products(128, a, -128, b).plus(r)]
 }
 
 #[inline(always)]
-fn odd_4(x: &[i16], st: usize) -> [i32; 2]
+fn odd_4(x: &[Values], st: usize) -> [Sums; 2]
     requires { (1 ≤ st) × (4 * st ≤ 32) × (length x.now ≤ 4 * st) }
-    ensures { TwiceOdd 2 st x.now result }
+    ensures { (j : ℕ) → TwiceOdd 2 st (column (λ q. q.v) j x.now) (column (λ q. q.v) j result) }
 {
     [dot(x, st, &[166, 72]), dot(x, st, &[72, -166])]
 }
 
 #[inline(always)]
-fn line_4(x: &[i16], st: usize) -> [i32; 4]
-    requires { (1 ≤ st) × (4 * st ≤ 32) × (length x.now ≤ 4 * st) }
-    ensures { Twice 4 st x.now result }
+fn line_4(x: &[Values], st: usize, r: Sums) -> [Sums; 4]
+    requires { (1 ≤ st) × (4 * st ≤ 32) × (length x.now ≤ 4 * st) × ((j : ℕ) → Within round_most (lane j r.v)) }
+    ensures { (j : ℕ) → Twice 4 st (column (λ q. q.v) j x.now) (lane j r.v) (column (λ q. q.v) j result) }
 {
-    let e = line_2(x, 2 * st);
+    let e = line_2(x, 2 * st, r);
     let o = odd_4(x, st);
     fold(&e, &o)
 }
 
 #[inline(always)]
-fn odd_8(x: &[i16], st: usize) -> [i32; 4]
+fn odd_8(x: &[Values], st: usize) -> [Sums; 4]
     requires { (1 ≤ st) × (8 * st ≤ 32) × (length x.now ≤ 8 * st) }
-    ensures { TwiceOdd 4 st x.now result }
+    ensures { (j : ℕ) → TwiceOdd 4 st (column (λ q. q.v) j x.now) (column (λ q. q.v) j result) }
 {
     [
         dot(x, st, &[178, 150, 100, 36]),
@@ -113,19 +111,19 @@ fn odd_8(x: &[i16], st: usize) -> [i32; 4]
 }
 
 #[inline(always)]
-pub fn line_8(x: &[i16], st: usize) -> [i32; 8]
-    requires { (1 ≤ st) × (8 * st ≤ 32) × (length x.now ≤ 8 * st) }
-    ensures { Twice 8 st x.now result }
+pub fn line_8(x: &[Values], st: usize, r: Sums) -> [Sums; 8]
+    requires { (1 ≤ st) × (8 * st ≤ 32) × (length x.now ≤ 8 * st) × ((j : ℕ) → Within round_most (lane j r.v)) }
+    ensures { (j : ℕ) → Twice 8 st (column (λ q. q.v) j x.now) (lane j r.v) (column (λ q. q.v) j result) }
 {
-    let e = line_4(x, 2 * st);
+    let e = line_4(x, 2 * st, r);
     let o = odd_8(x, st);
     fold(&e, &o)
 }
 
 #[inline(always)]
-fn odd_16(x: &[i16], st: usize) -> [i32; 8]
+fn odd_16(x: &[Values], st: usize) -> [Sums; 8]
     requires { (1 ≤ st) × (16 * st ≤ 32) × (length x.now ≤ 16 * st) }
-    ensures { TwiceOdd 8 st x.now result }
+    ensures { (j : ℕ) → TwiceOdd 8 st (column (λ q. q.v) j x.now) (column (λ q. q.v) j result) }
 {
     [
         dot(x, st, &[180, 174, 160, 140, 114, 86, 50, 18]),
@@ -140,20 +138,20 @@ fn odd_16(x: &[i16], st: usize) -> [i32; 8]
 }
 
 #[inline(always)]
-pub fn line_16(x: &[i16], st: usize) -> [i32; 16]
-    requires { (1 ≤ st) × (16 * st ≤ 32) × (length x.now ≤ 16 * st) }
-    ensures { Twice 16 st x.now result }
+pub fn line_16(x: &[Values], st: usize, r: Sums) -> [Sums; 16]
+    requires { (1 ≤ st) × (16 * st ≤ 32) × (length x.now ≤ 16 * st) × ((j : ℕ) → Within round_most (lane j r.v)) }
+    ensures { (j : ℕ) → Twice 16 st (column (λ q. q.v) j x.now) (lane j r.v) (column (λ q. q.v) j result) }
 {
-    let e = line_8(x, 2 * st);
+    let e = line_8(x, 2 * st, r);
     let o = odd_16(x, st);
     fold(&e, &o)
 }
 
 #[rattlefmt::skip]
 #[inline(always)]
-fn odd_32(x: &[i16]) -> [i32; 16]
+fn odd_32(x: &[Values]) -> [Sums; 16]
     requires { length x.now ≤ 32 }
-    ensures { TwiceOdd 16 1 x.now result }
+    ensures { (j : ℕ) → TwiceOdd 16 1 (column (λ q. q.v) j x.now) (column (λ q. q.v) j result) }
 {
     [
         dot(x, 1, &[180, 180, 176, 170, 164, 156, 146, 134, 122, 108, 92, 76, 62, 44, 26, 8]),
@@ -176,11 +174,11 @@ fn odd_32(x: &[i16]) -> [i32; 16]
 }
 
 #[inline(always)]
-pub fn line_32(x: &[i16]) -> [i32; 32]
-    requires { length x.now ≤ 32 }
-    ensures { Twice 32 1 x.now result }
+pub fn line_32(x: &[Values], r: Sums) -> [Sums; 32]
+    requires { length x.now ≤ 32 × ((j : ℕ) → Within round_most (lane j r.v)) }
+    ensures { (j : ℕ) → Twice 32 1 (column (λ q. q.v) j x.now) (lane j r.v) (column (λ q. q.v) j result) }
 {
-    let e = line_16(x, 2);
+    let e = line_16(x, 2, r);
     let o = odd_32(x);
     fold(&e, &o)
 }

@@ -4,27 +4,30 @@
 --   head_values        they read as the column
 --   line_value-intermediate   what stage one writes is the intermediate of the definitions
 --   line_row           a line over a column, rounded, is a row of the stage
---   put_more           one part of a line more
---   lines_next         one line of a tile more
+--   block_more, block_if   one row of a block more, or where it is not one of them none
+--   block_wide         a block beside a block
+--   filled_block       a block of whole rows below those that are filled
 use mathlib.Core.Path.{◌≡◌, refl, sym, ap, ap₂, ◌∙◌, subst}
 use mathlib.Core.Bool.{cond}
-use mathlib.Core.List.{List, map}
-use Prim.Native.Nat.{ℕ, ◌+◌, ◌*◌, ◌-◌, ◌/◌, ◌%◌, ◌^◌, ◌≤◌, ◌<◌}
+use mathlib.Core.List.{List, [], ◌∷◌, map}
+use Prim.Native.Nat.{ℕ, zero, suc, ◌+◌, ◌*◌, ◌-◌, ◌/◌, ◌^◌, ◌≤◌, ◌<◌}
 use native.Mathlib.Nat.{pow-succ', one-mul, mul-le-mul_right, mul-div-mul_left, div-div-eq-div-mul, not-suc-le-zero}
 use native.Mathlib.Decide.{ℕ_discrete, dec_lt}
 use native.Mathlib.Numerals.{add-one}
 use native.Mathlib.Omega.{arith}
 use lib.IntN.{ℤ, pos, negsuc, ◌+ℤ◌, ◌*ℤ◌}
-use lib.ListN.{get_or, length, set, get_or-eq_default}
+use lib.ListN.{get_or, length, get_or-eq_default}
 use Rattle.std.specs.Cmp.{ranks}
 use Rattle.std.proofs.Common.{Ordering, Less, Equal, Greater}
 use Rattle.std.specs.Ordering.{MatchOrdering, ord_min, nat_cmp, is_lt}
-use Rattle.std.specs.Array.{IsFirstChunk}
-use Rattle.std.specs.Option.{MatchOption}
-use Rattle.std.proofs.Common.{Bor, Option, Some}
-use Rattle.std.proofs.lemmas.List.{map-set, map-id, length-map, take_all}
+use Rattle.std.proofs.lemmas.List.{map-id, get_or-map}
 use lib.Signed.{shr_z}
 use Rattle.integers.specs.Shift.{pow2, shift_right, round_shift}
+use Rattle.integers.specs.Within.{Within}
+use Rattle.integers.proofs.BoundLaws.{within_eq, within_pos, within_fits, within_lit_mul}
+use mir.Syntax.{w32}
+use mir.Val.{to_z, of_z, SFits}
+use mir.Facts.{to_z-of_z}
 use Rattle.integers.proofs.LinearLaws.{parts_ext, parts_mul}
 use Rattle.integers.proofs.OrderLaws.{*ℤ-+ℤ}
 use Rattle.integers.proofs.ListsLaws.{Stored, stored_length, stored_all, overwrite-get_or}
@@ -32,10 +35,13 @@ use Rattle.h265.specs.Matrix.{trans_matrix}
 use Rattle.h265.specs.Transform.{transform_line, block_at, stage_one_sum, stage_one_value, intermediate, stage_two, stage_two_sum}
 use Rattle.h265.specs.Range.{clip_coeff}
 use Rattle.h265.proofs.TransformLaws.{transform_line_cong}
-use Rattle.lines.specs.Fold.{Twice}
+use Rattle.lines.specs.Fold.{round_most, Twice}
 use Rattle.transform_1d.specs.Rows.{Placed, Filled}
-use Rattle.transform_1d.proofs.RowsLaws.{placed_suc, placed_cong, placed_append, placed_all, row_unique, filled-all}
-use Rattle.tiles.specs.Tile.{line_value, Head, Values, Rows, LinePut}
+use Rattle.transform_1d.proofs.RowsLaws.{row_unique, filled-all}
+use Rattle.std.proofs.Math.Nat.{add-mul}
+use Rattle.std.proofs.Common.{mul-le-mul}
+use Rattle.vectors.specs.Lanes.{lane, column, four_of, eight_of}
+use Rattle.tiles.specs.Tile.{line_value, Head, Values, Block}
 
 -- ---- rounding
 shr_twice : (z : ℤ) (m : ℕ) → shr_z (pos 2 *ℤ z) (2 * m) ≡ shr_z z m
@@ -50,19 +56,23 @@ shift_twice x h s =
     ap₂ (λ (z : ℤ) (m : ℕ). shr_z z m) (sym (*ℤ-+ℤ (pos 2) x h)) (ap (λ (i : ℕ). 2 ^ i) (add-one s) ∙ pow-succ' 2 s)
     ∙ shr_twice (x +ℤ h) (2 ^ s)
 
--- ---- columns and rows
--- the first n elements of n
-pub chunk_all : {A : Type 0} {o : Option (Bor (List A))} {y : Bor (List A)} (xs : List A) (n : ℕ)
-    → MatchOption o (length xs < n) (λ y. IsFirstChunk xs y.now n) → o ≡ Some y → length xs ≡ n → y.now ≡ xs
-chunk_all {A} {o} {y} xs n m e l =
-    let c = subst (λ (o : Option (Bor (List A))). MatchOption o (length xs < n) (λ y. IsFirstChunk xs y.now n)) e m in
-    c.same ∙ take_all n xs (omega (arith, l))
+-- twice what is added before a shift, as the machine has it
+pub twice_half : {h : ℤ} → SFits w32 h → Within (2 ^ 27) h → to_z w32 (of_z w32 (pos 2 *ℤ to_z w32 (of_z w32 h))) ≡ pos 2 *ℤ to_z w32 (of_z w32 h)
+twice_half f w = to_z-of_z {w = w32} (simp (to_z-of_z, f) (within_fits tt (within_lit_mul 2 w)))
 
+pub twice_within : {h : ℤ} → SFits w32 h → Within (2 ^ 27) h → Within round_most (to_z w32 (of_z w32 (pos 2 *ℤ to_z w32 (of_z w32 h))))
+twice_within {h} f w = within_eq (twice_half f w ∙ ap (λ (x : ℤ). pos 2 *ℤ x) (to_z-of_z f)) (within_lit_mul 2 w)
+
+-- ---- columns and rows
+pub stored_at : {f : ℕ → ℤ} {r₀ r : List ℤ} {k q : ℕ} → Stored f r₀ k r → k ≡ q → (i : ℕ) → i < q → get_or r i (pos 0) ≡ f i
+stored_at {f} {r₀} {q = q} s e i h = ap (λ (x : List ℤ). get_or x i (pos 0)) (stored_all s e) ∙ overwrite-get_or q f r₀ i (pos 0) h
+
+-- the first values of a column, stored by a loop
 pub head_of : {q : ℕ} (n : ℕ) {xs : List ℤ} {c : ℕ} {r₀ r : List ℤ} {k : ℕ} → Stored (λ i. get_or xs (i * n + c) (pos 0)) r₀ k r → length r₀ ≡ q → k ≡ q → Head q n xs c r
 head_of {q} n {xs} {c} {r₀} {r} s l e =
     record {
       long = stored_length s ∙ l;
-      at = λ k h. ap (λ (x : List ℤ). get_or x k (pos 0)) (stored_all s e) ∙ overwrite-get_or q (λ i. get_or xs (i * n + c) (pos 0)) r₀ k (pos 0) h;
+      at = λ k h. stored_at s e k h;
     }
 
 -- past the values that are there both read as zero
@@ -77,11 +87,11 @@ head_values {q} {n} {xs} {c} {r} e p =
           ];
     }
 
-pub line_row : {n : ℕ} (h : ℤ) (s : ℕ) {xs : List ℤ} {c : ℕ} {r z : List ℤ} {tw : ℤ} → Values n xs c r → Twice n 1 r z → tw ≡ pos 2 *ℤ h
-    → (m : ℕ) → m < n → shift_right (get_or z m (pos 0) +ℤ tw) (s + 1) ≡ line_value n h s xs c m
+pub line_row : {n : ℕ} (h : ℤ) (s : ℕ) {xs : List ℤ} {c : ℕ} {r z : List ℤ} {tw : ℤ} → Values n xs c r → Twice n 1 r tw z → tw ≡ pos 2 *ℤ h
+    → (m : ℕ) → m < n → shift_right (get_or z m (pos 0)) (s + 1) ≡ line_value n h s xs c m
 unfolding line_value block_at
 line_row {n} h s {xs} {c} {r} p q e m l =
-    ap₂ (λ (x y : ℤ). shift_right (x +ℤ y) (s + 1)) (q.at m l) e
+    ap (λ (x : ℤ). shift_right x (s + 1)) (q.at m l ∙ ap (λ (y : ℤ). pos 2 *ℤ transform_line (trans_matrix n) n (λ k. get_or r (1 * k) (pos 0)) m +ℤ y) e)
     ∙ shift_twice (transform_line (trans_matrix n) n (λ k. get_or r (1 * k) (pos 0)) m) h s
     ∙ ap (λ (x : ℤ). shift_right (x +ℤ h) s)
     (transform_line_cong (trans_matrix n) n (λ k. get_or r (1 * k) (pos 0)) (λ k. get_or xs (k * n + c) (pos 0)) m
@@ -100,54 +110,87 @@ pub line_value-intermediate : (n : ℕ) (xs : List ℤ) (c m : ℕ) → clip_coe
 unfolding line_value intermediate stage_one_value stage_one_sum round_shift
 line_value-intermediate n xs c m = refl
 
--- one store more, where the elements stand for numbers
-pub placed_map : {A : Type 0} (f : A → ℤ) {at w : ℕ} {h : ℕ → ℤ} (xs ys : List A) {i : ℕ} {v : A}
-    → Placed at w h (map f xs) (map f ys) → i ≡ at + w → i < length xs → f v ≡ h w → Placed at (w + 1) h (map f xs) (map f (set ys i v))
-placed_map f {at} {w} {h} xs ys {i} {v} p q l e =
-    subst (Placed at (w + 1) h (map f xs)) (sym (map-set f ys i v)) (placed_suc p q (rw (length-map xs f) l) e)
+-- ---- blocks: e values of each of w rows, rows n apart
+pub block_none : {at n e : ℕ} {f : ℕ → ℕ → ℤ} {ys : List ℤ} → Block at n e f 0 ys ys
+block_none = record { long = refl; done = λ j m h. absurd (not-suc-le-zero h); kept = λ i h. refl }
 
--- ---- lines of more points: four at a time, in parts of eight outputs
--- output m of line j of a tile
-abbrev pub part_value : List ℤ → ℕ → ℕ → ℤ
-part_value v j m = get_or v (32 * (m / 8) + 8 * j + m % 8) (pos 0)
+pub block_empty : {at n w : ℕ} {f : ℕ → ℕ → ℤ} {ys : List ℤ} → Block at n 0 f w ys ys
+block_empty = record { long = refl; done = λ j m l h. absurd (not-suc-le-zero h); kept = λ i h. refl }
 
--- one part of a line more in a row
-pub parts_more : (f : ℤ → ℤ) (v : List ℤ) (j t : ℕ) {at : ℕ} {xs ys zs : List ℤ} → Placed at (8 * t) (λ m. f (part_value v j m)) xs ys
-    → Placed (at + 8 * t) 8 (λ i. f (get_or v (32 * t + 8 * j + i) (pos 0))) ys zs → Placed at (8 * (t + 1)) (λ m. f (part_value v j m)) xs zs
-parts_more f v j t {at} {xs} {ys} {zs} p q =
-    placed_all (8 * (t + 1)) (let e : 8 * t + 8 ≡ 8 * (t + 1) = omega arith in e)
-    (placed_append {f = λ m. f (part_value v j m)} p (placed_cong (λ i l. ap₂ (λ (a m : ℕ). f (get_or v (32 * a + 8 * j + m) (pos 0))) (let e : t ≡ (8 * t + i) / 8 = omega arith in e) (let e : i ≡ (8 * t + i) % 8 = omega arith in e)) q))
+pub block_all : {at n e v w : ℕ} {f : ℕ → ℕ → ℤ} {ys zs : List ℤ} → v ≡ w → Block at n e f v ys zs → Block at n e f w ys zs
+block_all {at} {n} {e} {f = f} {ys} {zs} q p = subst (λ (k : ℕ). Block at n e f k ys zs) q p
 
-pub rows_none : {n : ℕ} {f : ℕ → ℕ → ℤ} {b : ℕ} {ys : List ℤ} → Rows n f b 0 ys ys
-rows_none = record { long = refl; done = λ j m h. absurd (not-suc-le-zero h); kept = λ i h. refl }
+pub block_width : {at n d e w : ℕ} {f : ℕ → ℕ → ℤ} {ys zs : List ℤ} → d ≡ e → Block at n d f w ys zs → Block at n e f w ys zs
+block_width {at} {n} {w = w} {f} {ys} {zs} q p = subst (λ (k : ℕ). Block at n k f w ys zs) q p
 
-pub rows_all : {n : ℕ} {f : ℕ → ℕ → ℤ} {b w k : ℕ} {ys zs : List ℤ} → k ≡ w → Rows n f b k ys zs → Rows n f b w ys zs
-rows_all {n} {f} {b} {ys = ys} {zs} e p = subst (λ (i : ℕ). Rows n f b i ys zs) e p
+pub block_cong : {at n e w : ℕ} {f g : ℕ → ℕ → ℤ} {ys zs : List ℤ} → ((j m : ℕ) → j < w → m < e → f j m ≡ g j m) → Block at n e f w ys zs → Block at n e g w ys zs
+block_cong h p = record { long = p.long; done = λ j m a b. p.done j m a b ∙ h j m a b; kept = p.kept }
 
-pub rows_more : {n : ℕ} {f : ℕ → ℕ → ℤ} {b w : ℕ} {xs ys zs : List ℤ} → Rows n f b w xs ys → Placed ((b + w) * n) n (f w) ys zs → Rows n f b (w + 1) xs zs
-rows_more {n} {f} {b} {w} {xs} {ys} {zs} p q =
+pub block_more : {at n e k : ℕ} {f : ℕ → ℕ → ℤ} {xs ys zs : List ℤ} → e ≤ n → Block at n e f k xs ys → Placed (at + k * n) e (f k) ys zs → Block at n e f (k + 1) xs zs
+block_more {at} {n} {e} {k} {f} {xs} {ys} {zs} l p q =
     record {
       long = q.long ∙ p.long;
-      done = λ j m l h.
-          elim (ℕ_discrete j w) [
-            | yes y ↦ rw y (q.done m h)
-            | no d ↦ q.kept ((b + j) * n + m) (λ k a e. d (let g : b + j ≡ b + w = row_unique n (b + j) (b + w) m k h a e in omega arith)) ∙ p.done j m (omega arith) h
+      done = λ j m a b.
+          elim (ℕ_discrete j k) [
+            | yes y ↦ rw y (q.done m b)
+            | no d ↦ q.kept (at + j * n + m) (λ i c g. d (row_unique n j k m i (omega arith) (omega arith) (omega arith))) ∙ p.done j m (omega arith) b
           ];
-      kept = λ i k. q.kept i (λ m l e. k w m (omega arith) l e) ∙ p.kept i (λ j m l h e. k j m (omega arith) h e);
+      kept = λ i h. q.kept i (λ m a b. h k m (omega arith) a b) ∙ p.kept i (λ j m a b c. h j m (omega arith) b c);
     }
 
-pub filled-rows : {n : ℕ} {g f : ℕ → ℕ → ℤ} {b w : ℕ} {xs ys zs : List ℤ} → Filled n n g b xs ys → Rows n f b w ys zs
+-- where row k is not one of w, the list stays
+pub block_if : {at n e w k : ℕ} {f : ℕ → ℕ → ℤ} {xs ys zs : List ℤ} → e ≤ n → Block at n e f (k - (k - w)) xs ys
+    → (k < w → Placed (at + k * n) e (f k) ys zs) × (w ≤ k → zs ≡ ys) → Block at n e f (k + 1 - (k + 1 - w)) xs zs
+block_if {at} {n} {e} {w} {k} {f} {xs} l p q =
+    elim (dec_lt k w) [
+      | yes y ↦ block_all (omega arith) (block_more l (block_all {w = k} (omega arith) p) (q.0 y))
+      | no d ↦ subst (λ (z : List ℤ). Block at n e f (k + 1 - (k + 1 - w)) xs z) (sym (q.1 (omega arith))) (block_all (omega arith) p)
+    ]
+
+-- four rows, of which the first w are stored
+pub block_four : {at n e w : ℕ} {f : ℕ → ℕ → ℤ} {y a b c d : List ℤ} → w ≤ 4 → e ≤ n
+    → (0 < w → Placed at e (f 0) y a) × (w ≤ 0 → a ≡ y)
+    → (1 < w → Placed (at + n) e (f 1) a b) × (w ≤ 1 → b ≡ a)
+    → (2 < w → Placed (at + 2 * n) e (f 2) b c) × (w ≤ 2 → c ≡ b)
+    → (3 < w → Placed (at + 3 * n) e (f 3) c d) × (w ≤ 3 → d ≡ c)
+    → Block at n e f w y d
+block_four {at} {n} {e} {w} {f} {y} {a} {b} l h p q r s =
+    block_all (omega arith) (block_if {k = 3} h (block_if {k = 2} h (block_if {k = 1} h (block_if {k = 0} h (block_all {v = 0} (let z : 0 ≡ 0 - (0 - w) = omega arith in z) block_none)
+    ((λ g. subst (λ (i : ℕ). Placed i e (f 0) y a) (let z : at ≡ at + 0 * n = omega arith in z) (p.0 g)), p.1))
+    ((λ g. subst (λ (i : ℕ). Placed i e (f 1) a b) (let z : at + n ≡ at + 1 * n = omega arith in z) (q.0 g)), q.1)) r) s)
+
+-- a row by another name
+pub by_row : {at e j w : ℕ} {p q ys zs : List ℤ} → p ≡ q → (j < w → Placed at e (λ m. lane m p) ys zs) × (w ≤ j → zs ≡ ys)
+    → (j < w → Placed at e (λ m. lane m q) ys zs) × (w ≤ j → zs ≡ ys)
+by_row {at} {e} {j} {w} {ys = ys} {zs} g h = subst (λ (v : List ℤ). (j < w → Placed at e (λ m. lane m v) ys zs) × (w ≤ j → zs ≡ ys)) g h
+
+pub block_wide : {at n d e w : ℕ} {f : ℕ → ℕ → ℤ} {xs ys zs : List ℤ} → d + e ≤ n → Block at n d f w xs ys → Block (at + d) n e (λ j m. f j (d + m)) w ys zs
+    → Block at n (d + e) f w xs zs
+block_wide {at} {n} {d} {e} {w} {f} {xs} {ys} {zs} l p q =
+    record {
+      long = q.long ∙ p.long;
+      done = λ j m a b.
+          elim (dec_lt m d) [
+            | yes y ↦ q.kept (at + j * n + m) (λ k i g h c. let u : j ≡ k = row_unique n j k m (d + i) (omega arith) (omega arith) (omega arith) in let v : j * n ≡ k * n = ap (λ (x : ℕ). x * n) u in omega arith) ∙ p.done j m a y
+            | no z ↦ ap (λ (i : ℕ). get_or zs i (pos 0)) (let u : at + j * n + m ≡ at + d + j * n + (m - d) = omega arith in u)
+                ∙ q.done j (m - d) a (omega arith) ∙ ap (f j) (let u : d + (m - d) ≡ m = omega arith in u)
+          ];
+      kept = λ i h. q.kept i (λ j m a b c. h j (d + m) a (omega arith) (omega arith)) ∙ p.kept i (λ j m a b c. h j m a (omega arith) c);
+    }
+
+pub filled_block : {n b w : ℕ} {g f : ℕ → ℕ → ℤ} {xs ys zs : List ℤ} → Filled n n g b xs ys → Block (b * n) n n f w ys zs
     → ((j m : ℕ) → j < w → m < n → f j m ≡ g (b + j) m) → Filled n n g (b + w) xs zs
-filled-rows {n} {g} {f} {b} {w} {xs} {ys} {zs} p q h =
+filled_block {n} {b} {w} {g} {f} {xs} {ys} {zs} p q h =
     record {
       long = q.long ∙ p.long;
       done = λ r m l a.
           elim (dec_lt r b) [
-            | yes y ↦ q.kept (r * n + m) (λ j k c d e. let u : r ≡ b + j = row_unique n r (b + j) m k a d e in omega arith) ∙ p.done r m y a
-            | no d ↦ subst (λ (i : ℕ). get_or zs (i * n + m) (pos 0) ≡ g i m) (let e : b + (r - b) ≡ r = omega arith in e)
-                (q.done (r - b) m (omega arith) a ∙ h (r - b) m (omega arith) a)
+            | yes y ↦ q.kept (r * n + m) (λ j k c d e. let u : r ≡ b + j = row_unique n r (b + j) m k a d (omega (arith, e, add-mul b j n)) in omega arith) ∙ p.done r m y a
+            | no d ↦ ap (λ (i : ℕ). get_or zs i (pos 0)) (let u : b + (r - b) ≡ r = omega arith in let v : (b + (r - b)) * n ≡ r * n = ap (λ (x : ℕ). x * n) u in omega (arith, add-mul b (r - b) n, v))
+                ∙ q.done (r - b) m (omega arith) a ∙ h (r - b) m (omega arith) a
+                ∙ ap (λ (i : ℕ). g i m) (let e : b + (r - b) ≡ r = omega arith in e)
           ];
-      kept = λ i k. q.kept i (λ j m l a e. k (b + j) m (omega arith) a e) ∙ p.kept i (λ r m l a e. k r m (omega arith) a e);
+      kept = λ i k. q.kept i (λ j m l a e. k (b + j) m (omega arith) a (omega (arith, e, add-mul b j n))) ∙ p.kept i (λ r m l a e. k r m (omega arith) a e);
     }
 
 -- the lesser of two
@@ -159,51 +202,71 @@ least_is a b = by_order (nat_cmp b a) (ranks b a)
     by_order Equal h = omega arith
     by_order Greater h = omega arith
 
+-- as many rows as are left, and no more than four, have their room
+pub rows_room : {n b w k len : ℕ} → n ≤ 32 → b ≤ 32 → b < k → w ≡ ord_min nat_cmp 4 (k - b) → k * n ≤ len → (w ≤ 4) × (b * n ≤ 1024) × (b * n + w * n ≤ len)
+rows_room {n} {b} {w} {k} l h o e r =
+    let a = least_is 4 (k - b) in
+    (omega (arith, a, e), omega (arith, mul-le-mul h l), omega (arith, add-mul b w n, mul-le-mul_right n (let z : b + w ≤ k = omega (arith, a, e) in z), r))
+
 -- four rows more, or as many as are left
 pub rows_left : {n k b w x : ℕ} {g f : ℕ → ℕ → ℤ} {xs ys zs : List ℤ} → Filled n n g (b - (b - k)) xs ys → b < k → w ≡ ord_min nat_cmp 4 (k - b)
-    → Rows n f b w ys zs → ((j m : ℕ) → j < 4 → m < n → f j m ≡ g (b + j) m) → x ≡ b + 4 - (b + 4 - k) → Filled n n g x xs zs
+    → Block (b * n) n n f w ys zs → ((j m : ℕ) → j < 4 → m < n → f j m ≡ g (b + j) m) → x ≡ b + 4 - (b + 4 - k) → Filled n n g x xs zs
 rows_left {k = k} {b} p l e q h y =
     let a = least_is 4 (k - b) in
-    filled-all _ (omega (arith, a, e, y)) (filled-rows (filled-all b (omega arith) p) q (λ j m o. h j m (omega (arith, a, e))))
+    filled-all _ (omega (arith, a, e, y)) (filled_block (filled-all b (omega arith) p) q (λ j m o. h j m (omega (arith, a, e))))
 
--- ---- lines put into a tile
-pub put-none : {j : ℕ} {f : ℕ → ℤ} {v : List ℤ} → LinePut j 0 f v v
-put-none = record { long = refl; done = λ t i h. absurd (not-suc-le-zero h); kept = λ k t i l a d. refl }
+-- ---- vectors that are stored
+-- lane j of element i
+pub column_at : {A : Type 0} (f : A → List ℤ) (j : ℕ) (xs : List A) (i : ℕ) (d : A) → i < length xs → lane j (f (get_or xs i d)) ≡ get_or (column f j xs) i (pos 0)
+column_at f j xs i d l = sym (get_or-map (λ y. lane j (f y)) xs i d (pos 0) l)
 
-pub put_more : {j d : ℕ} {f : ℕ → ℤ} {v w u : List ℤ} {at : ℕ} → LinePut j d f v w → at ≡ 32 * d + 8 * j → j < 4
-    → Placed at 8 (λ i. f (8 * d + i)) w u → LinePut j (d + 1) f v u
-put_more {j} {d} {f} {v} {w} {u} p e l q =
-    let r = subst (λ (a : ℕ). Placed a 8 (λ i. f (8 * d + i)) w u) e q in
-    record {
-      long = r.long ∙ p.long;
-      done = λ t i a b.
-          elim (ℕ_discrete t d) [
-            | yes y ↦ rw y (r.done i b)
-            | no y ↦ r.kept (32 * t + 8 * j + i) (λ m o g. y (omega arith)) ∙ p.done t i (omega arith) b
-          ];
-      kept = λ k t i a b y. r.kept (32 * t + 8 * k + i) (λ m o g. y (omega arith)) ∙ p.kept k t i a b y;
-    }
+pub four_lanes : (g : ℕ → ℤ) {a b c d : ℤ} → a ≡ g 0 → b ≡ g 1 → c ≡ g 2 → d ≡ g 3 → (m : ℕ) → m < 4 → lane m (a ∷ b ∷ c ∷ d ∷ []) ≡ g m
+four_lanes g p q r s zero l = p
+four_lanes g p q r s (suc zero) l = q
+four_lanes g p q r s (suc (suc zero)) l = r
+four_lanes g p q r s (suc (suc (suc zero))) l = s
+four_lanes g p q r s (suc (suc (suc (suc m)))) l = absurd (let b : ⊥ = omega arith in b)
 
--- the first d lines of a tile of four
-pub record LinesDone (n : ℕ) (h : ℤ) (s : ℕ) (xs : List ℤ) (b d : ℕ) (v : List ℤ) : Type 0 where
-  pub long : length v ≡ 4 * n
-  pub at : (k m : ℕ) → k < d → m < n → part_value v k m ≡ line_value n h s xs (b + k) m
+pub eight_lanes : (g : ℕ → ℤ) {a b c d i j k h : ℤ} → a ≡ g 0 → b ≡ g 1 → c ≡ g 2 → d ≡ g 3 → i ≡ g 4 → j ≡ g 5 → k ≡ g 6 → h ≡ g 7
+    → (m : ℕ) → m < 8 → lane m (a ∷ b ∷ c ∷ d ∷ i ∷ j ∷ k ∷ h ∷ []) ≡ g m
+eight_lanes g p q r s t u v w zero l = p
+eight_lanes g p q r s t u v w (suc zero) l = q
+eight_lanes g p q r s t u v w (suc (suc zero)) l = r
+eight_lanes g p q r s t u v w (suc (suc (suc zero))) l = s
+eight_lanes g p q r s t u v w (suc (suc (suc (suc m)))) l = four_lanes (λ i. g (suc (suc (suc (suc i))))) t u v w m (omega arith)
 
-pub lines_none : {n : ℕ} {h : ℤ} {s : ℕ} {xs : List ℤ} {b : ℕ} {v : List ℤ} → length v ≡ 4 * n → LinesDone n h s xs b 0 v
-lines_none l = record { long = l; at = λ k m h. absurd (not-suc-le-zero h) }
+-- numbers that stand for themselves
+pub block_same : {at n e w : ℕ} {f : ℕ → ℕ → ℤ} {xs ys : List ℤ} → Block at n e f w xs ys → Block at n e f w (map (λ x. x) xs) (map (λ x. x) ys)
+block_same {xs = xs} {ys} p = rw (map-id xs, map-id ys) p
 
-pub lines_next : {n : ℕ} {h : ℤ} {s : ℕ} {xs : List ℤ} {b j : ℕ} {v w r z : List ℤ} {tw : ℤ} → n % 8 ≡ 0 → j < 4 → LinesDone n h s xs b j v
-    → Values n xs (b + j) r → Twice n 1 r z → tw ≡ pos 2 *ℤ h → LinePut j (n / 8) (λ m. shift_right (get_or z m (pos 0) +ℤ tw) (s + 1)) v w
-    → LinesDone n h s xs b (j + 1) w
-lines_next {n} {h} {s} {xs} {b} {j} {v} {w} {r} {z} {tw} e l p c t g q =
-    record {
-      long = q.long ∙ p.long;
-      at = λ k m a o.
-          elim (ℕ_discrete k j) [
-            | yes y ↦ rw y
-                (q.done (m / 8) (m % 8) (omega arith) (omega arith)
-                ∙ ap (λ (i : ℕ). shift_right (get_or z i (pos 0) +ℤ tw) (s + 1)) (let f : 8 * (m / 8) + m % 8 ≡ m = omega arith in f)
-                ∙ line_row h s c t g m o)
-            | no y ↦ q.kept k (m / 8) (m % 8) (omega arith) (omega arith) y ∙ p.at k m (omega arith) o
-          ];
-    }
+-- four vectors in a row, from element k on, and a column of them
+pub four_columns : {A : Type 0} (f : A → List ℤ) (xs : List A) (k : ℕ) (a b c d : A) → k + 4 ≤ length xs → (j m : ℕ) → m < 4 → (i : ℕ) → k + m ≡ i
+    → lane m (four_of j (f (get_or xs k a)) (f (get_or xs (k + 1) b)) (f (get_or xs (k + 2) c)) (f (get_or xs (k + 3) d))) ≡ get_or (column f j xs) i (pos 0)
+four_columns f xs k a b c d l j m h i e =
+    four_lanes (λ m. get_or (column f j xs) (k + m) (pos 0))
+    (column_at f j xs k _ (omega (arith, l)) ∙ ap (λ (i : ℕ). get_or (column f j xs) i (pos 0)) (let z : k ≡ k + 0 = omega arith in z))
+    (column_at f j xs (k + 1) _ (omega (arith, l))) (column_at f j xs (k + 2) _ (omega (arith, l))) (column_at f j xs (k + 3) _ (omega (arith, l))) m h
+    ∙ ap (λ (i : ℕ). get_or (column f j xs) i (pos 0)) e
+
+-- the same of eight, each as c makes it, which stand two and two in rows
+pub eight_columns : {A : Type 0} (f : A → List ℤ) (c : ℤ → ℤ) (xs : List A) (a b d e g h i k : A) (p q r s : List ℤ) → length xs ≡ 8
+    → ((j : ℕ) → j < 4 → (lane j p ≡ c (lane j (f (get_or xs 0 a)))) × (lane (4 + j) p ≡ c (lane j (f (get_or xs 1 b)))))
+    → ((j : ℕ) → j < 4 → (lane j q ≡ c (lane j (f (get_or xs 2 d)))) × (lane (4 + j) q ≡ c (lane j (f (get_or xs 3 e)))))
+    → ((j : ℕ) → j < 4 → (lane j r ≡ c (lane j (f (get_or xs 4 g)))) × (lane (4 + j) r ≡ c (lane j (f (get_or xs 5 h)))))
+    → ((j : ℕ) → j < 4 → (lane j s ≡ c (lane j (f (get_or xs 6 i)))) × (lane (4 + j) s ≡ c (lane j (f (get_or xs 7 k)))))
+    → (j m : ℕ) → j < 4 → m < 8 → lane m (eight_of j p q r s) ≡ c (get_or (column f j xs) m (pos 0))
+eight_columns {A} f c xs a b d e g h i k p₀ q₀ r₀ s₀ l p q r s j m o z =
+    eight_lanes (λ m. c (get_or (column f j xs) m (pos 0)))
+    ((p j o).0 ∙ at 0 a (omega (arith, l))) ((p j o).1 ∙ at 1 b (omega (arith, l))) ((q j o).0 ∙ at 2 d (omega (arith, l))) ((q j o).1 ∙ at 3 e (omega (arith, l)))
+    ((r j o).0 ∙ at 4 g (omega (arith, l))) ((r j o).1 ∙ at 5 h (omega (arith, l))) ((s j o).0 ∙ at 6 i (omega (arith, l))) ((s j o).1 ∙ at 7 k (omega (arith, l))) m z
+  where
+    at : (n : ℕ) (y : A) → n < length xs → c (lane j (f (get_or xs n y))) ≡ c (get_or (column f j xs) n (pos 0))
+    at n y u = ap c (column_at f j xs n y u)
+
+-- the number that is added, in each of four lanes and past them
+pub lanes_within : (v : List ℤ) {x : ℤ} {b : ℕ} → length v ≡ 4 → ((j : ℕ) → j < 4 → lane j v ≡ x) → Within b x → (j : ℕ) → Within b (lane j v)
+lanes_within v {x} {b} l e w j =
+    elim (dec_lt j 4) [
+      | yes y ↦ within_eq (e j y) w
+      | no d ↦ within_eq (get_or-eq_default v (pos 0) (omega (arith, l))) (within_pos (omega arith))
+    ]

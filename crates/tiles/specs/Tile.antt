@@ -3,10 +3,10 @@
 --   line_value n h s xs c m   output m of the n-point line over column c of xs, with h added, shifted by s
 --   Head q n xs c r          r is the first q values of column c of xs, whose rows are n long
 --   Values n xs c r          r reads as column c
---   Rows n f b w ys zs       zs is ys with w rows of n, from row b on
---   LinePut j d f v w        w is v with d parts of line j: eight outputs a part, the parts of four lines side by side
+--   Block at n e f w ys zs   zs is ys with e values of each of w rows, the first from place at on, and rows n apart
+--   PartNeeds, FourNeeds     what parts of eight and of four values of w rows ask
 --   StageSize q n           n points, of which q rows are there
---   TileSize n v            a tile of v values has four lines of n, of whole parts
+--   LineSize n              a line of n outputs is of whole parts
 --   StageNeeds, StageGives     what a stage asks, and what it gives: lines as rows, each value as f makes it
 use Rattle.std.specs.Prelude.{◌≡◌, List, ℕ, ◌+◌, ◌*◌, ◌%◌, ◌^◌, ◌<◌, ◌≤◌, T, ℤ, pos, ◌+ℤ◌, get_or, length}
 use Rattle.integers.specs.Shift.{shift_right}
@@ -26,15 +26,24 @@ pub record Head (q n : ℕ) (xs : List ℤ) (c : ℕ) (r : List ℤ) : Type 0 wh
 pub record Values (n : ℕ) (xs : List ℤ) (c : ℕ) (r : List ℤ) : Type 0 where
   pub at : (k : ℕ) → k < n → get_or r k (pos 0) ≡ get_or xs (k * n + c) (pos 0)
 
-pub record Rows (n : ℕ) (f : ℕ → ℕ → ℤ) (b w : ℕ) (ys zs : List ℤ) : Type 0 where
+pub record Block (at n e : ℕ) (f : ℕ → ℕ → ℤ) (w : ℕ) (ys zs : List ℤ) : Type 0 where
   pub long : length zs ≡ length ys
-  pub done : (j m : ℕ) → j < w → m < n → get_or zs ((b + j) * n + m) (pos 0) ≡ f j m
-  pub kept : (i : ℕ) → ((j m : ℕ) → j < w → m < n → i ≡ (b + j) * n + m → ⊥) → get_or zs i (pos 0) ≡ get_or ys i (pos 0)
+  pub done : (j m : ℕ) → j < w → m < e → get_or zs (at + j * n + m) (pos 0) ≡ f j m
+  pub kept : (i : ℕ) → ((j m : ℕ) → j < w → m < e → i ≡ at + j * n + m → ⊥) → get_or zs i (pos 0) ≡ get_or ys i (pos 0)
 
-pub record LinePut (j d : ℕ) (f : ℕ → ℤ) (v w : List ℤ) : Type 0 where
-  pub long : length w ≡ length v
-  pub done : (t i : ℕ) → t < d → i < 8 → get_or w (32 * t + 8 * j + i) (pos 0) ≡ f (8 * t + i)
-  pub kept : (k t i : ℕ) → k < 4 → i < 8 → (k ≡ j → ⊥) → get_or w (32 * t + 8 * k + i) (pos 0) ≡ get_or v (32 * t + 8 * k + i) (pos 0)
+pub record PartNeeds (w at n out_length : ℕ) : Type 0 where
+  pub few : w ≤ 4
+  pub part : 8 ≤ n
+  pub most : n ≤ 32
+  pub start : at ≤ 2048
+  pub room : (j : ℕ) → j < w → at + j * n + 8 ≤ out_length
+
+pub record FourNeeds (w at n out_length : ℕ) : Type 0 where
+  pub few : w ≤ 4
+  pub part : 4 ≤ n
+  pub most : n ≤ 32
+  pub start : at ≤ 2052
+  pub room : (j : ℕ) → j < w → at + j * n + 4 ≤ out_length
 
 pub record StageNeeds (q n : ℕ) (xs : List ℤ) (count : ℕ) (h : ℤ) (s out_length : ℕ) : Type 0 where
   pub long : length xs ≡ q * n
@@ -50,7 +59,7 @@ pub record StageSize (q n : ℕ) : Type 0 where
   pub size : T (is_size n)
   pub few : q ≤ n
 
-pub record TileSize (n v : ℕ) : Type 0 where
+pub record LineSize (n : ℕ) : Type 0 where
   pub parts : n % 8 ≡ 0
+  pub least : 8 ≤ n
   pub most : n ≤ 32
-  pub lines : v ≡ 4 * n

@@ -1,20 +1,21 @@
 // One stage over a block of 8 × 8 to 32 × 32 on 16-bit data: the line over column c becomes row c, so that each stage reads columns and writes
-// rows, four lines at a time. The compiler makes its vectors only where the line, the columns and the tile are inlined into the loop over them,
-// and the source is lent as an array.
+// rows, four lines at a time.
 // Internal: no refusal; callers meet each `requires`.
 #![tactic(auto)]
 
-ghost use Rattle.std.specs.Prelude.{◌≡◌, true, ℕ, ◌+◌, ◌*◌, ◌-◌, ◌/◌, ◌%◌, ◌<◌, ◌≤◌, ◌^◌, ℤ, pos, ◌+ℤ◌, length, get_or, map};
+ghost use Rattle.std.specs.Prelude.{◌≡◌, true, ℕ, ◌+◌, ◌*◌, ◌-◌, ◌<◌, ◌≤◌, ◌^◌, ℤ, pos, ◌+ℤ◌, length, get_or, map};
 ghost use Rattle.integers.specs.Lists.{overwrite};
 ghost use Rattle.integers.specs.Shift.{pow2, shift_right, round_shift};
 ghost use Rattle.integers.specs.Within.{Within};
 ghost use Rattle.h265.specs.Range.{clip_coeff};
 ghost use Rattle.transform_1d.specs.Rows.{Placed};
-ghost use Rattle.lines.specs.Fold.{value_most, Small, Twice};
+ghost use Rattle.lines.specs.Fold.{round_most, Twice};
 ghost use Rattle.std.proofs.Common.{rules};
-ghost use Rattle.tiles.specs.Tile.{Head, Rows, LinePut, TileSize, StageSize, StageNeeds, StageGives};
+ghost use Rattle.vectors.specs.Lanes.{lane, column, four_of};
+ghost use Rattle.tiles.specs.Tile.{Head, Block, PartNeeds, FourNeeds, LineSize, StageSize, StageNeeds, StageGives};
 
 use std::cmp::min;
+use vectors::{Row, Sums, Values, eight_turned, turned};
 
 // What a stage writes: a sum in 32 bits, or limited to 16.
 // Kept: `of` and `is_zero` beside `From` and `==`: `of` may limit, which is no conversion, and what `==` says of a type would be one more law here.
@@ -31,6 +32,46 @@ pub trait Output: Copy {
     // `true` only where the number is 0; `false` says nothing.
     fn is_zero(self) -> bool
         ensures { result ≡ true → value self ≡ pos 0 };
+
+    // Eight outputs of four lines as parts of w rows of n elements, of which the first starts at place at.
+    fn put_eight(v: &[Sums; 8], w: usize, out: &mut [Self], at: usize, n: usize)
+        requires { PartNeeds w at n (length out.old) }
+        ensures { Block at n 8 (λ j m. Self.made (get_or (column (λ q. q.v) j v.now) m (pos 0))) w (map value out.old) (map value out.new) };
+}
+
+// Four sums as part of row j, if that is one of w.
+#[inline(always)]
+fn put_four(v: Sums, j: usize, w: usize, out: &mut [i32], at: usize)
+    requires { j < w → at + 4 ≤ length out.old }
+    ensures { (j < w → Placed at 4 (λ m. lane m v.v) out.old out.new) × (w ≤ j → out.new ≡ out.old) }
+{
+    if j < w {
+        v.store(out, at);
+    }
+}
+
+// Four outputs of four lines as parts of w rows.
+#[inline(always)]
+fn put_fours(a: Sums, b: Sums, c: Sums, d: Sums, w: usize, out: &mut [i32], at: usize, n: usize)
+    requires { FourNeeds w at n (length out.old) }
+    ensures { Block at n 4 (λ j m. lane m (four_of j a.v b.v c.v d.v)) w out.old out.new }
+{
+    let (p, q, r, s) = turned(a, b, c, d);
+    put_four(p, 0, w, out, at);
+    put_four(q, 1, w, out, at + n);
+    put_four(r, 2, w, out, at + 2 * n);
+    put_four(s, 3, w, out, at + 3 * n);
+}
+
+// Eight values as part of row j, if that is one of w.
+#[inline(always)]
+fn put_row(v: Row, j: usize, w: usize, out: &mut [i16], at: usize)
+    requires { j < w → at + 8 ≤ length out.old }
+    ensures { (j < w → Placed at 8 (λ m. lane m v.v) out.old out.new) × (w ≤ j → out.new ≡ out.old) }
+{
+    if j < w {
+        v.store(out, at);
+    }
 }
 
 impl Output for i32 {
@@ -46,6 +87,12 @@ impl Output for i32 {
     #[inline(always)]
     fn is_zero(self) -> bool {
         self == 0
+    }
+
+    #[inline(always)]
+    fn put_eight(v: &[Sums; 8], w: usize, out: &mut [i32], at: usize, n: usize) {
+        put_fours(v[0], v[1], v[2], v[3], w, out, at, n);
+        put_fours(v[4], v[5], v[6], v[7], w, out, at + 4, n);
     }
 }
 
@@ -63,30 +110,26 @@ impl Output for i16 {
     fn is_zero(self) -> bool {
         self == 0
     }
-}
 
-// A line of N points of which the first Q values are there, at twice its value.
-pub trait Line<const Q: usize, const N: usize> {
-    fn line(x: &[i16; Q]) -> [i32; N]
-        ensures { Twice N 1 x.now result };
-}
-
-// What is added to twice a sum, and the shift after it.
-#[derive(Clone, Copy)]
-struct Rounding {
-    twice: i32,
-    shift: u32,
-    ghost fits: { Within (2 ^ 28) twice × (shift ≤ 31) },
-}
-
-impl Rounding {
     #[inline(always)]
-    fn of(self, x: i32) -> i32
-        requires { Within (2 ^ 28) x }
-        ensures { result ≡ shift_right (x +ℤ self.twice) self.shift }
-    {
-        (x + self.twice) >> self.shift
+    fn put_eight(v: &[Sums; 8], w: usize, out: &mut [i16], at: usize, n: usize) {
+        let a = vectors::limited(v[0], v[1]);
+        let b = vectors::limited(v[2], v[3]);
+        let c = vectors::limited(v[4], v[5]);
+        let d = vectors::limited(v[6], v[7]);
+        let (p, q, r, s) = eight_turned(a, b, c, d);
+        put_row(p, 0, w, out, at);
+        put_row(q, 1, w, out, at + n);
+        put_row(r, 2, w, out, at + 2 * n);
+        put_row(s, 3, w, out, at + 3 * n);
     }
+}
+
+// A line of N points of which the first Q values are there, at twice its value and with r added to each output, of four columns at a time.
+pub trait Line<const Q: usize, const N: usize> {
+    fn line(x: &[Values; Q], r: Sums) -> [Sums; N]
+        requires { (j : ℕ) → Within round_most (lane j r.v) }
+        ensures { (j : ℕ) → Twice N 1 (column (λ q. q.v) j x.now) (lane j r.v) (column (λ q. q.v) j result) };
 }
 
 // What rounding adds before a shift by s.
@@ -126,123 +169,61 @@ pub fn fill<T: Output>(v: T, w: usize, out: &mut [T])
     }
 }
 
-// The first values of column c.
+// Four columns of a block, from column b on: the first values of each.
 #[inline(always)]
-fn column<const A: usize, const Q: usize, const N: usize>(a: &[i16; A], c: usize) -> [i16; Q]
-    requires { (c < N) × (A ≡ Q * N) }
-    ensures { Head Q N a.now c result }
+fn columns<const Q: usize, const N: usize>(a: &[i16], b: usize) -> [Values; Q]
+    requires { (b + 4 ≤ N) × (length a.now ≡ Q * N) }
+    ensures { (j : ℕ) → j < 4 → Head Q N a.now (b + j) (column (λ q. q.v) j result) }
 {
-    let mut x = [0i16; Q];
+    let mut x = [Values::zero(); Q];
     for k in 0..Q {
-        x[k] = a[k * N + c];
+        x[k] = Values::load(a, k * N + b);
     }
     x
 }
 
-// Eight of a line's outputs, from output `from` on, rounded, from place at on.
-// Kept: places beside the arrays and slices, here and below: an array is lent as an array, and a part of a slice that is handed on costs the
-// compiler its vectors (crate `stages`).
+// Eight of the outputs of four lines, from output `from` on, each shifted by s.
 #[inline(always)]
-fn put_part<const V: usize, const N: usize>(
-    v: &mut [i32; V],
-    at: usize,
-    z: &[i32; N],
-    from: usize,
-    r: Rounding,
-)
-    requires { (at + 8 ≤ V) × (length v.old ≡ V) × Small (32 * value_most) z.now × (from + 8 ≤ N) }
-    ensures { Placed at 8 (λ m. shift_right (get_or z.now (from + m) (pos 0) +ℤ r.twice) r.shift) v.old v.new }
+fn eight<const N: usize>(z: &[Sums; N], from: usize, s: u32) -> [Sums; 8]
+    requires { (from + 8 ≤ N) × (s ≤ 31) }
+    ensures { (j m : ℕ) → m < 8 → get_or (column (λ q. q.v) j result) m (pos 0) ≡ shift_right (get_or (column (λ q. q.v) j z.now) (from + m) (pos 0)) s }
 {
+    let mut v = [Sums::zero(); 8];
     for m in 0..8 {
-        v[at + m] = r.of(z[from + m]);
+        v[m] = z[from + m].shifted(s);
     }
+    v
 }
 
-// A line's outputs, rounded, as line j of the tile.
+// The outputs of four lines, each shifted by s, as w rows from place at on.
 #[inline(always)]
-fn put_line<const V: usize, const N: usize>(v: &mut [i32; V], j: usize, z: &[i32; N], r: Rounding)
-    requires { (j < 4) × TileSize N V × (length v.old ≡ V) × Small (32 * value_most) z.now }
-    ensures { LinePut j (N / 8) (λ m. shift_right (get_or z.now m (pos 0) +ℤ r.twice) r.shift) v.old v.new }
+fn put_rows<T: Output, const N: usize>(z: &[Sums; N], s: u32, w: usize, out: &mut [T], at: usize)
+    requires { LineSize N × (s ≤ 31) × (w ≤ 4) × (at ≤ 1024) × (at + w * N ≤ length out.old) }
+    ensures { Block at N N (λ j m. T.made (shift_right (get_or (column (λ q. q.v) j z.now) m (pos 0)) s)) w (map T.value out.old) (map T.value out.new) }
 {
     for t in 0..N / 8 {
-        put_part(v, 32 * t + 8 * j, z, 8 * t, r);
-    }
-}
-
-// Eight elements of v. No more than a hint here and in `row`: inlined before it is a straight run, it has no 16-bit stores at 32 points.
-#[inline]
-fn eight<const V: usize, T: Output>(v: &[i32; V], from: usize, out: &mut [T], at: usize)
-    requires { (from + 8 ≤ V) × (at + 8 ≤ length out.old) }
-    ensures { Placed at 8 (λ i. T.made (get_or v.now (from + i) (pos 0))) (map T.value out.old) (map T.value out.new) }
-{
-    for i in 0..8 {
-        out[at + i] = T::of(v[from + i]);
-    }
-}
-
-// One line of v, part by part, as a row.
-#[inline]
-fn row<const V: usize, const N: usize, T: Output>(v: &[i32; V], j: usize, out: &mut [T], at: usize)
-    requires { (j < 4) × TileSize N V × (at + N ≤ length out.old) }
-    ensures { Placed at N (λ m. T.made (get_or v.now (32 * (m / 8) + 8 * j + m % 8) (pos 0))) (map T.value out.old) (map T.value out.new) }
-{
-    for t in 0..N / 8 {
-        eight(v, 32 * t + 8 * j, out, at + 8 * t);
-    }
-}
-
-// w lines of v as rows, from row b on.
-#[inline(always)]
-fn rows<const V: usize, const N: usize, T: Output>(v: &[i32; V], b: usize, w: usize, out: &mut [T])
-    requires { (w ≤ 4) × TileSize N V × (b ≤ 32) × ((b + w) * N ≤ length out.old) }
-    ensures { Rows N (λ j m. T.made (get_or v.now (32 * (m / 8) + 8 * j + m % 8) (pos 0))) b w (map T.value out.old) (map T.value out.new) }
-{
-    for j in 0..w {
-        row::<V, N, T>(v, j, out, (b + j) * N);
+        T::put_eight(&eight(z, 8 * t, s), w, out, at + 8 * t, N);
     }
 }
 
 // The line over column c becomes row c of out, for c < count.
 #[inline(never)]
-fn lines_as_rows<
-    K: Line<Q, N>,
-    T: Output,
-    const A: usize,
-    const Q: usize,
-    const N: usize,
-    const V: usize,
->(a: &[i16; A], count: usize, half: i32, s: u32, out: &mut [T])
-    requires { StageNeeds Q N a.now count half s (length out.old) × TileSize N V }
+pub fn lines_as_rows<K: Line<Q, N>, T: Output, const Q: usize, const N: usize>(
+    a: &[i16],
+    count: usize,
+    half: i32,
+    s: u32,
+    out: &mut [T],
+)
+    requires { StageNeeds Q N a.now count half s (length out.old) × LineSize N × (Q ≤ 32) }
     ensures { StageGives N a.now count half s T.made (map T.value out.old) (map T.value out.new) }
 {
-    let mut v = [0i32; V];
-    let r = Rounding {
-        twice: 2 * half,
-        shift: s + 1,
-    };
+    let r = Sums::splat(2 * half);
     for b in (0..count).step_by(4) {
-        for j in 0..4 {
-            let x = column::<A, Q, N>(a, b + j);
-            let z = K::line(&x);
-            put_line(&mut v, j, &z, r);
-        }
-        rows::<V, N, T>(&v, b, min(4, count - b), out);
+        let x = columns::<Q, N>(a, b);
+        let z = K::line(&x, r);
+        put_rows::<T, N>(&z, s + 1, min(4, count - b), out, b * N);
     }
-}
-
-// The stage by the line K, over A values and with tiles of V.
-pub fn stage_of<
-    K: Line<Q, N>,
-    T: Output,
-    const A: usize,
-    const Q: usize,
-    const N: usize,
-    const V: usize,
->(a: &[i16], count: usize, half: i32, s: u32, out: &mut [T])
-    requires { StageNeeds Q N a.now count half s (length out.old) × (A ≡ Q * N) × (A ≤ 1024) × TileSize N V }
-    ensures { StageGives N a.now count half s T.made (map T.value out.old) (map T.value out.new) }
-{
-    lines_as_rows::<K, T, A, Q, N, V>(a.first_chunk().unwrap(), count, half, s, out);
 }
 
 // The stages of each size, over whole blocks and over blocks of which only the first rows are there.
@@ -265,13 +246,13 @@ pub trait Stage {
     ghost size: { StageSize ROWS POINTS };
 }
 
-// Kept: an impl for each size. `stage_of` takes A = Q × N and V = 4 × N beside Q and N, and no const argument may be a product of const parameters.
+// Kept: an impl for each size, whose line is a function for each (crate `lines`), and which a caller names as one type.
 pub struct Whole8;
 
 impl Line<8, 8> for Whole8 {
     #[inline(always)]
-    fn line(x: &[i16; 8]) -> [i32; 8] {
-        lines::line_8(&x[..], 1)
+    fn line(x: &[Values; 8], r: Sums) -> [Sums; 8] {
+        lines::line_8(&x[..], 1, r)
     }
 }
 
@@ -285,7 +266,7 @@ impl Stage for Whole8 {
     ghost ROWS = { 8 };
 
     fn stage<T: Output>(a: &[i16], count: usize, half: i32, s: u32, out: &mut [T]) {
-        stage_of::<Whole8, T, 64, 8, 8, 32>(a, count, half, s, out);
+        lines_as_rows::<Whole8, T, 8, 8>(a, count, half, s, out);
     }
 
     ghost size = { Prim.search rules };
@@ -295,8 +276,8 @@ pub struct Whole16;
 
 impl Line<16, 16> for Whole16 {
     #[inline(always)]
-    fn line(x: &[i16; 16]) -> [i32; 16] {
-        lines::line_16(&x[..], 1)
+    fn line(x: &[Values; 16], r: Sums) -> [Sums; 16] {
+        lines::line_16(&x[..], 1, r)
     }
 }
 
@@ -310,7 +291,7 @@ impl Stage for Whole16 {
     ghost ROWS = { 16 };
 
     fn stage<T: Output>(a: &[i16], count: usize, half: i32, s: u32, out: &mut [T]) {
-        stage_of::<Whole16, T, 256, 16, 16, 64>(a, count, half, s, out);
+        lines_as_rows::<Whole16, T, 16, 16>(a, count, half, s, out);
     }
 
     ghost size = { Prim.search rules };

@@ -4,15 +4,16 @@
 
 ghost use Rattle.std.proofs.Common.{rules};
 
-use tiles::{Line, Output, Stage, stage_of};
+use tiles::{Line, Output, Stage, lines_as_rows};
+use vectors::{Sums, Values};
 
 // Kept: an impl for each size, as in `tiles`.
 pub struct Whole32;
 
 impl Line<32, 32> for Whole32 {
     #[inline(always)]
-    fn line(x: &[i16; 32]) -> [i32; 32] {
-        lines::line_32(&x[..])
+    fn line(x: &[Values; 32], r: Sums) -> [Sums; 32] {
+        lines::line_32(&x[..], r)
     }
 }
 
@@ -26,7 +27,7 @@ impl Stage for Whole32 {
     ghost ROWS = { 32 };
 
     fn stage<T: Output>(a: &[i16], count: usize, half: i32, s: u32, out: &mut [T]) {
-        stage_of::<Whole32, T, 1024, 32, 32, 128>(a, count, half, s, out);
+        lines_as_rows::<Whole32, T, 32, 32>(a, count, half, s, out);
     }
 
     ghost size = { Prim.search rules };

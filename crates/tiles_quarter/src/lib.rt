@@ -4,7 +4,8 @@
 
 ghost use Rattle.std.proofs.Common.{rules};
 
-use tiles::{Line, Output, Stage, stage_of};
+use tiles::{Line, Output, Stage, lines_as_rows};
+use vectors::{Sums, Values};
 
 mod rest; // whether a block ends after its first rows
 
@@ -15,8 +16,8 @@ pub struct Quarter8;
 
 impl Line<4, 8> for Quarter8 {
     #[inline(always)]
-    fn line(x: &[i16; 4]) -> [i32; 8] {
-        lines::line_8(&x[..], 1)
+    fn line(x: &[Values; 4], r: Sums) -> [Sums; 8] {
+        lines::line_8(&x[..], 1, r)
     }
 }
 
@@ -30,7 +31,7 @@ impl Stage for Quarter8 {
     ghost ROWS = { 4 };
 
     fn stage<T: Output>(a: &[i16], count: usize, half: i32, s: u32, out: &mut [T]) {
-        stage_of::<Quarter8, T, 32, 4, 8, 32>(a, count, half, s, out);
+        lines_as_rows::<Quarter8, T, 4, 8>(a, count, half, s, out);
     }
 
     ghost size = { Prim.search rules };
@@ -40,8 +41,8 @@ pub struct Quarter16;
 
 impl Line<4, 16> for Quarter16 {
     #[inline(always)]
-    fn line(x: &[i16; 4]) -> [i32; 16] {
-        lines::line_16(&x[..], 1)
+    fn line(x: &[Values; 4], r: Sums) -> [Sums; 16] {
+        lines::line_16(&x[..], 1, r)
     }
 }
 
@@ -55,7 +56,7 @@ impl Stage for Quarter16 {
     ghost ROWS = { 4 };
 
     fn stage<T: Output>(a: &[i16], count: usize, half: i32, s: u32, out: &mut [T]) {
-        stage_of::<Quarter16, T, 64, 4, 16, 64>(a, count, half, s, out);
+        lines_as_rows::<Quarter16, T, 4, 16>(a, count, half, s, out);
     }
 
     ghost size = { Prim.search rules };
@@ -65,8 +66,8 @@ pub struct Quarter32;
 
 impl Line<8, 32> for Quarter32 {
     #[inline(always)]
-    fn line(x: &[i16; 8]) -> [i32; 32] {
-        lines::line_32(&x[..])
+    fn line(x: &[Values; 8], r: Sums) -> [Sums; 32] {
+        lines::line_32(&x[..], r)
     }
 }
 
@@ -80,7 +81,7 @@ impl Stage for Quarter32 {
     ghost ROWS = { 8 };
 
     fn stage<T: Output>(a: &[i16], count: usize, half: i32, s: u32, out: &mut [T]) {
-        stage_of::<Quarter32, T, 256, 8, 32, 128>(a, count, half, s, out);
+        lines_as_rows::<Quarter32, T, 8, 32>(a, count, half, s, out);
     }
 
     ghost size = { Prim.search rules };

@@ -1,7 +1,7 @@
--- `lines::line_2` meets its contract: two products for each output.
+-- `lines::line_2` meets its contract: two products for each output, and what is added to it.
 use Rattle.lines.proofs.FoldLaws.{line_two}
 use Rattle.lines.proofs.line_2.Goals as goal
 
 pub returns : goal.returns
-returns c =
-    line_two _ (record { sfits = c.value-a.type_inv }) c.value-a.ensures (record { sfits = c.value-b.type_inv }) c.value-b.ensures c.pair.ensures c.pair-2.ensures
+returns c j =
+    line_two _ (c.value-a.ensures j) (c.value-b.ensures j) (c.requires j) (c.products.ensures j) (c.products-2.ensures j) (c.plus.ensures j) (c.plus-2.ensures j)

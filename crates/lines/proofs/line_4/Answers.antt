@@ -1,6 +1,11 @@
 -- `lines::line_4` meets its contract: the even and the odd part, put together by the one law.
-use Rattle.lines.proofs.FoldLaws.{fold_2}
+use mathlib.Core.Path.{refl}
+use native.Mathlib.Omega.{arith}
+use Rattle.lines.proofs.FoldLaws.{parts_fit, fold_2}
 use Rattle.lines.proofs.line_4.Goals as goal
 
+pub fold-requires : goal.fold-requires
+fold-requires c = (omega arith, (omega arith, λ j. parts_fit refl (omega arith) (c.line_2-e.ensures j) (c.odd_4-o.ensures j)))
+
 pub returns : goal.returns
-returns c = fold_2 c.line_2-e.ensures c.odd_4-o.ensures c.fold.ensures
+returns c j = fold_2 (c.line_2-e.ensures j) (c.odd_4-o.ensures j) (c.fold.ensures j)

@@ -8,14 +8,14 @@ use Rattle.lines.proofs.odd_16.Goals as goal
 
 pub returns : goal.returns
 unfolding odd_column trans_matrix trans_matrix32 folded_entry folded_angle folding folding_values tabulate tabulate_from
-returns c =
+returns c j =
     odds 8 _ refl
-    (dot_out 8 _ 0 refl tt c.dot.ensures
-    then dot_out 8 _ 1 refl tt c.dot-2.ensures
-    then dot_out 8 _ 2 refl tt c.dot-3.ensures
-    then dot_out 8 _ 3 refl tt c.dot-4.ensures
-    then dot_out 8 _ 4 refl tt c.dot-5.ensures
-    then dot_out 8 _ 5 refl tt c.dot-6.ensures
-    then dot_out 8 _ 6 refl tt c.dot-7.ensures
-    then dot_out 8 _ 7 refl tt c.dot-8.ensures
+    (dot_out 8 _ 0 refl (c.dot.ensures j)
+    then dot_out 8 _ 1 refl (c.dot-2.ensures j)
+    then dot_out 8 _ 2 refl (c.dot-3.ensures j)
+    then dot_out 8 _ 3 refl (c.dot-4.ensures j)
+    then dot_out 8 _ 4 refl (c.dot-5.ensures j)
+    then dot_out 8 _ 5 refl (c.dot-6.ensures j)
+    then dot_out 8 _ 6 refl (c.dot-7.ensures j)
+    then dot_out 8 _ 7 refl (c.dot-8.ensures j)
     then end)

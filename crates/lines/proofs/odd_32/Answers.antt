@@ -8,22 +8,22 @@ use Rattle.lines.proofs.odd_32.Goals as goal
 
 pub returns : goal.returns
 unfolding odd_column trans_matrix trans_matrix32 folded_entry folded_angle folding folding_values tabulate tabulate_from
-returns c =
+returns c j =
     odds 16 _ refl
-    (dot_out 16 _ 0 refl tt c.dot.ensures
-    then dot_out 16 _ 1 refl tt c.dot-2.ensures
-    then dot_out 16 _ 2 refl tt c.dot-3.ensures
-    then dot_out 16 _ 3 refl tt c.dot-4.ensures
-    then dot_out 16 _ 4 refl tt c.dot-5.ensures
-    then dot_out 16 _ 5 refl tt c.dot-6.ensures
-    then dot_out 16 _ 6 refl tt c.dot-7.ensures
-    then dot_out 16 _ 7 refl tt c.dot-8.ensures
-    then dot_out 16 _ 8 refl tt c.dot-9.ensures
-    then dot_out 16 _ 9 refl tt c.dot-10.ensures
-    then dot_out 16 _ 10 refl tt c.dot-11.ensures
-    then dot_out 16 _ 11 refl tt c.dot-12.ensures
-    then dot_out 16 _ 12 refl tt c.dot-13.ensures
-    then dot_out 16 _ 13 refl tt c.dot-14.ensures
-    then dot_out 16 _ 14 refl tt c.dot-15.ensures
-    then dot_out 16 _ 15 refl tt c.dot-16.ensures
+    (dot_out 16 _ 0 refl (c.dot.ensures j)
+    then dot_out 16 _ 1 refl (c.dot-2.ensures j)
+    then dot_out 16 _ 2 refl (c.dot-3.ensures j)
+    then dot_out 16 _ 3 refl (c.dot-4.ensures j)
+    then dot_out 16 _ 4 refl (c.dot-5.ensures j)
+    then dot_out 16 _ 5 refl (c.dot-6.ensures j)
+    then dot_out 16 _ 6 refl (c.dot-7.ensures j)
+    then dot_out 16 _ 7 refl (c.dot-8.ensures j)
+    then dot_out 16 _ 8 refl (c.dot-9.ensures j)
+    then dot_out 16 _ 9 refl (c.dot-10.ensures j)
+    then dot_out 16 _ 10 refl (c.dot-11.ensures j)
+    then dot_out 16 _ 11 refl (c.dot-12.ensures j)
+    then dot_out 16 _ 12 refl (c.dot-13.ensures j)
+    then dot_out 16 _ 13 refl (c.dot-14.ensures j)
+    then dot_out 16 _ 14 refl (c.dot-15.ensures j)
+    then dot_out 16 _ 15 refl (c.dot-16.ensures j)
     then end)

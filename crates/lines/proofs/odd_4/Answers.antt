@@ -8,8 +8,8 @@ use Rattle.lines.proofs.odd_4.Goals as goal
 
 pub returns : goal.returns
 unfolding odd_column trans_matrix trans_matrix32 folded_entry folded_angle folding folding_values tabulate tabulate_from
-returns c =
+returns c j =
     odds 2 _ refl
-    (dot_out 2 _ 0 refl tt c.dot.ensures
-    then dot_out 2 _ 1 refl tt c.dot-2.ensures
+    (dot_out 2 _ 0 refl (c.dot.ensures j)
+    then dot_out 2 _ 1 refl (c.dot-2.ensures j)
     then end)

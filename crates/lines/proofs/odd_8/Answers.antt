@@ -8,10 +8,10 @@ use Rattle.lines.proofs.odd_8.Goals as goal
 
 pub returns : goal.returns
 unfolding odd_column trans_matrix trans_matrix32 folded_entry folded_angle folding folding_values tabulate tabulate_from
-returns c =
+returns c j =
     odds 4 _ refl
-    (dot_out 4 _ 0 refl tt c.dot.ensures
-    then dot_out 4 _ 1 refl tt c.dot-2.ensures
-    then dot_out 4 _ 2 refl tt c.dot-3.ensures
-    then dot_out 4 _ 3 refl tt c.dot-4.ensures
+    (dot_out 4 _ 0 refl (c.dot.ensures j)
+    then dot_out 4 _ 1 refl (c.dot-2.ensures j)
+    then dot_out 4 _ 2 refl (c.dot-3.ensures j)
+    then dot_out 4 _ 3 refl (c.dot-4.ensures j)
     then end)

@@ -1,13 +1,22 @@
--- `tiles::eight` meets its contract: the loop has stored the elements passed.
-use mathlib.Core.Path.{refl}
+-- `tiles::eight` meets its contract: the loop has shifted the outputs passed.
+use mathlib.Core.Path.{ap, ◌∙◌}
 use native.Mathlib.Omega.{arith}
-use Rattle.std.proofs.Common.{rules}
-use Rattle.transform_1d.proofs.RowsLaws.{placed_all}
-use Rattle.tiles.proofs.TileLaws.{placed_map}
+use lib.IntN.{ℤ}
+use Rattle.std.proofs.lemmas.List.{map-set}
+use Rattle.integers.specs.Shift.{shift_right}
+use Rattle.integers.proofs.ListsLaws.{stored_none, stored_more}
+use Rattle.tiles.proofs.TileLaws.{stored_at, column_at}
 use Rattle.tiles.proofs.eight.Goals as goal
 
-pub loop-i-preserved : goal.loop-i-preserved
-loop-i-preserved g c = (omega arith, placed_map g.T.Output.value _ _ c.loop-i.invariant.1 refl (omega (arith, c.requires.1)) (search rules))
+pub loop-m-init : goal.loop-m-init
+loop-m-init g c = (omega arith, λ j. stored_none)
+
+pub loop-m-preserved : goal.loop-m-preserved
+loop-m-preserved g c = (
+  omega arith,
+  λ j. simp map-set (stored_more (c.loop-m.invariant.1 j) c.loop-m-test.true
+      (c.shifted.ensures j ∙ ap (λ (x : ℤ). shift_right x c.args.s) (column_at _ j c.args.z.now _ _ (omega (arith, c.type_inv.z, c.requires.0))))),
+)
 
 pub returns : goal.returns
-returns g c = placed_all 8 (omega arith) c.loop-i.invariant.1
+returns g c = λ j m l. stored_at (c.loop-m.invariant.1 j) (omega arith) m l

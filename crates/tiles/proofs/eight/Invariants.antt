@@ -1,12 +1,12 @@
--- `tiles::eight` meets its contract: the loop has stored the elements passed.
-use Prim.Native.Nat.{◌+◌, ◌≤◌}
-use mathlib.Core.List.{map}
+-- `tiles::eight` meets its contract: the loop has shifted the outputs passed.
+use Prim.Native.Nat.{ℕ, ◌+◌, ◌≤◌}
 use lib.IntN.{pos}
 use lib.ListN.{get_or}
-use Rattle.transform_1d.specs.Rows.{Placed}
+use Rattle.integers.specs.Shift.{shift_right}
+use Rattle.integers.proofs.ListsLaws.{Stored}
+use Rattle.vectors.specs.Lanes.{column}
 use Rattle.tiles.proofs.eight.Given as goal
 
-abbrev pub invariant-loop-i : goal.invariant-loop-i
-invariant-loop-i g l =
-    let o = g.T.Output in
-    (l.i ≤ 8) × Placed l.at l.i (λ k. o.made (get_or l.v (l.from + k) (pos 0))) (map o.value l.initial.out) (map o.value l.out)
+abbrev pub invariant-loop-m : goal.invariant-loop-m
+invariant-loop-m g l =
+    (l.m ≤ 8) × ((j : ℕ) → Stored (λ i. shift_right (get_or (column (λ q. q.v) j l.z) (l.from + i) (pos 0)) l.s) (column (λ q. q.v) j l.initial.v) l.m (column (λ q. q.v) j l.v))

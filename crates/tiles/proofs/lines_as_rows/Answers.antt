@@ -1,38 +1,50 @@
--- `tiles::lines_as_rows` meets its contract: four lines at a time are put into the tile and then stored as rows.
+-- `tiles::lines_as_rows` meets its contract: four lines at a time are stored as rows.
 use mathlib.Core.Path.{ap, refl, ◌∙◌}
 use native.Mathlib.Omega.{arith}
-use mir.Syntax.{w32}
 use mir.Facts.{to_z-of_z}
-use Rattle.integers.proofs.BoundLaws.{within_fits, within_lit_mul}
-use Rattle.transform_1d.proofs.RowsLaws.{filled-all}
-use Rattle.tiles.proofs.TileLaws.{head_values, lines_next, rows_left}
+use Rattle.transform_1d.proofs.RowsLaws.{filled-all, filled_zero}
+use Rattle.tiles.proofs.TileLaws.{head_values, line_row, lanes_within, rows_left, rows_room, twice_half, twice_within}
 use Rattle.tiles.proofs.lines_as_rows.Goals as goal
 
-pub loop-j-preserved : goal.loop-j-preserved
-loop-j-preserved g c =
-    let p = c.requires in (
-      omega arith,
-      lines_next p.1.parts (omega arith) c.loop-j.invariant.1 (head_values p.0.long c.column-x.ensures) c.line-z.ensures
-          (to_z-of_z {w = w32} (simp (to_z-of_z, c.ranges.half) (within_fits tt (within_lit_mul 2 p.0.half)))) c.put_line.ensures,
-    )
+pub loop-b-init : goal.loop-b-init
+loop-b-init g c = (omega arith, omega arith, refl, filled-all _ (omega arith) filled_zero)
+
+pub columns-x-requires : goal.columns-x-requires
+columns-x-requires g c =
+    let r = c.requires in
+    (omega (arith, r.2), (omega (arith, c.loop-b.invariant.0, r.1.parts, r.0.few), r.0.long))
+
+pub line-z-requires : goal.line-z-requires
+line-z-requires g c =
+    let r = c.requires in
+    let x = c.splat-r in
+    (omega (arith, r.2), (omega (arith, r.1.most), lanes_within x.result.v x.result.four x.ensures (twice_within c.ranges.half r.0.half)))
+
+pub put_rows-requires : goal.put_rows-requires
+put_rows-requires g c =
+    let r = c.requires in
+    let o = rows_room r.1.most c.loop-b.invariant.1 (omega arith) c.min.ensures r.0.room in
+    (omega (arith, r.1.most), (r.1, omega (arith, r.0.shift), o.0, o.1, omega (arith, o.2, c.loop-b.invariant.2)))
 
 pub loop-b-preserved : goal.loop-b-preserved
 loop-b-preserved g c =
     let i = c.loop-b.invariant in
-    let p = c.loop-j.invariant.1 in
     let r = c.requires in (
       omega (arith, i.0),
       omega (arith, i.0, r.0.few, r.1.most),
-      p.long,
-      c.rows.auto.out ∙ i.3,
-      rows_left i.4 (omega arith) c.min.ensures c.rows.ensures (λ j m l. λ a. ap g.T.Output.made (p.at j m (omega arith) a)) refl,
+      c.put_rows.auto.out ∙ i.2,
+      rows_left i.3 (omega arith) c.min.ensures c.put_rows.ensures
+          (λ j m l a. ap g.T.Output.made (line_row _ c.args.s (head_values r.0.long (c.columns-x.ensures j l)) (c.line-z.ensures j) (c.splat-r.ensures j l ∙ twice_half c.ranges.half r.0.half) m a))
+          refl,
     )
 
 pub returns : goal.returns
-returns g c = simp (to_z-of_z, c.ranges.half) at (filled-all c.args.count (omega arith) c.loop-b.invariant.4)
+returns g c = simp (to_z-of_z, c.ranges.half) at (filled-all c.args.count (omega arith) c.loop-b.invariant.3)
 
 pub returns-2 : goal.returns-2
 returns-2 g c =
-    let p = c.loop-j.invariant.1 in
+    let r = c.requires in
     simp (to_z-of_z, c.ranges.half) at
-    (rows_left {x = c.args.count} c.loop-b.invariant.4 (omega arith) c.min.ensures c.rows.ensures (λ j m l. λ a. ap g.T.Output.made (p.at j m (omega arith) a)) (omega arith))
+    (rows_left {x = c.args.count} c.loop-b.invariant.3 (omega arith) c.min.ensures c.put_rows.ensures
+    (λ j m l a. ap g.T.Output.made (line_row _ c.args.s (head_values r.0.long (c.columns-x.ensures j l)) (c.line-z.ensures j) (c.splat-r.ensures j l ∙ twice_half c.ranges.half r.0.half) m a))
+    (omega arith))

@@ -1,21 +1,17 @@
--- `tiles::lines_as_rows` meets its contract: four lines at a time are put into the tile and then stored as rows.
+-- `tiles::lines_as_rows` meets its contract: four lines at a time are stored as rows.
 use mathlib.Core.Path.{◌≡◌}
 use mathlib.Core.List.{map}
-use Prim.Native.Nat.{◌*◌, ◌-◌, ◌%◌, ◌≤◌}
+use Prim.Native.Nat.{◌-◌, ◌%◌, ◌≤◌}
 use lib.ListN.{length}
 use Rattle.transform_1d.specs.Rows.{Filled}
 use Rattle.tiles.specs.Tile.{line_value}
-use Rattle.tiles.proofs.TileLaws.{LinesDone}
 use Rattle.tiles.proofs.lines_as_rows.Given as goal
-
-abbrev pub invariant-loop-j : goal.invariant-loop-j
-invariant-loop-j g l = (l.j ≤ 4) × LinesDone g.row.N l.half l.s l.a l.b l.j l.v
 
 abbrev pub invariant-loop-b : goal.invariant-loop-b
 invariant-loop-b g l =
     let o = g.T.Output in
     let n = g.row.N in
-    (l.b % 4 ≡ 0) × (l.b ≤ 32) × (length l.v ≡ 4 * n) × (length l.out ≡ length l.initial.out)
+    (l.b % 4 ≡ 0) × (l.b ≤ 32) × (length l.out ≡ length l.initial.out)
     × Filled n n (λ c m. o.made (line_value n l.half l.s l.a c m)) (l.b - (l.b - l.count)) (map o.value l.initial.out) (map o.value l.out)
 
 abbrev pub decreases-loop-b : goal.decreases-loop-b

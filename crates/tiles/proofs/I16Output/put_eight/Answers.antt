@@ -1,0 +1,17 @@
+-- `tiles::I16Output::put_eight` meets its contract: of four rows of eight limited outputs, turned over, the first w are stored.
+use native.Mathlib.Omega.{arith}
+use Rattle.h265.specs.Range.{clip_coeff}
+use Rattle.tiles.proofs.TileLaws.{block_four, block_cong, block_same, by_row, eight_columns}
+use Rattle.tiles.proofs.I16Output.put_eight.Goals as goal
+
+pub put_row-requires-3 : goal.put_row-requires-3
+put_row-requires-3 c = λ l. omega (arith, c.put_row-2.auto.out, c.put_row.auto.out, c.requires.room 2 l)
+
+pub put_row-requires-4 : goal.put_row-requires-4
+put_row-requires-4 c = λ l. omega (arith, c.put_row-3.auto.out, c.put_row-2.auto.out, c.put_row.auto.out, c.requires.room 3 l)
+
+pub returns : goal.returns
+returns c =
+    let t = c.eight_turned.ensures in
+    block_same (block_cong (λ j m a h. eight_columns _ (clip_coeff 15) c.args.v.now _ _ _ _ _ _ _ _ _ _ _ _ c.type_inv.v.1.1.0.1 c.limited-a.ensures c.limited-b.ensures c.limited-c.ensures c.limited-d.ensures j m (omega (arith, a, c.requires.few)) h)
+    (block_four c.requires.few c.requires.part (by_row t.first c.put_row.ensures) (by_row t.second c.put_row-2.ensures) (by_row t.third c.put_row-3.ensures) (by_row t.fourth c.put_row-4.ensures)))
