@@ -9,7 +9,7 @@ import layers
 import same_laws
 
 # public only so that the crates above can call them; docs/ARCHITECTURE.md says so
-INTERNAL = {"integers", "coefficients", "scaling_values", "scaling_blocks", "block_tool_work", "list_places", "bits", "bits_written", "diagonal", "scaling_lists_put", "transform_1d", "lines", "tiles", "tiles_32", "tiles_quarter", "wide_parts", "tiles_wide", "lines_wide", "stages", "stages_wide", "transform_blocks", "block_work", "level_work", "edited_steps", "edit_values", "edit_tables", "edit_blocks", "text", "feed_format", "feed_lines", "feed_state", "feed_block", "feed_records", "scale_trace_block", "scaling_lists_codes", "scaling_lists_taken", "planes"}
+INTERNAL = {"integers", "coefficients", "scaling_values", "scaling_blocks", "block_tool_work", "list_places", "bits", "bits_written", "diagonal", "scaling_lists_put", "transform_1d", "vectors", "lines", "tiles", "tiles_32", "tiles_quarter", "wide_parts", "tiles_wide", "lines_wide", "stages", "stages_wide", "transform_blocks", "block_work", "level_work", "edited_steps", "edit_values", "edit_tables", "edit_blocks", "text", "feed_format", "feed_lines", "feed_state", "feed_block", "feed_records", "scale_trace_block", "scaling_lists_codes", "scaling_lists_taken", "planes"}
 
 # each function calls one entry point and cites its definition, so that entry point's edits stand for it too; c_api_c has the same functions as exports
 WRAPPERS = {"c_api", "c_api_c"}

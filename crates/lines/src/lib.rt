@@ -20,9 +20,8 @@ fn value(x: &[Values], i: usize) -> Values
 
 // The products of the odd values of x, st apart, with the entries t, two and two together, in the first half of what is handed back: of these the
 // compiler makes its 16-bit multiply-add.
-// Kept: turns by what x has. Of a count that is known before the line is in its stage the compiler makes one chain of all products, with two
-// multiply-adds for most pairs, and a dense block of 32 points takes a third longer; a `for` over a count by (x.len() + 3 * st) / (4 * st), tried,
-// is as fast as this and says its end less plainly.
+// Kept: turns by what x has: of a count that is known before the line is in its stage the compiler makes one chain of all products, with two
+// multiply-adds for most pairs (DECISIONS 71).
 fn pairs<const H: usize>(x: &[Values], st: usize, t: &[i16; H]) -> [Sums; H]
     requires { DotNeeds H st t.now (length x.now) }
     ensures { (j k : ℕ) → k < H / 2 → Paired t.now st (column (λ q. q.v) j x.now) k (get_or (column (λ q. q.v) j result) k (pos 0)) }
@@ -76,7 +75,10 @@ fn line_2(x: &[Values], st: usize, r: Sums) -> [Sums; 2]
 {
     let a = value(x, 0);
     let b = value(x, st);
-    [products(128, a, 128, b).plus(r), products(128, a, -128, b).plus(r)]
+    [
+        products(128, a, 128, b).plus(r),
+        products(128, a, -128, b).plus(r),
+    ]
 }
 
 #[inline(always)]

@@ -40,7 +40,7 @@ use Rattle.transform_1d.specs.Rows.{Placed, Filled}
 use Rattle.transform_1d.proofs.RowsLaws.{row_unique, filled-all}
 use Rattle.std.proofs.Math.Nat.{add-mul}
 use Rattle.std.proofs.Common.{mul-le-mul}
-use Rattle.vectors.specs.Lanes.{lane, column, four_of, eight_of}
+use Rattle.vectors.specs.Lanes.{lane, column, four_of, eight_of, Turned}
 use Rattle.tiles.specs.Tile.{line_value, Head, Values, Block}
 
 -- ---- rounding
@@ -239,29 +239,49 @@ eight_lanes g p q r s t u v w (suc (suc (suc (suc m)))) l = four_lanes (λ i. g 
 pub block_same : {at n e w : ℕ} {f : ℕ → ℕ → ℤ} {xs ys : List ℤ} → Block at n e f w xs ys → Block at n e f w (map (λ x. x) xs) (map (λ x. x) ys)
 block_same {xs = xs} {ys} p = rw (map-id xs, map-id ys) p
 
--- four vectors in a row, from element k on, and a column of them
-pub four_columns : {A : Type 0} (f : A → List ℤ) (xs : List A) (k : ℕ) (a b c d : A) → k + 4 ≤ length xs → (j m : ℕ) → m < 4 → (i : ℕ) → k + m ≡ i
-    → lane m (four_of j (f (get_or xs k a)) (f (get_or xs (k + 1) b)) (f (get_or xs (k + 2) c)) (f (get_or xs (k + 3) d))) ≡ get_or (column f j xs) i (pos 0)
-four_columns f xs k a b c d l j m h i e =
-    four_lanes (λ m. get_or (column f j xs) (k + m) (pos 0))
-    (column_at f j xs k _ (omega (arith, l)) ∙ ap (λ (i : ℕ). get_or (column f j xs) i (pos 0)) (let z : k ≡ k + 0 = omega arith in z))
-    (column_at f j xs (k + 1) _ (omega (arith, l))) (column_at f j xs (k + 2) _ (omega (arith, l))) (column_at f j xs (k + 3) _ (omega (arith, l))) m h
-    ∙ ap (λ (i : ℕ). get_or (column f j xs) i (pos 0)) e
+-- the same of an element that was read
+pub read_at : {A : Type 0} (f : A → List ℤ) (j : ℕ) (xs : List A) (i : ℕ) (a : A) → a ≡ get_or xs i a → i < length xs → lane j (f a) ≡ get_or (column f j xs) i (pos 0)
+read_at f j xs i a e l = ap (λ y. lane j (f y)) e ∙ column_at f j xs i a l
 
--- the same of eight, each as c makes it, which stand two and two in rows
-pub eight_columns : {A : Type 0} (f : A → List ℤ) (c : ℤ → ℤ) (xs : List A) (a b d e g h i k : A) (p q r s : List ℤ) → length xs ≡ 8
-    → ((j : ℕ) → j < 4 → (lane j p ≡ c (lane j (f (get_or xs 0 a)))) × (lane (4 + j) p ≡ c (lane j (f (get_or xs 1 b)))))
-    → ((j : ℕ) → j < 4 → (lane j q ≡ c (lane j (f (get_or xs 2 d)))) × (lane (4 + j) q ≡ c (lane j (f (get_or xs 3 e)))))
-    → ((j : ℕ) → j < 4 → (lane j r ≡ c (lane j (f (get_or xs 4 g)))) × (lane (4 + j) r ≡ c (lane j (f (get_or xs 5 h)))))
-    → ((j : ℕ) → j < 4 → (lane j s ≡ c (lane j (f (get_or xs 6 i)))) × (lane (4 + j) s ≡ c (lane j (f (get_or xs 7 k)))))
-    → (j m : ℕ) → j < 4 → m < 8 → lane m (eight_of j p q r s) ≡ c (get_or (column f j xs) m (pos 0))
-eight_columns {A} f c xs a b d e g h i k p₀ q₀ r₀ s₀ l p q r s j m o z =
-    eight_lanes (λ m. c (get_or (column f j xs) m (pos 0)))
-    ((p j o).0 ∙ at 0 a (omega (arith, l))) ((p j o).1 ∙ at 1 b (omega (arith, l))) ((q j o).0 ∙ at 2 d (omega (arith, l))) ((q j o).1 ∙ at 3 e (omega (arith, l)))
-    ((r j o).0 ∙ at 4 g (omega (arith, l))) ((r j o).1 ∙ at 5 h (omega (arith, l))) ((s j o).0 ∙ at 6 i (omega (arith, l))) ((s j o).1 ∙ at 7 k (omega (arith, l))) m z
+-- four vectors that were read, from element k on, and a column of them
+pub four_columns : {A : Type 0} (f : A → List ℤ) (xs : List A) (k : ℕ) (a b c d : A) → k + 4 ≤ length xs
+    → a ≡ get_or xs k a → b ≡ get_or xs (k + 1) b → c ≡ get_or xs (k + 2) c → d ≡ get_or xs (k + 3) d
+    → (j m : ℕ) → m < 4 → lane m (four_of j (f a) (f b) (f c) (f d)) ≡ get_or (column f j xs) (k + m) (pos 0)
+four_columns f xs k a b c d l p q r s j m h =
+    four_lanes (λ m. get_or (column f j xs) (k + m) (pos 0))
+    (read_at f j xs k a p (omega (arith, l)) ∙ ap (λ (i : ℕ). get_or (column f j xs) i (pos 0)) (let z : k ≡ k + 0 = omega arith in z))
+    (read_at f j xs (k + 1) b q (omega (arith, l))) (read_at f j xs (k + 2) c r (omega (arith, l))) (read_at f j xs (k + 3) d s (omega (arith, l))) m h
+
+-- four vectors in a row, turned over and stored
+pub block_turned : {A : Type 0} (f : A → List ℤ) (xs : List A) (k : ℕ) (a b c d : A) {at n w : ℕ} {p q r s y g h i z : List ℤ} → k + 4 ≤ length xs
+    → a ≡ get_or xs k a → b ≡ get_or xs (k + 1) b → c ≡ get_or xs (k + 2) c → d ≡ get_or xs (k + 3) d → w ≤ 4 → 4 ≤ n
+    → Turned (f a) (f b) (f c) (f d) p q r s
+    → (0 < w → Placed at 4 (λ m. lane m p) y g) × (w ≤ 0 → g ≡ y)
+    → (1 < w → Placed (at + n) 4 (λ m. lane m q) g h) × (w ≤ 1 → h ≡ g)
+    → (2 < w → Placed (at + 2 * n) 4 (λ m. lane m r) h i) × (w ≤ 2 → i ≡ h)
+    → (3 < w → Placed (at + 3 * n) 4 (λ m. lane m s) i z) × (w ≤ 3 → z ≡ i)
+    → Block at n 4 (λ j m. get_or (column f j xs) (k + m) (pos 0)) w y z
+block_turned f xs k a b c d l t u v x m e g p q r s =
+    block_cong (λ j i o h. four_columns f xs k a b c d l t u v x j i h)
+    (block_four {f = λ j m. lane m (four_of j (f a) (f b) (f c) (f d))} m e (by_row g.first p) (by_row g.second q) (by_row g.third r) (by_row g.fourth s))
+
+-- eight that were read, each as c makes it, which stand two and two in rows
+pub eight_columns : {A : Type 0} (f : A → List ℤ) (c : ℤ → ℤ) (xs : List A) (n : ℕ) (a b d e g h i k : A) (p q r s : List ℤ) → n + 8 ≤ length xs
+    → a ≡ get_or xs n a → b ≡ get_or xs (n + 1) b → d ≡ get_or xs (n + 2) d → e ≡ get_or xs (n + 3) e
+    → g ≡ get_or xs (n + 4) g → h ≡ get_or xs (n + 5) h → i ≡ get_or xs (n + 6) i → k ≡ get_or xs (n + 7) k
+    → ((j : ℕ) → j < 4 → (lane j p ≡ c (lane j (f a))) × (lane (4 + j) p ≡ c (lane j (f b))))
+    → ((j : ℕ) → j < 4 → (lane j q ≡ c (lane j (f d))) × (lane (4 + j) q ≡ c (lane j (f e))))
+    → ((j : ℕ) → j < 4 → (lane j r ≡ c (lane j (f g))) × (lane (4 + j) r ≡ c (lane j (f h))))
+    → ((j : ℕ) → j < 4 → (lane j s ≡ c (lane j (f i))) × (lane (4 + j) s ≡ c (lane j (f k))))
+    → (j m : ℕ) → j < 4 → m < 8 → lane m (eight_of j p q r s) ≡ c (get_or (column f j xs) (n + m) (pos 0))
+eight_columns {A} f c xs n a b d e g h i k p₀ q₀ r₀ s₀ l a₁ b₁ d₁ e₁ g₁ h₁ i₁ k₁ p q r s j m o z =
+    eight_lanes (λ m. c (get_or (column f j xs) (n + m) (pos 0)))
+    ((p j o).0 ∙ ap c (read_at f j xs n a a₁ (omega (arith, l)) ∙ ap (λ (i : ℕ). get_or (column f j xs) i (pos 0)) (let y : n ≡ n + 0 = omega arith in y)))
+    ((p j o).1 ∙ at 1 b b₁ (omega arith)) ((q j o).0 ∙ at 2 d d₁ (omega arith)) ((q j o).1 ∙ at 3 e e₁ (omega arith))
+    ((r j o).0 ∙ at 4 g g₁ (omega arith)) ((r j o).1 ∙ at 5 h h₁ (omega arith)) ((s j o).0 ∙ at 6 i i₁ (omega arith)) ((s j o).1 ∙ at 7 k k₁ (omega arith)) m z
   where
-    at : (n : ℕ) (y : A) → n < length xs → c (lane j (f (get_or xs n y))) ≡ c (get_or (column f j xs) n (pos 0))
-    at n y u = ap c (column_at f j xs n y u)
+    at : (u : ℕ) (y : A) → y ≡ get_or xs (n + u) y → u < 8 → c (lane j (f y)) ≡ c (get_or (column f j xs) (n + u) (pos 0))
+    at u y w v = ap c (read_at f j xs (n + u) y w (omega (arith, l)))
 
 -- the number that is added, in each of four lanes and past them
 pub lanes_within : (v : List ℤ) {x : ℤ} {b : ℕ} → length v ≡ 4 → ((j : ℕ) → j < 4 → lane j v ≡ x) → Within b x → (j : ℕ) → Within b (lane j v)

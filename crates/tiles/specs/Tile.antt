@@ -4,7 +4,7 @@
 --   Head q n xs c r          r is the first q values of column c of xs, whose rows are n long
 --   Values n xs c r          r reads as column c
 --   Block at n e f w ys zs   zs is ys with e values of each of w rows, the first from place at on, and rows n apart
---   PartNeeds, FourNeeds     what parts of eight and of four values of w rows ask
+--   PartNeeds e w at n out_length   what parts of e values of each of w rows ask
 --   StageSize q n           n points, of which q rows are there
 --   LineSize n              a line of n outputs is of whole parts
 --   StageNeeds, StageGives     what a stage asks, and what it gives: lines as rows, each value as f makes it
@@ -31,19 +31,12 @@ pub record Block (at n e : ℕ) (f : ℕ → ℕ → ℤ) (w : ℕ) (ys zs : Lis
   pub done : (j m : ℕ) → j < w → m < e → get_or zs (at + j * n + m) (pos 0) ≡ f j m
   pub kept : (i : ℕ) → ((j m : ℕ) → j < w → m < e → i ≡ at + j * n + m → ⊥) → get_or zs i (pos 0) ≡ get_or ys i (pos 0)
 
-pub record PartNeeds (w at n out_length : ℕ) : Type 0 where
+pub record PartNeeds (e w at n out_length : ℕ) : Type 0 where
   pub few : w ≤ 4
-  pub part : 8 ≤ n
+  pub part : e ≤ n
   pub most : n ≤ 32
-  pub start : at ≤ 2048
-  pub room : (j : ℕ) → j < w → at + j * n + 8 ≤ out_length
-
-pub record FourNeeds (w at n out_length : ℕ) : Type 0 where
-  pub few : w ≤ 4
-  pub part : 4 ≤ n
-  pub most : n ≤ 32
-  pub start : at ≤ 2052
-  pub room : (j : ℕ) → j < w → at + j * n + 4 ≤ out_length
+  pub start : at + e ≤ 2056
+  pub room : (j : ℕ) → j < w → at + j * n + e ≤ out_length
 
 pub record StageNeeds (q n : ℕ) (xs : List ℤ) (count : ℕ) (h : ℤ) (s out_length : ℕ) : Type 0 where
   pub long : length xs ≡ q * n

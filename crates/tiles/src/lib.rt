@@ -11,8 +11,8 @@ ghost use Rattle.h265.specs.Range.{clip_coeff};
 ghost use Rattle.transform_1d.specs.Rows.{Placed};
 ghost use Rattle.lines.specs.Fold.{round_most, Twice};
 ghost use Rattle.std.proofs.Common.{rules};
-ghost use Rattle.vectors.specs.Lanes.{lane, column, four_of};
-ghost use Rattle.tiles.specs.Tile.{Head, Block, PartNeeds, FourNeeds, LineSize, StageSize, StageNeeds, StageGives};
+ghost use Rattle.vectors.specs.Lanes.{lane, column};
+ghost use Rattle.tiles.specs.Tile.{Head, Block, PartNeeds, LineSize, StageSize, StageNeeds, StageGives};
 
 use std::cmp::min;
 use vectors::{Row, Sums, Values, eight_turned, turned};
@@ -33,10 +33,11 @@ pub trait Output: Copy {
     fn is_zero(self) -> bool
         ensures { result ≡ true → value self ≡ pos 0 };
 
-    // Eight outputs of four lines as parts of w rows of n elements, of which the first starts at place at.
-    fn put_eight(v: &[Sums; 8], w: usize, out: &mut [Self], at: usize, n: usize)
-        requires { PartNeeds w at n (length out.old) }
-        ensures { Block at n 8 (λ j m. Self.made (get_or (column (λ q. q.v) j v.now) m (pos 0))) w (map value out.old) (map value out.new) };
+    // Eight outputs of four lines, from output `from` on, as parts of w rows of n elements, of which the first starts at place at.
+    // Kept: `from` and n beside the slices, and n not as a const parameter, which no method of a trait may have yet.
+    fn put_eight(v: &[Sums], from: usize, w: usize, out: &mut [Self], at: usize, n: usize)
+        requires { PartNeeds 8 w at n (length out.old) × (from + 8 ≤ length v.now) }
+        ensures { Block at n 8 (λ j m. Self.made (get_or (column (λ q. q.v) j v.now) (from + m) (pos 0))) w (map value out.old) (map value out.new) };
 }
 
 // Four sums as part of row j, if that is one of w.
@@ -50,13 +51,13 @@ fn put_four(v: Sums, j: usize, w: usize, out: &mut [i32], at: usize)
     }
 }
 
-// Four outputs of four lines as parts of w rows.
+// Four outputs of four lines, from output `from` on, as parts of w rows.
 #[inline(always)]
-fn put_fours(a: Sums, b: Sums, c: Sums, d: Sums, w: usize, out: &mut [i32], at: usize, n: usize)
-    requires { FourNeeds w at n (length out.old) }
-    ensures { Block at n 4 (λ j m. lane m (four_of j a.v b.v c.v d.v)) w out.old out.new }
+fn put_fours(v: &[Sums], from: usize, w: usize, out: &mut [i32], at: usize, n: usize)
+    requires { PartNeeds 4 w at n (length out.old) × (from + 4 ≤ length v.now) }
+    ensures { Block at n 4 (λ j m. get_or (column (λ q. q.v) j v.now) (from + m) (pos 0)) w out.old out.new }
 {
-    let (p, q, r, s) = turned(a, b, c, d);
+    let (p, q, r, s) = turned(v[from], v[from + 1], v[from + 2], v[from + 3]);
     put_four(p, 0, w, out, at);
     put_four(q, 1, w, out, at + n);
     put_four(r, 2, w, out, at + 2 * n);
@@ -90,9 +91,9 @@ impl Output for i32 {
     }
 
     #[inline(always)]
-    fn put_eight(v: &[Sums; 8], w: usize, out: &mut [i32], at: usize, n: usize) {
-        put_fours(v[0], v[1], v[2], v[3], w, out, at, n);
-        put_fours(v[4], v[5], v[6], v[7], w, out, at + 4, n);
+    fn put_eight(v: &[Sums], from: usize, w: usize, out: &mut [i32], at: usize, n: usize) {
+        put_fours(v, from, w, out, at, n);
+        put_fours(v, from + 4, w, out, at + 4, n);
     }
 }
 
@@ -108,15 +109,15 @@ impl Output for i16 {
 
     #[inline(always)]
     fn is_zero(self) -> bool {
-        self == 0
+        (self as i32).is_zero()
     }
 
     #[inline(always)]
-    fn put_eight(v: &[Sums; 8], w: usize, out: &mut [i16], at: usize, n: usize) {
-        let a = vectors::limited(v[0], v[1]);
-        let b = vectors::limited(v[2], v[3]);
-        let c = vectors::limited(v[4], v[5]);
-        let d = vectors::limited(v[6], v[7]);
+    fn put_eight(v: &[Sums], from: usize, w: usize, out: &mut [i16], at: usize, n: usize) {
+        let a = vectors::limited(v[from], v[from + 1]);
+        let b = vectors::limited(v[from + 2], v[from + 3]);
+        let c = vectors::limited(v[from + 4], v[from + 5]);
+        let d = vectors::limited(v[from + 6], v[from + 7]);
         let (p, q, r, s) = eight_turned(a, b, c, d);
         put_row(p, 0, w, out, at);
         put_row(q, 1, w, out, at + n);
@@ -182,27 +183,27 @@ fn columns<const Q: usize, const N: usize>(a: &[i16], b: usize) -> [Values; Q]
     x
 }
 
-// Eight of the outputs of four lines, from output `from` on, each shifted by s.
+// The outputs of four lines, each shifted by s.
 #[inline(always)]
-fn eight<const N: usize>(z: &[Sums; N], from: usize, s: u32) -> [Sums; 8]
-    requires { (from + 8 ≤ N) × (s ≤ 31) }
-    ensures { (j m : ℕ) → m < 8 → get_or (column (λ q. q.v) j result) m (pos 0) ≡ shift_right (get_or (column (λ q. q.v) j z.now) (from + m) (pos 0)) s }
+fn shifted<const N: usize>(z: &[Sums; N], s: u32) -> [Sums; N]
+    requires { s ≤ 31 }
+    ensures { (j m : ℕ) → m < N → get_or (column (λ q. q.v) j result) m (pos 0) ≡ shift_right (get_or (column (λ q. q.v) j z.now) m (pos 0)) s }
 {
-    let mut v = [Sums::zero(); 8];
-    for m in 0..8 {
-        v[m] = z[from + m].shifted(s);
+    let mut v = [Sums::zero(); N];
+    for m in 0..N {
+        v[m] = z[m].shifted(s);
     }
     v
 }
 
-// The outputs of four lines, each shifted by s, as w rows from place at on.
+// The outputs of four lines as w rows from place at on.
 #[inline(always)]
-fn put_rows<T: Output, const N: usize>(z: &[Sums; N], s: u32, w: usize, out: &mut [T], at: usize)
-    requires { LineSize N × (s ≤ 31) × (w ≤ 4) × (at ≤ 1024) × (at + w * N ≤ length out.old) }
-    ensures { Block at N N (λ j m. T.made (shift_right (get_or (column (λ q. q.v) j z.now) m (pos 0)) s)) w (map T.value out.old) (map T.value out.new) }
+fn put_rows<T: Output, const N: usize>(v: &[Sums; N], w: usize, out: &mut [T], at: usize)
+    requires { LineSize N × (w ≤ 4) × (at ≤ 1024) × (at + w * N ≤ length out.old) }
+    ensures { Block at N N (λ j m. T.made (get_or (column (λ q. q.v) j v.now) m (pos 0))) w (map T.value out.old) (map T.value out.new) }
 {
     for t in 0..N / 8 {
-        T::put_eight(&eight(z, 8 * t, s), w, out, at + 8 * t, N);
+        T::put_eight(&v[..], 8 * t, w, out, at + 8 * t, N);
     }
 }
 
@@ -222,7 +223,8 @@ pub fn lines_as_rows<K: Line<Q, N>, T: Output, const Q: usize, const N: usize>(
     for b in (0..count).step_by(4) {
         let x = columns::<Q, N>(a, b);
         let z = K::line(&x, r);
-        put_rows::<T, N>(&z, s + 1, min(4, count - b), out, b * N);
+        let v = shifted(&z, s + 1);
+        put_rows::<T, N>(&v, min(4, count - b), out, b * N);
     }
 }
 

@@ -27,9 +27,7 @@ impl Values {
     pub fn zero() -> Values
         ensures { (j : ℕ) → lane j result.v ≡ pos 0 }
     {
-        Values {
-            v: i16x4::splat(0),
-        }
+        Values { v: i16x4::splat(0) }
     }
 
     // The four values from place at on.
@@ -72,9 +70,7 @@ impl Sums {
     pub fn zero() -> Sums
         ensures { (j : ℕ) → lane j result.v ≡ pos 0 }
     {
-        Sums {
-            v: i32x4::splat(0),
-        }
+        Sums { v: i32x4::splat(0) }
     }
 
     // The same number for each column.
@@ -82,9 +78,7 @@ impl Sums {
     pub fn splat(x: i32) -> Sums
         ensures { (j : ℕ) → j < 4 → lane j result.v ≡ x }
     {
-        Sums {
-            v: i32x4::splat(x),
-        }
+        Sums { v: i32x4::splat(x) }
     }
 
     #[inline(always)]

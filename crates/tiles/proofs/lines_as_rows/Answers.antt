@@ -24,7 +24,7 @@ pub put_rows-requires : goal.put_rows-requires
 put_rows-requires g c =
     let r = c.requires in
     let o = rows_room r.1.most c.loop-b.invariant.1 (omega arith) c.min.ensures r.0.room in
-    (omega (arith, r.1.most), (r.1, omega (arith, r.0.shift), o.0, o.1, omega (arith, o.2, c.loop-b.invariant.2)))
+    (omega (arith, r.1.most), (r.1, o.0, o.1, omega (arith, o.2, c.loop-b.invariant.2)))
 
 pub loop-b-preserved : goal.loop-b-preserved
 loop-b-preserved g c =
@@ -34,7 +34,7 @@ loop-b-preserved g c =
       omega (arith, i.0, r.0.few, r.1.most),
       c.put_rows.auto.out ∙ i.2,
       rows_left i.3 (omega arith) c.min.ensures c.put_rows.ensures
-          (λ j m l a. ap g.T.Output.made (line_row _ c.args.s (head_values r.0.long (c.columns-x.ensures j l)) (c.line-z.ensures j) (c.splat-r.ensures j l ∙ twice_half c.ranges.half r.0.half) m a))
+          (λ j m l a. ap g.T.Output.made (c.shifted-v.ensures j m a ∙ line_row _ c.args.s (head_values r.0.long (c.columns-x.ensures j l)) (c.line-z.ensures j) (c.splat-r.ensures j l ∙ twice_half c.ranges.half r.0.half) m a))
           refl,
     )
 
@@ -46,5 +46,5 @@ returns-2 g c =
     let r = c.requires in
     simp (to_z-of_z, c.ranges.half) at
     (rows_left {x = c.args.count} c.loop-b.invariant.3 (omega arith) c.min.ensures c.put_rows.ensures
-    (λ j m l a. ap g.T.Output.made (line_row _ c.args.s (head_values r.0.long (c.columns-x.ensures j l)) (c.line-z.ensures j) (c.splat-r.ensures j l ∙ twice_half c.ranges.half r.0.half) m a))
+    (λ j m l a. ap g.T.Output.made (c.shifted-v.ensures j m a ∙ line_row _ c.args.s (head_values r.0.long (c.columns-x.ensures j l)) (c.line-z.ensures j) (c.splat-r.ensures j l ∙ twice_half c.ranges.half r.0.half) m a))
     (omega arith))

@@ -5,13 +5,14 @@ use Rattle.tiles.proofs.TileLaws.{block_four, block_cong, block_same, by_row, ei
 use Rattle.tiles.proofs.I16Output.put_eight.Goals as goal
 
 pub put_row-requires-3 : goal.put_row-requires-3
-put_row-requires-3 c = λ l. omega (arith, c.put_row-2.auto.out, c.put_row.auto.out, c.requires.room 2 l)
+put_row-requires-3 c = λ l. omega (arith, c.put_row-2.auto.out, c.put_row.auto.out, c.requires.0.room 2 l)
 
 pub put_row-requires-4 : goal.put_row-requires-4
-put_row-requires-4 c = λ l. omega (arith, c.put_row-3.auto.out, c.put_row-2.auto.out, c.put_row.auto.out, c.requires.room 3 l)
+put_row-requires-4 c = λ l. omega (arith, c.put_row-3.auto.out, c.put_row-2.auto.out, c.put_row.auto.out, c.requires.0.room 3 l)
 
 pub returns : goal.returns
 returns c =
     let t = c.eight_turned.ensures in
-    block_same (block_cong (λ j m a h. eight_columns _ (clip_coeff 15) c.args.v.now _ _ _ _ _ _ _ _ _ _ _ _ c.type_inv.v.1.1.0.1 c.limited-a.ensures c.limited-b.ensures c.limited-c.ensures c.limited-d.ensures j m (omega (arith, a, c.requires.few)) h)
-    (block_four c.requires.few c.requires.part (by_row t.first c.put_row.ensures) (by_row t.second c.put_row-2.ensures) (by_row t.third c.put_row-3.ensures) (by_row t.fourth c.put_row-4.ensures)))
+    let r = c.requires.0 in
+    block_same (block_cong (λ j m a h. eight_columns _ (clip_coeff 15) c.args.v.now c.args.from _ _ _ _ _ _ _ _ _ _ _ _ c.requires.1 c.index-v-from.is c.index-v-from-2.is c.index-v-from-3.is c.index-v-from-4.is c.index-v-from-5.is c.index-v-from-6.is c.index-v-from-7.is c.index-v-from-8.is c.limited-a.ensures c.limited-b.ensures c.limited-c.ensures c.limited-d.ensures j m (omega (arith, a, r.few)) h)
+    (block_four r.few r.part (by_row t.first c.put_row.ensures) (by_row t.second c.put_row-2.ensures) (by_row t.third c.put_row-3.ensures) (by_row t.fourth c.put_row-4.ensures)))
