@@ -26,15 +26,15 @@ fn dct_column(n: usize, m: usize) -> [i16; 32]
 }
 
 // Column m of the DST's matrix.
-// Kept: a loop of its own, since the table is laid out in another way; one loop for both would take the place as a closure, and say of it what it gives for each row.
+// Kept: a loop of its own, since the table has another length; one loop for both would take a slice with the step from row to row, and say what stands at each place of it.
 fn dst_column(m: usize) -> [i16; 32]
     requires { m < 4 }
     ensures { ColumnOf dst_matrix 4 m result }
 {
-    let t = transform_1d::lanes_dst();
+    let t = transform_1d::dst_matrix();
     let mut r = [0i16; 32];
     for k in 0..4 {
-        r[k] = t[32 * (k % 2) + 2 * m + k / 2];
+        r[k] = t[4 * k + m];
     }
     r
 }

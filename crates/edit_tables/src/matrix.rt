@@ -21,8 +21,8 @@ fn dct_matrix(n: usize) -> [i64; 1024]
 fn dst_matrix() -> [i64; 1024]
     ensures { Holds 4 dst_matrix result }
 {
-    let t = transform_1d::lanes_dst();
-    filled(4, |k, j| i64::from(t[32 * (k % 2) + 2 * j + k / 2]))
+    let t = transform_1d::dst_matrix();
+    filled(4, |k, j| i64::from(t[4 * k + j]))
 }
 
 // The matrix of a kind.

@@ -1,7 +1,7 @@
--- What stands at a place of the table of 32 points, and of the DST's layout.
+-- What stands at a place of the table of 32 points, and of the DST's.
 --   TablePlace, table_place, table_entry   the place of an entry of the n-point DCT in the table, and what stands there
---   dst_entry               the same of the DST in its layout
-use mathlib.Core.Path.{◌≡◌, refl, sym, ap, ap₂, ◌∙◌}
+--   dst_entry               what stands at place 4 × k + m of the DST's table
+use mathlib.Core.Path.{◌≡◌, ap, ap₂, ◌∙◌}
 use Prim.Native.Nat.{ℕ, ◌+◌, ◌*◌, ◌/◌, ◌%◌, ◌<◌}
 use native.Mathlib.Omega.{arith}
 use lib.Dec.{T}
@@ -13,9 +13,6 @@ use Rattle.integers.proofs.ListsLaws.{tabulate-get_or}
 use Rattle.h265.specs.Matrix.{trans_matrix32, trans_matrix, dst_matrix}
 use Rattle.h265.specs.Range.{is_size}
 use Rattle.h265.proofs.RangeLaws.{size_cases}
-use Rattle.transform_1d.specs.Lanes.{lanes, lane_place, lane_matrix}
-use Rattle.transform_1d.proofs.KernelLaws.{lane_matrix_low}
-use Rattle.transform_1d.proofs.LanesLaws.{lane_matrix-lanes}
 
 pub record TablePlace (n k m : ℕ) : Type 0 where
   pub inside : k * (1024 / n) + m < 1024
@@ -40,9 +37,8 @@ table_entry n k m e t hk hm =
     ∙ tabulate-get_or 1024 (λ i. trans_matrix32 (i / 32) (i % 32)) (k * (1024 / n) + m) (pos 0) p.inside
     ∙ ap₂ trans_matrix32 p.row p.column
 
-pub dst_entry : {xs : List ℤ} (k m : ℕ) → xs ≡ lanes dst_matrix 4 → k < 4 → m < 4 → get_or xs (32 * (k % 2) + 2 * m + k / 2) (pos 0) ≡ dst_matrix k m
-dst_entry {xs} k m e hk hm =
-    ap (λ (i : ℕ). get_or xs i (pos 0)) (let q : 32 * (k % 2) + 2 * m + k / 2 ≡ lane_place k m = omega arith in q)
-    ∙ sym (lane_matrix_low xs k m (omega arith))
-    ∙ ap (λ (l : List ℤ). lane_matrix l k m) e
-    ∙ lane_matrix-lanes dst_matrix 4 refl (omega arith) (λ a b x y z w. absurd (let f : ⊥ = omega arith in f)) k m hk hm
+pub dst_entry : {xs : List ℤ} (k m : ℕ) → xs ≡ tabulate 16 (λ i. dst_matrix (i / 4) (i % 4)) → k < 4 → m < 4 → get_or xs (4 * k + m) (pos 0) ≡ dst_matrix k m
+dst_entry k m e hk hm =
+    ap (λ (l : List ℤ). get_or l (4 * k + m) (pos 0)) e
+    ∙ tabulate-get_or 16 (λ i. dst_matrix (i / 4) (i % 4)) (4 * k + m) (pos 0) (omega arith)
+    ∙ ap₂ dst_matrix (let r : (4 * k + m) / 4 ≡ k = omega arith in r) (let c : (4 * k + m) % 4 ≡ m = omega arith in c)

@@ -1,4 +1,4 @@
-// One-dimensional inverse transforms on 16-bit data: the 32-point matrix, the layouts that the kernel reads, and the lines of 4 points.
+// One-dimensional inverse transforms on 16-bit data: the 32-point matrix and the DST's, the layouts that the kernel reads, and the lines of 4 points.
 // Internal: no limit, no refusal but row 4's test; callers meet each `requires`.
 #![tactic(auto)]
 
@@ -74,6 +74,15 @@ const TRANS_MATRIX: [i16; 1024] = [
       4, -13,  22, -31,  38, -46,  54, -61,  67, -73,  78, -82,  85, -88,  90, -90,  90, -90,  88, -85,  82, -78,  73, -67,  61, -54,  46, -38,  31, -22,  13,  -4,
 ];
 
+// Row k of the DST's matrix in line k.
+#[rattlefmt::skip]
+const DST_MATRIX: [i16; 16] = [
+     29,  55,  74,  84,
+     74,  74,   0, -74,
+     84, -29, -74,  55,
+     55, -84,  74, -29,
+];
+
 // Layouts of the small matrices. Each line has 16 pairs of entries of two rows.
 #[rattlefmt::skip]
 const LANES_4: [i16; 64] = [
@@ -94,8 +103,15 @@ pub fn trans_matrix() -> [i16; 1024]
     TRANS_MATRIX
 }
 
+// The DST's matrix, row by row.
+pub fn dst_matrix() -> [i16; 16]
+    ensures { result ≡ tabulate 16 (λ i. dst_matrix (i / 4) (i % 4)) }
+{
+    DST_MATRIX
+}
+
 // The layout of the 4-point DCT.
-// Kept: a function for each layout: the whole of it is its constant, and `edit_tables` and `contributions` read the DST's alone.
+// Kept: a function for each layout: the whole of it is its constant.
 pub fn lanes_4() -> [i16; 64]
     ensures { result ≡ lanes (trans_matrix 4) 4 }
 {

@@ -1,6 +1,6 @@
 -- `contributions::matrix::dst_column` meets its contract: the loop has stored the entries of the rows passed.
 use mathlib.Core.Path.{◌∙◌}
-use Prim.Native.Nat.{◌+◌, ◌*◌, ◌/◌, ◌%◌}
+use Prim.Native.Nat.{◌+◌, ◌*◌}
 use native.Mathlib.Omega.{arith}
 use lib.IntN.{pos}
 use lib.ListN.{get_or, length-replicate}
@@ -17,9 +17,9 @@ loop-k-init c = (omega arith, stored_none)
 
 pub loop-k-preserved : goal.loop-k-preserved
 loop-k-preserved c =
-    let f : SFits w16 (get_or c.lanes_dst-t.result (32 * (c.loop-k.k % 2) + 2 * c.args.m + c.loop-k.k / 2) (pos 0)) = record { sfits = c.r-1.given } in (
+    let f : SFits w16 (get_or c.dst_matrix-t.result (4 * c.loop-k.k + c.args.m) (pos 0)) = record { sfits = c.r-1.given } in (
       omega arith,
-      stored_more c.loop-k.invariant.1 (omega (arith, length-replicate 32 (pos 0))) (round_trip f ∙ dst_entry c.loop-k.k c.args.m c.lanes_dst-t.ensures (omega arith) c.requires),
+      stored_more c.loop-k.invariant.1 (omega (arith, length-replicate 32 (pos 0))) (round_trip f ∙ dst_entry c.loop-k.k c.args.m c.dst_matrix-t.ensures (omega arith) c.requires),
     )
 
 pub returns : goal.returns

@@ -1,6 +1,6 @@
 -- `edit_tables::matrix::dst_matrix` meets its contract: each number is the entry there.
 use mathlib.Core.Path.{◌≡◌, ◌∙◌}
-use Prim.Native.Nat.{◌+◌, ◌*◌, ◌/◌, ◌%◌}
+use Prim.Native.Nat.{◌+◌, ◌*◌}
 use lib.IntN.{pos}
 use lib.ListN.{get_or}
 use Rattle.std.proofs.Common.{rules}
@@ -11,5 +11,5 @@ use Rattle.edit_tables.proofs.matrix.dst_matrix.Goals as goal
 pub returns : goal.returns
 returns c = filled_holds c.filled.ensures
     (λ k j x hk hj p.
-    let e : x ≡ get_or c.lanes_dst-t.result (32 * (k % 2) + 2 * j + k / 2) (pos 0) = search rules in
-    e ∙ dst_entry k j c.lanes_dst-t.ensures hk hj)
+    let e : x ≡ get_or c.dst_matrix-t.result (4 * k + j) (pos 0) = search rules in
+    e ∙ dst_entry k j c.dst_matrix-t.ensures hk hj)
