@@ -3,7 +3,8 @@
 --   low_end, high_end     the ends of the range, as they are worked out
 --   Reaches z m           z lies in every range whose end 2^R is above m
 --   reaches_mag           a number reaches its size
---   AllReach, allReach-…  bits gathered from the first coefficients: the invariant of a loop that gathers them
+--   reach_inside          a number above the least value of the range by less than its width, in 32 bits, lies in it
+--   AllReach, all_reach_zero, all_reach_suc   bits gathered from the first coefficients: the invariant of a loop that gathers them
 --   none_flat             a block that has none in any column
 --   first_outside-inside   what a search that found none says of each place
 --   outside_at-row       the test at row k and column c
@@ -14,7 +15,7 @@ use mathlib.Core.Path.{◌≡◌, refl, sym, ap, ◌∙◌}
 use mathlib.Core.Bool.{Bool, true, false, ◌&&◌}
 use mathlib.Core.List.{List}
 use Prim.Native.Nat.{ℕ, ◌+◌, ◌*◌, ◌-◌, ◌%◌, ◌^◌, ◌≤◌, ◌<◌}
-use native.Mathlib.Nat.{not-suc-le-zero, suc-mul, lt_of_lt_of_le}
+use native.Mathlib.Nat.{not-suc-le-zero, pow-succ', suc-mul, lt_of_lt_of_le}
 use native.Mathlib.Numerals.{add-one}
 use native.Mathlib.Decide.{ℕ_discrete, dec_lt}
 use native.Mathlib.Omega.{arith}
@@ -28,7 +29,7 @@ use lib.Seq.{length-take-le, get_or-take}
 use lib.Pow.{pow_pos, pow_mono}
 use lib.Signed.{lt_z, mag}
 use mir.Syntax.{w32}
-use mir.Val.{SFits, to_z}
+use mir.Val.{SFits, to_z, of_z}
 use Rattle.std.specs.Prelude.{Ok, Err}
 use Rattle.integers.specs.Search.{first_where}
 use Rattle.integers.specs.Within.{Within}
@@ -51,6 +52,9 @@ pub range_fits : (r : ℕ) {z : ℤ} → r ≤ 22 → Within (2 ^ r) z → SFits
 range_fits r h w = within_fits {b = 4194304} tt (within_le (pow_mono h) w)
 
 -- ---- all at once
+twice : (r : ℕ) → 2 ^ (r + 1) ≡ 2 * 2 ^ r
+twice r = ap (λ (i : ℕ). 2 ^ i) (add-one r) ∙ pow-succ' 2 r
+
 pub record Reaches (z : ℤ) (m : ℕ) : Type 0 where
   pub inside : (r : ℕ) → m < 2 ^ r → outside_range r z ≡ false
 
@@ -73,23 +77,25 @@ reaches_mag (negsuc n) =
           (lt_z_of_le (le_out (negsuc n) (pos (2 ^ r) -ℤ pos 1) (omega (arith, parts_add (pos (2 ^ r)) (neg_ℤ (pos 1)), pow_pos r))));
     }
 
-reaches-left : {z : ℤ} (a b : ℕ) → Reaches z a → Reaches z (bit_or a b)
-reaches-left a b f = record { inside = λ r h. f.inside r (omega (arith, or_add_and a b, and_le_r a b)) }
+-- above the least value of the range by less than its width
+pub reach_inside : (r : ℕ) {x : ℤ} → r ≤ 22 → SFits w32 x → (of_z w32 x + 2 ^ r) % 4294967296 < 2 ^ (r + 1) → outside_range r x ≡ false
+reach_inside r {x = pos n} h f l = (reaches_mag (pos n)).inside r (omega (arith, f.sfits, l, twice r, pow_mono {j = 22} h))
+reach_inside r {x = negsuc n} h f l = (reaches_mag (negsuc n)).inside r (omega (arith, f.sfits, l, twice r, pow_mono {j = 22} h))
 
-reaches_right : {z : ℤ} (a b : ℕ) → Reaches z b → Reaches z (bit_or a b)
-reaches_right a b f = record { inside = λ r h. f.inside r (omega (arith, or_add_and a b, and_le_l a b)) }
+pub record AllReach (r : ℕ) (xs : List ℤ) (k bits : ℕ) : Type 0 where
+  pub at : (i : ℕ) → i < k → bits < 2 ^ (r + 1) → outside_range r (get_or xs i (pos 0)) ≡ false
 
-pub record AllReach (xs : List ℤ) (k bits : ℕ) : Type 0 where
-  pub at : (i : ℕ) → i < k → Reaches (get_or xs i (pos 0)) bits
+pub all_reach_zero : {r : ℕ} {xs : List ℤ} {bits : ℕ} → AllReach r xs 0 bits
+all_reach_zero = record { at = λ i h l. absurd (not-suc-le-zero h) }
 
-pub all_reach_zero : {xs : List ℤ} {bits : ℕ} → AllReach xs 0 bits
-all_reach_zero = record { at = λ i h. absurd (not-suc-le-zero h) }
-
-pub all_reach_suc : {xs : List ℤ} {k : ℕ} (bits b : ℕ) → AllReach xs k bits → Reaches (get_or xs k (pos 0)) b → AllReach xs (k + 1) (bit_or bits b)
-all_reach_suc {xs} {k} bits b f g =
+pub all_reach_suc : {r : ℕ} {xs : List ℤ} {k : ℕ} (bits b : ℕ) → AllReach r xs k bits → (b < 2 ^ (r + 1) → outside_range r (get_or xs k (pos 0)) ≡ false) → AllReach r xs (k + 1) (bit_or bits b)
+all_reach_suc {k = k} bits b f g =
     record {
-      at = λ i h.
-          elim (ℕ_discrete i k) [ yes q ↦ rw q (reaches_right bits b g) | no q ↦ reaches-left bits b (f.at i (omega arith)) ];
+      at = λ i h l.
+          elim (ℕ_discrete i k) [
+            | yes q ↦ rw q (g (omega (arith, l, or_add_and bits b, and_le_l bits b)))
+            | no q ↦ f.at i (omega arith) (omega (arith, l, or_add_and bits b, and_le_r bits b))
+          ];
     }
 
 -- ---- row by row

@@ -1,8 +1,8 @@
 // The range of coefficients, where a block has one outside it and on which side, and which rows are in use. Internal: the crates above call these and meet what they require.
 #![tactic(auto)]
 
-ghost use Rattle.std.specs.Prelude.{◌≡◌, true, false, ℕ, ◌*◌, ◌<◌, ◌≤◌, T, pos, get_or, length};
-ghost use Rattle.std.specs.Int.Signed.{lt_z, mag};
+ghost use Rattle.std.specs.Prelude.{◌≡◌, true, false, ℕ, ◌+◌, ◌*◌, ◌^◌, ◌<◌, ◌≤◌, T, pos, get_or, length};
+ghost use Rattle.std.specs.Int.Signed.{lt_z};
 ghost use Rattle.h265.specs.Range.{is_size, transform_range, coeff_min, outside_range};
 ghost use Rattle.coefficients.specs.Outside.{outside_refusal, InsideChecked, RowChecked};
 
@@ -53,14 +53,12 @@ pub fn outside_refusal(x: i32, range: u32, row: usize, column: usize) -> Refusal
     Refusal::CoefficientAbove(row as u8, column as u8)
 }
 
-// The size of x, counted from 0 for x ≥ 0 and from -1 below: x lies in the range where this is below 2^R.
-fn reach(x: i32) -> u32
-    ensures { result ≡ mag x }
+// How far x lies above the least value of the range, in 32 bits: a number past the range, on either side, is 2^(R+1) or more.
+fn reach(x: i32, range: u32) -> u32
+    requires { range ≤ 22 }
+    ensures { result < 2 ^ (range + 1) → outside_range range x ≡ false }
 {
-    if x < 0 {
-        return (-1 - x) as u32;
-    }
-    x as u32
+    x.wrapping_add(1i32 << range).cast_unsigned()
 }
 
 // `true` only where every coefficient lies in the range. `false` says nothing, and is left free: the caller then looks row by row, so that
@@ -72,9 +70,9 @@ fn all_inside(coeff: &[i32], range: u32) -> bool
 {
     let mut bits: u32 = 0;
     for x in coeff {
-        bits |= reach(*x);
+        bits |= reach(*x, range);
     }
-    bits < 1u32 << range
+    bits < 1u32 << (range + 1)
 }
 
 // Rows 9 and 19 of one row of the block.

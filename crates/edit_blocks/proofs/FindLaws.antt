@@ -29,8 +29,7 @@ use Rattle.h265.proofs.TransformLaws.{columns_read_in, cell_row, cell_column, ro
 use Rattle.transform_1d.specs.declared.Kind.{Kind}
 use Rattle.transform_1d.specs.declared.Kind.TheVariants.{Dct, Dst}
 use Rattle.transform_1d.specs.MatrixOf.{matrix_of}
-use Rattle.transform_1d.proofs.LanesLaws.{trans_matrix_within, dst_matrix_within}
-use Rattle.transform_1d.proofs.MatrixLaws.{transform_line_cong}
+use Rattle.transform_1d.proofs.MatrixLaws.{trans_matrix_within, dst_matrix_within, transform_line_cong}
 use Rattle.edit_values.specs.Values.{least_where, most_where}
 use Rattle.edit_values.specs.Sample.{stage_one_by, sample_by}
 use Rattle.edit_blocks.specs.Edits.{misses_at, has_target, edited_residual, gives_target, least_edit, most_edit}

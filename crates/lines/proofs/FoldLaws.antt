@@ -5,7 +5,7 @@
 --   fold                     the one law: twice the h-point line and twice the odd part make twice the 2h-point line
 --   fold_2 to fold_16        the same at each size
 --   dot_out, odds            dot products by the literal columns are the odd part
---   line_two                 the line of two points, where all starts
+--   two_first, two_plus, two_minus, line_two   the line of two points, where all starts
 use mathlib.Core.Path.{◌≡◌, refl, sym, ap, ap₂, ◌∙◌, subst}
 use mathlib.Core.List.{List, [], ◌∷◌}
 use Prim.Native.Nat.{ℕ, zero, suc, ◌+◌, ◌*◌, ◌-◌, ◌/◌, ◌≤◌, ◌<◌}
@@ -216,13 +216,28 @@ odds h st {xs} {z} e p =
     out m l = subst (λ (j : ℕ). OddOut h st xs j (get_or z m (pos 0))) (zero-add m) (each_at p m (omega arith))
 
 -- ---- the two-point line, where all starts
-module _ (st : ℕ) {xs : List ℤ} {a b r u v y z : ℤ} where
+pub two_first : {p r : ℤ} → Within 4194304 p → Within round_most r → SFits w32 (p +ℤ r)
+two_first e w = by_32 (within_le (omega arith) (within_add e w))
+
+module _ {p q r s : ℤ} (e : Within 4194304 p) (f : Within 4194304 q) (w : Within round_most r) (k : s ≡ p +ℤ r) where
+  two_both : Within (2 * value_most + round_most) (s +ℤ q)
+  two_both = within_le (omega arith) (within_add (within_eq k (within_add e w)) f)
+
+  two_less : Within (2 * value_most + round_most) (s -ℤ q)
+  two_less = within_le (omega arith) (within_add (within_eq k (within_add e w)) (within_neg f))
+
+  pub two_plus : SFits w32 (s +ℤ q)
+  two_plus = by_32 (within_le (omega arith) two_both)
+
+  pub two_minus : SFits w32 (s -ℤ q)
+  two_minus = by_32 (within_le (omega arith) two_less)
+
+module _ (st : ℕ) {xs : List ℤ} {a b r p q s y z : ℤ} where
   pub line_two : a ≡ get_or xs 0 (pos 0) → b ≡ get_or xs st (pos 0) → Within round_most r
-      → (u ≡ pos 128 *ℤ a +ℤ pos 128 *ℤ b) × Within (2 * value_most) u
-      → (v ≡ pos 128 *ℤ a +ℤ negsuc 127 *ℤ b) × Within (2 * value_most) v
-      → y ≡ u +ℤ r → z ≡ v +ℤ r → Twice 2 st xs r (y ∷ z ∷ [])
+      → (p ≡ pos 128 *ℤ a) × Within 4194304 p → (q ≡ pos 128 *ℤ b) × Within 4194304 q
+      → s ≡ p +ℤ r → y ≡ s +ℤ q → z ≡ s -ℤ q → Twice 2 st xs r (y ∷ z ∷ [])
   unfolding transform_line sum trans_matrix trans_matrix32 folded_entry folded_angle folding folding_values
-  line_two c d w e f g k = record { at = at; small = record { at = small } }
+  line_two c d w e f h g k = record { at = at; small = record { at = small } }
     where
       first : a ≡ get_or xs (st * 0) (pos 0)
       first = c ∙ ap (λ (i : ℕ). get_or xs i (pos 0)) (let q : 0 ≡ st * 0 = omega arith in q)
@@ -230,18 +245,24 @@ module _ (st : ℕ) {xs : List ℤ} {a b r u v y z : ℤ} where
       second : b ≡ get_or xs (st * 1) (pos 0)
       second = d ∙ ap (λ (i : ℕ). get_or xs i (pos 0)) (let q : st ≡ st * 1 = omega arith in q)
 
-      plus : (p q : ℤ) → pos 128 *ℤ p +ℤ pos 128 *ℤ q ≡ pos 2 *ℤ (pos 0 +ℤ pos 64 *ℤ p +ℤ pos 64 *ℤ q)
-      plus p q = rw (← split p, ← split q) (simp ring (diff_ext _ _ _ _ (omega arith)))
+      begun : s ≡ pos 128 *ℤ get_or xs (st * 0) (pos 0) +ℤ r
+      begun = h ∙ ap (λ (x : ℤ). x +ℤ r) (e.0 ∙ ap (λ (x : ℤ). pos 128 *ℤ x) first)
 
-      minus : (p q : ℤ) → pos 128 *ℤ p +ℤ negsuc 127 *ℤ q ≡ pos 2 *ℤ (pos 0 +ℤ pos 64 *ℤ p +ℤ negsuc 63 *ℤ q)
-      minus p q = rw (← split p, ← split q) (simp ring (diff_ext _ _ _ _ (omega arith)))
+      other : q ≡ pos 128 *ℤ get_or xs (st * 1) (pos 0)
+      other = f.0 ∙ ap (λ (x : ℤ). pos 128 *ℤ x) second
+
+      plus : (u v : ℤ) → pos 128 *ℤ u +ℤ r +ℤ pos 128 *ℤ v ≡ pos 2 *ℤ (pos 0 +ℤ pos 64 *ℤ u +ℤ pos 64 *ℤ v) +ℤ r
+      plus u v = rw (← split u, ← split v, ← split r) (simp ring (diff_ext _ _ _ _ (omega arith)))
+
+      minus : (u v : ℤ) → pos 128 *ℤ u +ℤ r -ℤ pos 128 *ℤ v ≡ pos 2 *ℤ (pos 0 +ℤ pos 64 *ℤ u +ℤ negsuc 63 *ℤ v) +ℤ r
+      minus u v = rw (← split u, ← split v, ← split r) (simp ring (diff_ext _ _ _ _ (omega arith)))
 
       at : (m : ℕ) → m < 2 → get_or (y ∷ z ∷ []) m (pos 0) ≡ pos 2 *ℤ transform_line (trans_matrix 2) 2 (λ k. get_or xs (st * k) (pos 0)) m +ℤ r
-      at zero l = g ∙ ap (λ (x : ℤ). x +ℤ r) (e.0 ∙ ap₂ (λ (p q : ℤ). pos 128 *ℤ p +ℤ pos 128 *ℤ q) first second ∙ plus (get_or xs (st * 0) (pos 0)) (get_or xs (st * 1) (pos 0)))
-      at (suc zero) l = k ∙ ap (λ (x : ℤ). x +ℤ r) (f.0 ∙ ap₂ (λ (p q : ℤ). pos 128 *ℤ p +ℤ negsuc 127 *ℤ q) first second ∙ minus (get_or xs (st * 0) (pos 0)) (get_or xs (st * 1) (pos 0)))
+      at zero l = g ∙ ap₂ ◌+ℤ◌ begun other ∙ plus (get_or xs (st * 0) (pos 0)) (get_or xs (st * 1) (pos 0))
+      at (suc zero) l = k ∙ ap₂ ◌-ℤ◌ begun other ∙ minus (get_or xs (st * 0) (pos 0)) (get_or xs (st * 1) (pos 0))
       at (suc (suc m)) l = absurd (let b : ⊥ = omega arith in b)
 
       small : (i : ℕ) → Within (2 * value_most + round_most) (get_or (y ∷ z ∷ []) i (pos 0))
-      small zero = within_eq g (within_add e.1 w)
-      small (suc zero) = within_eq k (within_add f.1 w)
+      small zero = within_eq g (two_both e.1 f.1 w h)
+      small (suc zero) = within_eq k (two_less e.1 f.1 w h)
       small (suc (suc i)) = within_pos (omega arith)

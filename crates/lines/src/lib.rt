@@ -1,12 +1,14 @@
-// Lines of 2 to 32 points by even and odd parts, at twice their value, on 16-bit data, four columns at a time. x holds the first values of four
-// lines, and those past its end are zero: all of a line, or its first part (half of 8 points, a quarter of 16 and 32). A line of n points reads every
-// st-th value. r is added to each output, since a line's even part is the one place where it is added once for two outputs.
+// Lines of 2 to 32 points by even and odd parts, and the 4-point DST's line by four entries for each output, at twice their value, on 16-bit data,
+// four columns at a time. x holds the first values of four lines, and those past its end are zero: all of a line, or its first part (half of 8
+// points, a quarter of 16 and 32). A line of n points reads every st-th value, and the DST's its four. r is added to each output, since a line's
+// even part is the one place where it is added once for two outputs.
 #![tactic(auto)]
 
-ghost use Rattle.std.specs.Prelude.{◌≡◌, ℕ, ◌*◌, ◌/◌, ◌<◌, ◌≤◌, pos, ◌+ℤ◌, ◌*ℤ◌, length, get_or};
+ghost use Rattle.std.specs.Prelude.{◌≡◌, ℕ, ◌+◌, ◌*◌, ◌/◌, ◌<◌, ◌≤◌, pos, ◌+ℤ◌, ◌*ℤ◌, length, get_or};
 ghost use Rattle.integers.specs.Within.{Within};
+ghost use Rattle.h265.specs.Matrix.{dst_matrix};
 ghost use Rattle.vectors.specs.Lanes.{lane, column};
-ghost use Rattle.lines.specs.Fold.{value_most, round_most, dot_sum, Small, DotNeeds, Paired, FoldNeeds, Folded, Twice, TwiceOdd};
+ghost use Rattle.lines.specs.Fold.{value_most, round_most, dot_sum, product_sum, Small, DotNeeds, Paired, FoldNeeds, Folded, TwiceBy, Twice, TwiceOdd};
 
 use vectors::{Sums, Values, products};
 
@@ -73,12 +75,9 @@ fn line_2(x: &[Values], st: usize, r: Sums) -> [Sums; 2]
     requires { (j : ℕ) → Within round_most (lane j r.v) }
     ensures { (j : ℕ) → Twice 2 st (column (λ q. q.v) j x.now) (lane j r.v) (column (λ q. q.v) j result) }
 {
-    let a = value(x, 0);
-    let b = value(x, st);
-    [
-        products(128, a, 128, b).plus(r),
-        products(128, a, -128, b).plus(r),
-    ]
+    let a = value(x, 0).times_128().plus(r);
+    let b = value(x, st).times_128();
+    [a.plus(b), a.minus(b)]
 }
 
 #[inline(always)]
@@ -90,13 +89,38 @@ fn odd_4(x: &[Values], st: usize) -> [Sums; 2]
 }
 
 #[inline(always)]
-fn line_4(x: &[Values], st: usize, r: Sums) -> [Sums; 4]
+pub fn line_4(x: &[Values], st: usize, r: Sums) -> [Sums; 4]
     requires { (1 ≤ st) × (4 * st ≤ 32) × (length x.now ≤ 4 * st) × ((j : ℕ) → Within round_most (lane j r.v)) }
     ensures { (j : ℕ) → Twice 4 st (column (λ q. q.v) j x.now) (lane j r.v) (column (λ q. q.v) j result) }
 {
     let e = line_2(x, 2 * st, r);
     let o = odd_4(x, st);
     fold(&e, &o)
+}
+
+// One output of four values, by four entries.
+#[inline(always)]
+fn four(x: &[Values; 4], t: [i16; 4], r: Sums) -> Sums
+    requires { Small 180 t × ((j : ℕ) → Within round_most (lane j r.v)) }
+    ensures { (j : ℕ) → (lane j result.v ≡ product_sum 4 t (column (λ q. q.v) j x.now) +ℤ lane j r.v) × Within (4 * value_most + round_most) (lane j result.v) }
+{
+    products(t[0], x[0], t[1], x[1])
+        .plus(products(t[2], x[2], t[3], x[3]))
+        .plus(r)
+}
+
+// The 4-point DST, whose rows have no mirror: every output by four entries, which are twice the matrix's.
+#[inline(always)]
+pub fn line_dst(x: &[Values; 4], r: Sums) -> [Sums; 4]
+    requires { (j : ℕ) → Within round_most (lane j r.v) }
+    ensures { (j : ℕ) → TwiceBy dst_matrix 4 1 (column (λ q. q.v) j x.now) (lane j r.v) (column (λ q. q.v) j result) }
+{
+    [
+        four(x, [58, 148, 168, 110], r),
+        four(x, [110, 148, -58, -168], r),
+        four(x, [148, 0, -148, 148], r),
+        four(x, [168, -148, 110, -58], r),
+    ]
 }
 
 #[inline(always)]

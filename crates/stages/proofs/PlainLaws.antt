@@ -4,10 +4,10 @@
 --   result_size                a block's result, by another name of its size
 --   plain_needs_block             what the plain range asks covers what a block asks
 --   result_dct, result_size_4  a block's result is the residual of its kind
---   layout_of, kind_abs_sum    the layout of a kind of 4 points, and how large its entries are
+--   kind_abs_sum               how large the entries of a kind of 4 points are
 --   first_inside, first_fits, times_64   the first coefficient, and 64 times it
 --   dc_residual, dc_result  one coefficient alone: every output is the same
-use mathlib.Core.Path.{◌≡◌, refl, sym, ap, ◌∙◌, subst}
+use mathlib.Core.Path.{◌≡◌, sym, ap, ◌∙◌, subst}
 use mathlib.Core.List.{List}
 use Prim.Native.Nat.{ℕ, ◌*◌, ◌-◌, ◌/◌, ◌%◌, ◌<◌}
 use native.Mathlib.Nat.{zero-mul, add-zero, mul-le-mul}
@@ -25,14 +25,12 @@ use Rattle.integers.proofs.BoundLaws.{within_lit_mul, within_sfits}
 use Rattle.integers.proofs.ListsLaws.{overwrite_cong}
 use Rattle.integers.proofs.OrderLaws.{≤ℤ_trans}
 use Rattle.h265.specs.Range.{clip_coeff}
-use Rattle.h265.specs.Matrix.{trans_matrix32, trans_matrix, dst_matrix, abs_sum}
+use Rattle.h265.specs.Matrix.{trans_matrix32, trans_matrix, abs_sum}
 use Rattle.h265.specs.Transform.{transform_line, block_at, row_order, columns_read, stage_one_sum, stage_one_value, intermediate, stage_two_sum, stage_two_shift, stage_two, residual}
 use Rattle.transform_1d.specs.declared.Kind.{Kind}
 use Rattle.transform_1d.specs.declared.Kind.TheVariants.{Dct, Dst}
 use Rattle.transform_1d.specs.MatrixOf.{matrix_of}
-use Rattle.transform_1d.specs.Lanes.{lanes}
-use Rattle.transform_1d.proofs.LanesLaws.{trans_matrix_within, dst_matrix_within}
-use Rattle.transform_1d.proofs.MatrixLaws.{Laid, laid, trans_matrix-abs_sum_4, dst_matrix-abs_sum}
+use Rattle.transform_1d.proofs.MatrixLaws.{trans_matrix-abs_sum_4, dst_matrix-abs_sum}
 use Rattle.stages.specs.Plain.{PlainNeeds}
 use Rattle.coefficients.specs.Rows.{RowsUsed}
 use Rattle.stages.specs.Passes.{shifted_residual, BlockNeeds}
@@ -72,12 +70,7 @@ pub result_size_4 : (kind : Kind) {n : ℕ} (b nx : ℕ) (coeff out r : List ℤ
 unfolding residual shifted_residual stage_two_shift
 result_size_4 kind b nx coeff out r e h = subst (λ (i : ℕ). Plain kind i b nx coeff out r) (sym e) h
 
--- ---- layouts of both kinds of 4 points
-pub layout_of : (kind : Kind) (xs : List ℤ) → xs ≡ lanes (matrix_of kind 4) 4 → Laid (matrix_of kind 4) 4 xs
-unfolding matrix_of
-layout_of Dct xs e = laid (trans_matrix 4) 4 e (trans_matrix_within 4) (omega arith) refl (omega arith)
-layout_of Dst xs e = laid dst_matrix 4 e dst_matrix_within (omega arith) refl (omega arith)
-
+-- ---- both kinds of 4 points
 pub kind_abs_sum : (kind : Kind) (m : ℕ) → m < 4 → abs_sum (matrix_of kind 4) 4 m ≤ℤ pos 1862
 unfolding matrix_of
 kind_abs_sum Dct m l = ≤ℤ_trans {y = pos 247} (trans_matrix-abs_sum_4 m l) (record { le = tt })

@@ -19,20 +19,18 @@ use tiles_quarter::{Quarter8, Quarter16, Quarter32};
 use transform_1d::{Kind, stage_two_shift};
 
 pub mod sample; // the two widths of coefficients and residuals
-mod scan; // coefficients as they are read
-mod finish; // rounding and storing of a line's outputs
-mod passes; // one stage of a block of size 4
+mod scan; // whether the first row is the only one
 mod blocks; // both stages of a block
 
-// The DCT of a block of any size.
+// The DCT of a block from 8 points on.
 // Kept: `V.least_shift ≤ s` beside `BlockNeeds`, here and in blocks.rt: it is asked of the width, and all else of the block.
 // Kept: a `match` on the size: its arms name the types and const arguments of a size, which no value carries.
+#[inline(never)]
 fn dct_sized<V: Sample>(coeff: &[V], n: usize, nx: usize, s: u32, out: &mut [V])
-    requires { T (is_size n) × BlockNeeds n s nx (map V.value coeff.now) (length out.old) × (V.least_shift ≤ s) }
+    requires { T (is_size n) × (8 ≤ n) × BlockNeeds n s nx (map V.value coeff.now) (length out.old) × (V.least_shift ≤ s) }
     ensures { map V.value out.new ≡ overwrite (n * n) (row_order n (shifted_residual (trans_matrix n) n s nx (map V.value coeff.now))) (map V.value out.old) }
 {
     match n {
-        4 => blocks::block_4(Kind::Dct, coeff, nx, s, out),
         8 => blocks::block_dct::<V, Whole8, Quarter8, 64, 32>(coeff, nx, s, out),
         16 => blocks::block_dct::<V, Whole16, Quarter16, 256, 64>(coeff, nx, s, out),
         _ => blocks::block_dct::<V, Whole32, Quarter32, 1024, 256>(coeff, nx, s, out),
@@ -40,12 +38,16 @@ fn dct_sized<V: Sample>(coeff: &[V], n: usize, nx: usize, s: u32, out: &mut [V])
 }
 
 // The DCT of a block of any size; one coefficient alone fills it.
+// Kept: 4 points here and not in `dct_sized`, which is not put inside: its buffers, and what they take to begin and end a call, would cost the smallest block, and one coefficient, a tenth.
+#[inline(always)]
 fn dct_plain<V: Sample>(coeff: &[V], n: usize, nx: usize, s: u32, out: &mut [V])
     requires { T (is_size n) × BlockNeeds n s nx (map V.value coeff.now) (length out.old) × (V.least_shift ≤ s) }
     ensures { map V.value out.new ≡ overwrite (n * n) (row_order n (shifted_residual (trans_matrix n) n s nx (map V.value coeff.now))) (map V.value out.old) }
 {
     if nx == 1 && first_row_alone(coeff, n) {
         blocks::dc_fill(coeff, n, s, out);
+    } else if n == 4 {
+        blocks::block_4(Kind::Dct, coeff, nx, s, out);
     } else {
         dct_sized(coeff, n, nx, s, out);
     }
@@ -53,6 +55,7 @@ fn dct_plain<V: Sample>(coeff: &[V], n: usize, nx: usize, s: u32, out: &mut [V])
 
 // The residual of a block at depths at which it fits: in 16 bits at 8 and 9.
 // Kept: kind, size and depth apart: the shift and the stages each take some of them, and a struct would be taken apart here.
+#[inline(always)]
 pub fn residual_plain<V: Sample>(
     kind: Kind,
     n: usize,

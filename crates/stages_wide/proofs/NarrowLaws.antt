@@ -20,9 +20,9 @@ use Rattle.h265.specs.Transform.{transform_line, block_at}
 use Rattle.h265.proofs.TransformLaws.{transform_line_cong}
 use Rattle.transform_1d.specs.Rows.{Filled}
 use Rattle.transform_1d.proofs.RowsLaws.{filled_cong}
-use Rattle.tiles.specs.Tile.{line_value}
+use Rattle.tiles.specs.Tile.{line_by, line_value}
 use Rattle.integers.specs.Within.{Narrow}
-use Rattle.wide_parts.proofs.SplitLaws.{clip_coeff_narrow}
+use Rattle.wide_parts.proofs.NarrowLaws.{clip_coeff_narrow}
 use Rattle.stages_wide.specs.Wide.{limited_block}
 use Rattle.stages_wide.specs.Parts.{stage_of, ColumnPlaced, NarrowColumn}
 
@@ -45,7 +45,7 @@ narrow_column_all {n} {c} m {xs = xs} e p = subst (λ (k : ℕ). NarrowColumn n 
 pub narrow_stage : (n r s : ℕ) (l : List ℤ) {count : ℕ} {h : ℤ} {out out₂ : List ℤ} → 15 ≤ r → h ≡ pow2 (s - 1)
     → ((k c : ℕ) → k < n → c < count → SFits w16 (get_or l (k * n + c) (pos 0)))
     → Filled n n (line_value n h s l) count out out₂ → Filled n n (stage_of (trans_matrix n) n (limited_block r n l) s) count out out₂
-unfolding line_value round_shift block_at
+unfolding line_by round_shift block_at
 narrow_stage n r s l {h = h} least e f p =
     filled_cong
     (λ c m a b. ap (λ (v : ℤ). shift_right (v +ℤ h) s)

@@ -1,4 +1,5 @@
 -- Laws of lines in 32-bit products.
+--   placed_run                             what a run from place 0 on has placed
 --   limited_up_to_in, -past, -small          a value that is read, one that is not, and the size of both
 --   limited_values                         what limiting the first values into zeros leaves
 --   limited_needs_products, filled-limited    lines over limited values meet what they ask, and give what is said of the values
@@ -10,7 +11,7 @@
 use mathlib.Core.Path.{◌≡◌, refl, sym, ap, ◌∙◌}
 use mathlib.Core.List.{List, [], ◌∷◌}
 use Prim.Native.Nat.{ℕ, zero, suc, ◌+◌, ◌*◌, ◌^◌, ◌≤◌, ◌<◌}
-use native.Mathlib.Nat.{not-suc-le-zero}
+use native.Mathlib.Nat.{not-suc-le-zero, zero-add}
 use native.Mathlib.Decide.{dec_lt}
 use native.Mathlib.Omega.{arith}
 use borrow.Author.Tests.{lt-ltb, le-ltb}
@@ -21,7 +22,6 @@ use Rattle.integers.specs.Within.{Within}
 use Rattle.integers.proofs.BoundLaws.{within_eq, within_le, within_pos}
 use Rattle.h265.specs.Range.{clip_coeff}
 use Rattle.h265.specs.Transform.{block_at, stage_one_sum, stage_one_value, intermediate}
-use Rattle.wide_parts.proofs.SplitLaws.{placed_run}
 use Rattle.stages_wide.specs.Wide.{limited_block}
 use Rattle.lines_wide.specs.Values.{WideValues, WideOutputs}
 use Rattle.transform_1d.specs.Rows.{Placed, Filled}
@@ -32,6 +32,9 @@ use Rattle.stages_wide.specs.Products.{limited_up_to, matrix_value, Picked, Roun
 use Rattle.stages_wide.proofs.PartsLaws.{limited_within}
 use Rattle.stages_wide.proofs.StageLaws.{place-column, place_inside}
 use Rattle.stages_wide.proofs.ColumnLaws.{column_placed_cong, column_of_length}
+
+placed_run : {w : ℕ} {f : ℕ → ℤ} {xs ys : List ℤ} → Placed 0 w f xs ys → (i : ℕ) → i < w → get_or ys i (pos 0) ≡ f i
+placed_run {ys = ys} p i h = ap (λ (k : ℕ). get_or ys k (pos 0)) (sym (zero-add i)) ∙ p.done i h
 
 pub limited_up_to_in : (r : ℕ) (xs : List ℤ) (w i : ℕ) → i < w → limited_up_to r xs w i ≡ limited_at r xs i
 unfolding limited_up_to

@@ -28,7 +28,7 @@ use Rattle.h265.proofs.TransformLaws.{transform_line_cong}
 use Rattle.coefficients.specs.Rows.{RowsUsed}
 use Rattle.transform_1d.specs.Rows.{Filled}
 use Rattle.transform_1d.proofs.RowsLaws.{filled_cong}
-use Rattle.tiles.specs.Tile.{line_value}
+use Rattle.tiles.specs.Tile.{line_by}
 use Rattle.tiles_wide.specs.Pass.{limited_list, PassGives}
 use Rattle.tiles_wide.proofs.PassLaws.{limited_in, limited-past}
 use Rattle.stages_wide.specs.Wide.{limited_block}
@@ -79,7 +79,7 @@ module _ (q n r : ℕ) (xs : List ℤ) {count : ℕ} (h : count ≤ n) (z : (k c
       ]
 
   pub pass_rows : (s : ℕ) {out out₂ : List ℤ} → PassGives q n r count s xs out out₂ → Filled n n (stage_of (trans_matrix n) n (limited_block r n xs) s) count out out₂
-  unfolding line_value round_shift block_at
+  unfolding line_by round_shift block_at
   pass_rows s p =
       filled_cong
       (λ c m a b. ap (λ (v : ℤ). shift_right (v +ℤ pow2 (s - 1)) s)

@@ -22,7 +22,6 @@ fn limit(s: &[i32], range: u32, x: &mut [i32])
 }
 
 // w sums, rounded, from place at on.
-// Kept: no twin of `put_rounded` in `stages`, whose sums stand in two halves that are added first.
 // Kept: w and at beside the slices: with w a constant the loop is written out before its caller is shaped, and a block of 4 points takes two fifths
 // longer; of a part of out that is lent, each clause would say too that what is around it stays.
 pub fn put_rounded(z: &[i32], w: usize, shift: u32, out: &mut [i32], at: usize)

@@ -6,7 +6,6 @@ ghost use Rattle.h265.specs.Transform.{intermediate, stage_two};
 ghost use Rattle.transform_1d.specs.MatrixOf.{matrix_of};
 ghost use Rattle.transform_1d.specs.Rows.{Filled};
 ghost use Rattle.coefficients.specs.Rows.{RowsUsed};
-ghost use Rattle.tiles_wide.specs.Pass.{PassSizes};
 ghost use Rattle.stages_wide.specs.Wide.{limited_block};
 ghost use Rattle.stages_wide.specs.Parts.{ColumnPlaced, SizeNeeds, WholeStage, StagesNeeds, both_stages};
 
@@ -53,21 +52,15 @@ pub fn column_4(kind: Kind, coeff: &[i32], range: u32, column: usize, inter: &mu
     put_column(&r[..], range, inter, column);
 }
 
-// Both stages of a block of which the first S.ROWS rows and columns are used: A of its G values.
+// Both stages of a block of which the first S.ROWS rows and columns are used: A of its values.
 // Kept: shift, range and nx apart, as in products.rt.
-fn both<S: Stage, const A: usize, const G: usize>(
-    shift: u32,
-    range: u32,
-    nx: usize,
-    coeff: &[i32],
-    out: &mut [i32],
-)
-    requires { StagesNeeds S.POINTS shift range nx (length coeff.now) (length out.old) × PassSizes S.ROWS S.POINTS A G × (nx ≤ S.ROWS) × RowsUsed coeff.now S.POINTS nx S.ROWS }
+fn both<S: Stage, const A: usize>(shift: u32, range: u32, nx: usize, coeff: &[i32], out: &mut [i32])
+    requires { StagesNeeds S.POINTS shift range nx (length coeff.now) (length out.old) × (A ≡ S.ROWS * S.POINTS) × (nx ≤ S.ROWS) × RowsUsed coeff.now S.POINTS nx S.ROWS }
     ensures { Filled S.POINTS S.POINTS (both_stages (trans_matrix S.POINTS) S.POINTS shift range nx coeff.now) S.POINTS out.old out.new }
 {
     let mut g = [0i32; A];
-    pass::<S, A, G>(coeff, range, nx, 7, &mut g[..]);
-    pass::<S, A, G>(&g[..], range, S::POINTS, shift, out);
+    pass::<S, A>(coeff, range, nx, 7, &mut g[..]);
+    pass::<S, A>(&g[..], range, S::POINTS, shift, out);
 }
 
 // Both stages of a block, by the rows and columns in use: all of them, or B values of A.
@@ -82,9 +75,9 @@ pub fn stages<W: Stage, Q: Stage, const A: usize, const B: usize>(
     ensures { Filled W.POINTS W.POINTS (both_stages (trans_matrix W.POINTS) W.POINTS shift range nx coeff.now) W.POINTS out.old out.new }
 {
     if nx <= Q::ROWS && rest_zero(coeff, B, A) {
-        both::<Q, B, A>(shift, range, nx, coeff, out);
+        both::<Q, B>(shift, range, nx, coeff, out);
     } else {
-        both::<W, A, A>(shift, range, nx, coeff, out);
+        both::<W, A>(shift, range, nx, coeff, out);
     }
 }
 
@@ -95,7 +88,7 @@ fn wide_rows<S: Stage, const A: usize>(inter: &[i32], range: u32, shift: u32, ou
 {
     let mut g = [0i32; A];
     turn(inter, S::POINTS, &mut g[..]);
-    pass::<S, A, A>(&g[..], range, S::POINTS, shift, out);
+    pass::<S, A>(&g[..], range, S::POINTS, shift, out);
 }
 
 // The same; values that fit 16 bits are narrowed as they are turned over.
@@ -118,7 +111,7 @@ pub fn columns<S: Stage, const A: usize>(coeff: &[i32], range: u32, inter: &mut 
     ensures { Filled S.POINTS S.POINTS (intermediate (trans_matrix S.POINTS) S.POINTS range (limited_block range S.POINTS coeff.now)) S.POINTS inter.old inter.new }
 {
     let mut g = [0i32; A];
-    pass::<S, A, A>(coeff, range, S::POINTS, 7, &mut g[..]);
+    pass::<S, A>(coeff, range, S::POINTS, 7, &mut g[..]);
     put_columns(&g[..], S::POINTS, range, inter);
 }
 
@@ -150,7 +143,7 @@ fn wide_column<S: Stage, const A: usize, const N: usize>(
     let mut x = [0i32; A];
     let mut r = [0i32; N];
     take_column(coeff, N, column, &mut x[..]);
-    pass::<S, A, A>(&x[..], range, 1, 7, &mut r[..]);
+    pass::<S, A>(&x[..], range, 1, 7, &mut r[..]);
     put_column(&r[..], range, inter, column);
 }
 

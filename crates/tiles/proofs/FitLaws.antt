@@ -1,7 +1,8 @@
 -- Which sums of a line fit once they are shifted: the laws of both widths.
 --   round_shift_fits    16 bits hold a sum of at most 1862 × 2^15, shifted by 11 or 12
 --   clip_fits           what fits 16 bits is not changed by the limit
---   sums_as_they_are    so in 32 bits no sum is limited
+--   read_as_they_are, read_unlimited   so no such number is limited as it is read
+--   sums_as_they_are    in 32 bits no sum is limited
 --   sums_unlimited      and in 16 none after such a shift
 use mathlib.Core.Path.{◌≡◌, refl}
 use Prim.Native.Nat.{ℕ, ◌+◌, ◌≤◌}
@@ -45,6 +46,12 @@ clip_fits {z} f = clip_inside z (lt_z_of_le (above z f)) (lt_z_of_le (below z f)
     below (negsuc n) f = le_out (negsuc 32767) (negsuc n) (omega (arith, f.sfits))
 
 -- the laws of the two widths
+pub read_as_they_are : (x : ℤ) → SFits w16 x → x ≡ x
+read_as_they_are x f = refl
+
+pub read_unlimited : (x : ℤ) → SFits w16 x → clip_coeff 15 x ≡ x
+read_unlimited x f = clip_fits f
+
 pub sums_as_they_are : (s : ℕ) (x : ℤ) → 0 ≤ s → s ≤ 12 → Within 61014016 x → round_shift x s ≡ round_shift x s
 sums_as_they_are s x a b w = refl
 

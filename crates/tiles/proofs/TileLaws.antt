@@ -1,8 +1,9 @@
 -- Laws of tiles.
 --   shift_twice        twice a sum, shifted by one place more, is the sum shifted
 --   head_of            the first values of a column, copied by a loop
---   head_values        they read as the column
---   line_value-intermediate   what stage one writes is the intermediate of the definitions
+--   rows_in, rows_past, rows_whole   what the first rows of a list read as
+--   head_values        the first values of a column read as a column of the first rows
+--   line_by-stage_two, line_by-intermediate   rounded lines are stage two, and limited what stage one writes, of the definitions
 --   line_row           a line over a column, rounded, is a row of the stage
 --   block_more, block_if   one row of a block more, or where it is not one of them none
 --   block_wide         a block beside a block
@@ -10,19 +11,22 @@
 use mathlib.Core.Path.{◌≡◌, refl, sym, ap, ap₂, ◌∙◌, subst}
 use mathlib.Core.Bool.{cond}
 use mathlib.Core.List.{List, [], ◌∷◌, map}
-use Prim.Native.Nat.{ℕ, zero, suc, ◌+◌, ◌*◌, ◌-◌, ◌/◌, ◌^◌, ◌≤◌, ◌<◌}
+use Prim.Native.Nat.{ℕ, zero, suc, ◌+◌, ◌*◌, ◌-◌, ◌/◌, ◌%◌, ◌^◌, ◌≤◌, ◌<◌}
 use native.Mathlib.Nat.{pow-succ', one-mul, mul-le-mul_right, mul-div-mul_left, div-div-eq-div-mul, not-suc-le-zero}
 use native.Mathlib.Decide.{ℕ_discrete, dec_lt}
 use native.Mathlib.Numerals.{add-one}
 use native.Mathlib.Omega.{arith}
+use lib.Arith.{digits_lt}
 use lib.IntN.{ℤ, pos, negsuc, ◌+ℤ◌, ◌*ℤ◌}
-use lib.ListN.{get_or, length, get_or-eq_default}
+use lib.ListN.{get_or, length, set, get_or-eq_default}
+use lib.Seq.{ext_get_or, get_or-set_same, get_or-set_other}
 use Rattle.std.specs.Cmp.{ranks}
 use Rattle.std.proofs.Common.{Ordering, Less, Equal, Greater}
 use Rattle.std.specs.Ordering.{MatchOrdering, ord_min, nat_cmp, is_lt}
-use Rattle.std.proofs.lemmas.List.{map-id, get_or-map}
+use Rattle.std.proofs.lemmas.List.{map-id, map-set, length-map, get_or-map}
 use lib.Signed.{shr_z}
 use Rattle.integers.specs.Shift.{pow2, shift_right, round_shift}
+use Rattle.integers.specs.Lists.{tabulate}
 use Rattle.integers.specs.Within.{Within}
 use Rattle.integers.proofs.BoundLaws.{within_eq, within_pos, within_fits, within_lit_mul}
 use mir.Syntax.{w32}
@@ -30,18 +34,17 @@ use mir.Val.{to_z, of_z, SFits}
 use mir.Facts.{to_z-of_z}
 use Rattle.integers.proofs.LinearLaws.{parts_ext, parts_mul}
 use Rattle.integers.proofs.OrderLaws.{*ℤ-+ℤ}
-use Rattle.integers.proofs.ListsLaws.{Stored, stored_length, stored_all, overwrite-get_or}
-use Rattle.h265.specs.Matrix.{trans_matrix}
+use Rattle.integers.proofs.ListsLaws.{tabulate-length, tabulate-get_or, Stored, stored_length, stored_all, overwrite-get_or}
 use Rattle.h265.specs.Transform.{transform_line, block_at, stage_one_sum, stage_one_value, intermediate, stage_two, stage_two_sum}
 use Rattle.h265.specs.Range.{clip_coeff}
 use Rattle.h265.proofs.TransformLaws.{transform_line_cong}
-use Rattle.lines.specs.Fold.{round_most, Twice}
+use Rattle.lines.specs.Fold.{round_most, TwiceBy}
 use Rattle.transform_1d.specs.Rows.{Placed, Filled}
 use Rattle.transform_1d.proofs.RowsLaws.{row_unique, filled-all}
 use Rattle.std.proofs.Math.Nat.{add-mul}
 use Rattle.std.proofs.Common.{mul-le-mul}
 use Rattle.vectors.specs.Lanes.{lane, column, four_of, eight_of, Turned}
-use Rattle.tiles.specs.Tile.{line_value, Head, Values, Block}
+use Rattle.tiles.specs.Tile.{first_rows, line_by, paired, Head, Values, Block}
 
 -- ---- rounding
 shr_twice : (z : ℤ) (m : ℕ) → shr_z (pos 2 *ℤ z) (2 * m) ≡ shr_z z m
@@ -75,26 +78,42 @@ head_of {q} n {xs} {c} {r₀} {r} s l e =
       at = λ k h. stored_at s e k h;
     }
 
+-- ---- the first rows of a list
+pub rows_in : (q n : ℕ) (xs : List ℤ) (i : ℕ) → i < q * n → get_or (first_rows q n xs) i (pos 0) ≡ get_or xs i (pos 0)
+unfolding first_rows
+rows_in q n xs i h = tabulate-get_or (q * n) (λ i. get_or xs i (pos 0)) i (pos 0) h
+
+pub rows_past : (q n : ℕ) (xs : List ℤ) (i : ℕ) → q * n ≤ i → get_or (first_rows q n xs) i (pos 0) ≡ pos 0
+unfolding first_rows
+rows_past q n xs i h = get_or-eq_default (tabulate (q * n) (λ i. get_or xs i (pos 0))) (pos 0) (omega (arith, tabulate-length (q * n) (λ i. get_or xs i (pos 0))))
+
+-- of a list that has no more they are the whole of it
+pub rows_whole : (q n : ℕ) (xs : List ℤ) → length xs ≡ q * n → first_rows q n (map (λ x. x) xs) ≡ xs
+unfolding first_rows
+rows_whole q n xs e =
+    ap (first_rows q n) (map-id xs)
+    ∙ ext_get_or (pos 0) (first_rows q n xs) xs (tabulate-length (q * n) (λ i. get_or xs i (pos 0)) ∙ sym e)
+    (λ i l. rows_in q n xs i (omega (arith, l, tabulate-length (q * n) (λ i. get_or xs i (pos 0)))))
+
 -- past the values that are there both read as zero
-pub head_values : {q n : ℕ} {xs : List ℤ} {c : ℕ} {r : List ℤ} → length xs ≡ q * n → Head q n xs c r → Values n xs c r
-head_values {q} {n} {xs} {c} {r} e p =
+pub head_values : {q n : ℕ} {xs : List ℤ} {c : ℕ} {r : List ℤ} → c < n → Head q n xs c r → Values n (first_rows q n xs) c r
+head_values {q} {n} {xs} {c} {r} o p =
     record {
       at = λ k a.
           elim (dec_lt k q) [
-            | yes y ↦ p.at k y
-            | no d ↦ get_or-eq_default r (pos 0) (omega (arith, p.long))
-                ∙ sym (get_or-eq_default xs (pos 0) (omega (arith, e, mul-le-mul_right n (let l : q ≤ k = omega arith in l))))
+            | yes y ↦ p.at k y ∙ sym (rows_in q n xs (k * n + c) (digits_lt {q = k} {m = q} {r = c} {c = n} y o))
+            | no d ↦ get_or-eq_default r (pos 0) (omega (arith, p.long)) ∙ sym (rows_past q n xs (k * n + c) (omega (arith, mul-le-mul_right n (let l : q ≤ k = omega arith in l))))
           ];
     }
 
-pub line_row : {n : ℕ} (h : ℤ) (s : ℕ) {xs : List ℤ} {c : ℕ} {r z : List ℤ} {tw : ℤ} → Values n xs c r → Twice n 1 r tw z → tw ≡ pos 2 *ℤ h
-    → (m : ℕ) → m < n → shift_right (get_or z m (pos 0)) (s + 1) ≡ line_value n h s xs c m
-unfolding line_value block_at
-line_row {n} h s {xs} {c} {r} p q e m l =
-    ap (λ (x : ℤ). shift_right x (s + 1)) (q.at m l ∙ ap (λ (y : ℤ). pos 2 *ℤ transform_line (trans_matrix n) n (λ k. get_or r (1 * k) (pos 0)) m +ℤ y) e)
-    ∙ shift_twice (transform_line (trans_matrix n) n (λ k. get_or r (1 * k) (pos 0)) m) h s
+pub line_row : {t : ℕ → ℕ → ℤ} {n : ℕ} (h : ℤ) (s : ℕ) {xs : List ℤ} {c : ℕ} {r z : List ℤ} {tw : ℤ} → Values n xs c r → TwiceBy t n 1 r tw z → tw ≡ pos 2 *ℤ h
+    → (m : ℕ) → m < n → shift_right (get_or z m (pos 0)) (s + 1) ≡ line_by t n h s xs c m
+unfolding line_by block_at
+line_row {t} {n} h s {xs} {c} {r} p q e m l =
+    ap (λ (x : ℤ). shift_right x (s + 1)) (q.at m l ∙ ap (λ (y : ℤ). pos 2 *ℤ transform_line t n (λ k. get_or r (1 * k) (pos 0)) m +ℤ y) e)
+    ∙ shift_twice (transform_line t n (λ k. get_or r (1 * k) (pos 0)) m) h s
     ∙ ap (λ (x : ℤ). shift_right (x +ℤ h) s)
-    (transform_line_cong (trans_matrix n) n (λ k. get_or r (1 * k) (pos 0)) (λ k. get_or xs (k * n + c) (pos 0)) m
+    (transform_line_cong t n (λ k. get_or r (1 * k) (pos 0)) (λ k. get_or xs (k * n + c) (pos 0)) m
     (λ k a. ap (λ (i : ℕ). get_or r i (pos 0)) (one-mul k) ∙ p.at k a))
 
 -- numbers that stand for themselves
@@ -102,13 +121,13 @@ pub filled_same : {n : ℕ} {g : ℕ → ℕ → ℤ} {r : ℕ} {xs ys : List �
 filled_same {xs = xs} {ys} p = rw (map-id xs, map-id ys) at p
 
 -- with half the divisor it is a rounded line: stage two of a block that is turned over, and, limited, the intermediate of stage one
-pub line_value-stage_two : (n s : ℕ) (xs : List ℤ) (c m : ℕ) → line_value n (pow2 (s - 1)) s xs c m ≡ stage_two (trans_matrix n) n s (λ i k. block_at n xs k i) c m
-unfolding line_value stage_two stage_two_sum round_shift
-line_value-stage_two n s xs c m = refl
+pub line_by-stage_two : (t : ℕ → ℕ → ℤ) (n s : ℕ) (xs : List ℤ) (c m : ℕ) → line_by t n (pow2 (s - 1)) s xs c m ≡ stage_two t n s (λ i k. block_at n xs k i) c m
+unfolding line_by stage_two stage_two_sum round_shift
+line_by-stage_two t n s xs c m = refl
 
-pub line_value-intermediate : (n : ℕ) (xs : List ℤ) (c m : ℕ) → clip_coeff 15 (line_value n (pos 64) 7 xs c m) ≡ intermediate (trans_matrix n) n 15 (block_at n xs) m c
-unfolding line_value intermediate stage_one_value stage_one_sum round_shift
-line_value-intermediate n xs c m = refl
+pub line_by-intermediate : (t : ℕ → ℕ → ℤ) (n : ℕ) (xs : List ℤ) (c m : ℕ) → clip_coeff 15 (line_by t n (pos 64) 7 xs c m) ≡ intermediate t n 15 (block_at n xs) m c
+unfolding line_by intermediate stage_one_value stage_one_sum round_shift
+line_by-intermediate t n xs c m = refl
 
 -- ---- blocks: e values of each of w rows, rows n apart
 pub block_none : {at n e : ℕ} {f : ℕ → ℕ → ℤ} {ys : List ℤ} → Block at n e f 0 ys ys
@@ -122,6 +141,9 @@ block_all {at} {n} {e} {f = f} {ys} {zs} q p = subst (λ (k : ℕ). Block at n e
 
 pub block_width : {at n d e w : ℕ} {f : ℕ → ℕ → ℤ} {ys zs : List ℤ} → d ≡ e → Block at n d f w ys zs → Block at n e f w ys zs
 block_width {at} {n} {w = w} {f} {ys} {zs} q p = subst (λ (k : ℕ). Block at n k f w ys zs) q p
+
+pub block_sized : {at k n w : ℕ} {f : ℕ → ℕ → ℤ} {ys zs : List ℤ} → k ≡ n → Block at k k f w ys zs → Block at n n f w ys zs
+block_sized {at} {w = w} {f} {ys} {zs} q p = subst (λ (k : ℕ). Block at k k f w ys zs) q p
 
 pub block_cong : {at n e w : ℕ} {f g : ℕ → ℕ → ℤ} {ys zs : List ℤ} → ((j m : ℕ) → j < w → m < e → f j m ≡ g j m) → Block at n e f w ys zs → Block at n e g w ys zs
 block_cong h p = record { long = p.long; done = λ j m a b. p.done j m a b ∙ h j m a b; kept = p.kept }
@@ -265,23 +287,52 @@ block_turned f xs k a b c d l t u v x m e g p q r s =
     block_cong (λ j i o h. four_columns f xs k a b c d l t u v x j i h)
     (block_four {f = λ j m. lane m (four_of j (f a) (f b) (f c) (f d))} m e (by_row g.first p) (by_row g.second q) (by_row g.third r) (by_row g.fourth s))
 
--- eight that were read, each as c makes it, which stand two and two in rows
-pub eight_columns : {A : Type 0} (f : A → List ℤ) (c : ℤ → ℤ) (xs : List A) (n : ℕ) (a b d e g h i k : A) (p q r s : List ℤ) → n + 8 ≤ length xs
+-- four that were read, each as c makes it
+pub four_made : {A : Type 0} (f : A → List ℤ) (c : ℤ → ℤ) (xs : List A) (a b d e : A) (p q r s : List ℤ) → 4 ≤ length xs
+    → a ≡ get_or xs 0 a → b ≡ get_or xs 1 b → d ≡ get_or xs 2 d → e ≡ get_or xs 3 e
+    → ((j : ℕ) → j < 4 → lane j p ≡ c (lane j (f a))) → ((j : ℕ) → j < 4 → lane j q ≡ c (lane j (f b)))
+    → ((j : ℕ) → j < 4 → lane j r ≡ c (lane j (f d))) → ((j : ℕ) → j < 4 → lane j s ≡ c (lane j (f e)))
+    → (j m : ℕ) → j < 4 → m < 4 → lane m (four_of j p q r s) ≡ c (get_or (column f j xs) m (pos 0))
+four_made f c xs a b d e p₀ q₀ r₀ s₀ l a₁ b₁ d₁ e₁ p q r s j m o z =
+    four_lanes (λ m. c (get_or (column f j xs) m (pos 0)))
+    (p j o ∙ ap c (read_at f j xs 0 a a₁ (omega (arith, l)))) (q j o ∙ ap c (read_at f j xs 1 b b₁ (omega (arith, l))))
+    (r j o ∙ ap c (read_at f j xs 2 d d₁ (omega (arith, l)))) (s j o ∙ ap c (read_at f j xs 3 e e₁ (omega (arith, l)))) m z
+
+-- ---- outputs that stand two and two in rows
+-- one row more, of which the first half has output 2t of each line and the second half output 2t + 1
+pub paired_more : {A : Type 0} (f : A → List ℤ) (g : ℕ → ℕ → ℤ) (ys : List A) (t : ℕ) (r : A) → t < length ys
+    → ((j m : ℕ) → j < 4 → m < 2 * t → paired f j ys m ≡ g j m) → ((j : ℕ) → j < 4 → (lane j (f r) ≡ g j (2 * t)) × (lane (4 + j) (f r) ≡ g j (2 * t + 1)))
+    → (j m : ℕ) → j < 4 → m < 2 * (t + 1) → paired f j (set ys t r) m ≡ g j m
+paired_more f g ys t r l p h j m o z =
+    ap (λ (xs : List ℤ). get_or xs (m / 2) (pos 0)) (map-set (λ x. lane (4 * (m % 2) + j) (f x)) ys t r)
+    ∙ elim (ℕ_discrete (m / 2) t) [
+      | yes y ↦ ap (λ (i : ℕ). get_or (set (column f (4 * (m % 2) + j) ys) t (lane (4 * (m % 2) + j) (f r))) i (pos 0)) y
+          ∙ get_or-set_same (column f (4 * (m % 2) + j) ys) t (lane (4 * (m % 2) + j) (f r)) (pos 0) (omega (arith, length-map ys (λ x. lane (4 * (m % 2) + j) (f x)), l))
+          ∙ elim (ℕ_discrete (m % 2) 0) [
+            | yes e ↦ ap (λ (i : ℕ). lane i (f r)) (let u : 4 * (m % 2) + j ≡ j = omega arith in u) ∙ (h j o).0 ∙ ap (g j) (let u : 2 * t ≡ m = omega arith in u)
+            | no d ↦ ap (λ (i : ℕ). lane i (f r)) (let u : 4 * (m % 2) + j ≡ 4 + j = omega arith in u) ∙ (h j o).1 ∙ ap (g j) (let u : 2 * t + 1 ≡ m = omega arith in u)
+          ]
+      | no d ↦ get_or-set_other (column f (4 * (m % 2) + j) ys) t (m / 2) (lane (4 * (m % 2) + j) (f r)) (pos 0) d ∙ p j m o (omega arith)
+    ]
+
+-- four rows that were read, from element n on
+pub eight_paired : {A : Type 0} (f : A → List ℤ) (xs : List A) (n : ℕ) (a b d e : A) → n + 4 ≤ length xs
     → a ≡ get_or xs n a → b ≡ get_or xs (n + 1) b → d ≡ get_or xs (n + 2) d → e ≡ get_or xs (n + 3) e
-    → g ≡ get_or xs (n + 4) g → h ≡ get_or xs (n + 5) h → i ≡ get_or xs (n + 6) i → k ≡ get_or xs (n + 7) k
-    → ((j : ℕ) → j < 4 → (lane j p ≡ c (lane j (f a))) × (lane (4 + j) p ≡ c (lane j (f b))))
-    → ((j : ℕ) → j < 4 → (lane j q ≡ c (lane j (f d))) × (lane (4 + j) q ≡ c (lane j (f e))))
-    → ((j : ℕ) → j < 4 → (lane j r ≡ c (lane j (f g))) × (lane (4 + j) r ≡ c (lane j (f h))))
-    → ((j : ℕ) → j < 4 → (lane j s ≡ c (lane j (f i))) × (lane (4 + j) s ≡ c (lane j (f k))))
-    → (j m : ℕ) → j < 4 → m < 8 → lane m (eight_of j p q r s) ≡ c (get_or (column f j xs) (n + m) (pos 0))
-eight_columns {A} f c xs n a b d e g h i k p₀ q₀ r₀ s₀ l a₁ b₁ d₁ e₁ g₁ h₁ i₁ k₁ p q r s j m o z =
-    eight_lanes (λ m. c (get_or (column f j xs) (n + m) (pos 0)))
-    ((p j o).0 ∙ ap c (read_at f j xs n a a₁ (omega (arith, l)) ∙ ap (λ (i : ℕ). get_or (column f j xs) i (pos 0)) (let y : n ≡ n + 0 = omega arith in y)))
-    ((p j o).1 ∙ at 1 b b₁ (omega arith)) ((q j o).0 ∙ at 2 d d₁ (omega arith)) ((q j o).1 ∙ at 3 e e₁ (omega arith))
-    ((r j o).0 ∙ at 4 g g₁ (omega arith)) ((r j o).1 ∙ at 5 h h₁ (omega arith)) ((s j o).0 ∙ at 6 i i₁ (omega arith)) ((s j o).1 ∙ at 7 k k₁ (omega arith)) m z
+    → (j m : ℕ) → j < 4 → m < 8 → lane m (eight_of j (f a) (f b) (f d) (f e)) ≡ paired f j xs (2 * n + m)
+eight_paired {A} f xs n a b d e l a₁ b₁ d₁ e₁ j m o z =
+    eight_lanes (λ m. paired f j xs (2 * n + m))
+    (at 0 0 j a a₀ (omega arith) (omega arith) (omega arith)) (at 0 1 (4 + j) a a₀ (omega arith) (omega arith) (omega arith))
+    (at 1 0 j b b₁ (omega arith) (omega arith) (omega arith)) (at 1 1 (4 + j) b b₁ (omega arith) (omega arith) (omega arith))
+    (at 2 0 j d d₁ (omega arith) (omega arith) (omega arith)) (at 2 1 (4 + j) d d₁ (omega arith) (omega arith) (omega arith))
+    (at 3 0 j e e₁ (omega arith) (omega arith) (omega arith)) (at 3 1 (4 + j) e e₁ (omega arith) (omega arith) (omega arith)) m z
   where
-    at : (u : ℕ) (y : A) → y ≡ get_or xs (n + u) y → u < 8 → c (lane j (f y)) ≡ c (get_or (column f j xs) (n + u) (pos 0))
-    at u y w v = ap c (read_at f j xs (n + u) y w (omega (arith, l)))
+    a₀ : a ≡ get_or xs (n + 0) a
+    a₀ = a₁ ∙ ap (λ (i : ℕ). get_or xs i a) (let u : n ≡ n + 0 = omega arith in u)
+
+    at : (u i v : ℕ) (y : A) → y ≡ get_or xs (n + u) y → u < 4 → i < 2 → v ≡ 4 * i + j → lane v (f y) ≡ paired f j xs (2 * n + (2 * u + i))
+    at u i v y w k g h =
+        read_at f v xs (n + u) y w (omega (arith, l))
+        ∙ ap₂ (λ (p q : ℕ). get_or (column f p xs) q (pos 0)) (let e : v ≡ 4 * ((2 * n + (2 * u + i)) % 2) + j = omega arith in e) (let e : n + u ≡ (2 * n + (2 * u + i)) / 2 = omega arith in e)
 
 -- the number that is added, in each of four lanes and past them
 pub lanes_within : (v : List ℤ) {x : ℤ} {b : ℕ} → length v ≡ 4 → ((j : ℕ) → j < 4 → lane j v ≡ x) → Within b x → (j : ℕ) → Within b (lane j v)

@@ -4,7 +4,7 @@
 
 ghost use Rattle.std.proofs.Common.{rules};
 
-use tiles::{Line, Output, Stage, lines_as_rows};
+use tiles::{Input, Line, Output, Stage, lines_as_rows, parts_as_rows};
 use vectors::{Sums, Values};
 
 // Kept: an impl for each size, as in `tiles`.
@@ -26,8 +26,12 @@ impl Stage for Whole32 {
 
     ghost ROWS = { 32 };
 
-    fn stage<T: Output>(a: &[i16], count: usize, half: i32, s: u32, out: &mut [T]) {
-        lines_as_rows::<Whole32, T, 32, 32>(a, count, half, s, out);
+    fn stage<I: Input, T: Output>(a: &[I], count: usize, half: i32, s: u32, out: &mut [T]) {
+        lines_as_rows::<Whole32, I, T, 32, 32>(a, count, half, s, out);
+    }
+
+    fn parts(s: &[i32], k: u32, count: usize, half: i32, by: u32, out: &mut [i32]) {
+        parts_as_rows::<Whole32, 32, 32>(s, k, count, half, by, out);
     }
 
     ghost size = { Prim.search rules };

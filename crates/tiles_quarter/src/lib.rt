@@ -4,7 +4,7 @@
 
 ghost use Rattle.std.proofs.Common.{rules};
 
-use tiles::{Line, Output, Stage, lines_as_rows};
+use tiles::{Input, Line, Output, Stage, lines_as_rows, parts_as_rows};
 use vectors::{Sums, Values};
 
 mod rest; // whether a block ends after its first rows
@@ -30,8 +30,12 @@ impl Stage for Quarter8 {
 
     ghost ROWS = { 4 };
 
-    fn stage<T: Output>(a: &[i16], count: usize, half: i32, s: u32, out: &mut [T]) {
-        lines_as_rows::<Quarter8, T, 4, 8>(a, count, half, s, out);
+    fn stage<I: Input, T: Output>(a: &[I], count: usize, half: i32, s: u32, out: &mut [T]) {
+        lines_as_rows::<Quarter8, I, T, 4, 8>(a, count, half, s, out);
+    }
+
+    fn parts(s: &[i32], k: u32, count: usize, half: i32, by: u32, out: &mut [i32]) {
+        parts_as_rows::<Quarter8, 4, 8>(s, k, count, half, by, out);
     }
 
     ghost size = { Prim.search rules };
@@ -55,8 +59,12 @@ impl Stage for Quarter16 {
 
     ghost ROWS = { 4 };
 
-    fn stage<T: Output>(a: &[i16], count: usize, half: i32, s: u32, out: &mut [T]) {
-        lines_as_rows::<Quarter16, T, 4, 16>(a, count, half, s, out);
+    fn stage<I: Input, T: Output>(a: &[I], count: usize, half: i32, s: u32, out: &mut [T]) {
+        lines_as_rows::<Quarter16, I, T, 4, 16>(a, count, half, s, out);
+    }
+
+    fn parts(s: &[i32], k: u32, count: usize, half: i32, by: u32, out: &mut [i32]) {
+        parts_as_rows::<Quarter16, 4, 16>(s, k, count, half, by, out);
     }
 
     ghost size = { Prim.search rules };
@@ -80,8 +88,12 @@ impl Stage for Quarter32 {
 
     ghost ROWS = { 8 };
 
-    fn stage<T: Output>(a: &[i16], count: usize, half: i32, s: u32, out: &mut [T]) {
-        lines_as_rows::<Quarter32, T, 8, 32>(a, count, half, s, out);
+    fn stage<I: Input, T: Output>(a: &[I], count: usize, half: i32, s: u32, out: &mut [T]) {
+        lines_as_rows::<Quarter32, I, T, 8, 32>(a, count, half, s, out);
+    }
+
+    fn parts(s: &[i32], k: u32, count: usize, half: i32, by: u32, out: &mut [i32]) {
+        parts_as_rows::<Quarter32, 8, 32>(s, k, count, half, by, out);
     }
 
     ghost size = { Prim.search rules };

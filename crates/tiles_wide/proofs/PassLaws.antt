@@ -1,46 +1,44 @@
 -- Laws of a stage in two parts.
 --   shift_parts        a shift by s is one by k and one by the rest
 --   line_parts         a line over limited values, from the lines over both parts
---   line_within        what is added and shifted of a line on 16-bit values
 --   limited_in, -past  what a list of limited values reads as
---   narrow_list        values that fit 16 bits are their own limits
---   parts-list         two parts make the limited values
---   joined_rows        joined sums are rows of the stage
---   parts-rows         so they are for the lines over both parts
---   join_ask           which have room to be joined
---   narrow_rows        lines over values that fit 16 bits
-use mathlib.Core.Path.{◌≡◌, sym, ap, ap₂, ◌∙◌, subst}
+--   whole_stage        lines over a list that has the rows of the stage and no more
+--   narrow_list        values that fit 16 bits are not limited, as a stage reads them or in any range
+--   parts_list         two parts make the limited values
+--   parts_give         so that a stage over both parts is a pass
+--   narrow_gives       and so is a stage over values that fit 16 bits
+use mathlib.Core.Path.{◌≡◌, sym, ap, ap₂, ◌∙◌}
 use mathlib.Core.List.{List}
-use Prim.Native.Nat.{ℕ, ◌+◌, ◌*◌, ◌-◌, ◌/◌, ◌%◌, ◌^◌, ◌≤◌, ◌<◌}
-use native.Mathlib.Nat.{div-div-eq-div-mul, div-add-mod', mod-lt, div-lt_iff_lt-mul}
+use Prim.Native.Nat.{ℕ, ◌+◌, ◌*◌, ◌-◌, ◌^◌, ◌≤◌, ◌<◌}
+use native.Mathlib.Nat.{div-div-eq-div-mul}
 use native.Mathlib.Decide.{dec_lt}
 use native.Mathlib.Omega.{arith}
-use lib.Arith.{digits_lt}
 use lib.IntN.{ℤ, pos, negsuc, ◌+ℤ◌, ◌*ℤ◌}
-use lib.ListN.{length, get_or, replicate, get_or-eq_default}
+use lib.ListN.{length, get_or, get_or-eq_default}
 use lib.Pow.{pow_pos, pow-add}
-use lib.Signed.{shr_z, ◌≤ℤ◌}
+use lib.Signed.{shr_z}
+use Rattle.std.specs.Prelude.{map}
+use Rattle.std.proofs.lemmas.List.{get_or-map}
 use Rattle.integers.specs.Lists.{tabulate}
 use Rattle.integers.specs.Shift.{pow2, shift_right}
 use Rattle.integers.specs.Sum.{sum}
-use Rattle.integers.specs.Within.{Within, Narrow}
+use Rattle.integers.specs.Within.{Narrow}
 use Rattle.integers.proofs.LinearLaws.{split, ring, diff_ext}
 use Rattle.integers.proofs.OrderLaws.{shr_shift}
-use Rattle.integers.proofs.ShiftLaws.{shift_right_zero, shift_right_within}
-use Rattle.integers.proofs.BoundLaws.{within_add, within_le, within_eq, within_pos}
+use Rattle.integers.proofs.ShiftLaws.{shift_right_zero}
 use Rattle.integers.proofs.SumLaws.{sum_cong, sum_add, sum_scale}
-use Rattle.integers.proofs.ListsLaws.{tabulate-length, tabulate-get_or}
-use Rattle.h265.specs.Matrix.{trans_matrix, abs_sum}
+use Rattle.integers.proofs.ListsLaws.{tabulate_cong, tabulate-length, tabulate-get_or}
+use Rattle.h265.specs.Matrix.{trans_matrix}
 use Rattle.h265.specs.Range.{clip_coeff}
 use Rattle.h265.specs.Transform.{transform_line, block_at}
-use Rattle.h265.proofs.TransformLaws.{transform_line_cong}
-use Rattle.transform_1d.specs.Rows.{Placed, Filled}
-use Rattle.transform_1d.proofs.RowsLaws.{filled_cong, zeros-get_or}
-use Rattle.transform_1d.proofs.MatrixLaws.{transform_line_within}
-use Rattle.tiles.specs.Tile.{line_value}
-use Rattle.wide_parts.specs.Split.{high_of, low_of, JoinNeeds}
+use Rattle.transform_1d.specs.Rows.{Filled}
+use Rattle.transform_1d.proofs.RowsLaws.{filled_cong}
+use Rattle.tiles.specs.Tile.{line_by, line_value, first_rows, StageGives}
+use Rattle.tiles.specs.Parts.{high_of, low_of, SplitGives}
+use Rattle.tiles.proofs.TileLaws.{rows_in, rows_past, rows_whole, filled_same}
+use Rattle.tiles.proofs.PartsLaws.{parts_exact}
 use Rattle.tiles_wide.specs.Pass.{limited_list, PassGives}
-use Rattle.wide_parts.proofs.SplitLaws.{parts_exact, high_within, low_within, clip_coeff_narrow, placed_run}
+use Rattle.wide_parts.proofs.NarrowLaws.{clip_coeff_narrow}
 
 -- ---- shifts
 shr_shr : (x : ℤ) (a b : ℕ) → shr_z x (a * b) ≡ shr_z (shr_z x a) b
@@ -77,7 +75,7 @@ module _ (t : ℕ → ℕ → ℤ) (n : ℕ) (c : ℤ) (y h l : ℕ → ℤ) (m 
 
 module _ (n k s : ℕ) (b : ℤ) (ys h l : List ℤ) (e : (i : ℕ) → get_or ys i (pos 0) ≡ pow2 k *ℤ get_or h i (pos 0) +ℤ get_or l i (pos 0)) where
   pub line_parts : (c m : ℕ) → k ≤ s → line_value n b s ys c m ≡ shift_right (line_value n b k l c m +ℤ line_value n (pos 0) 0 h c m) (s - k)
-  unfolding line_value block_at
+  unfolding line_by block_at
   line_parts c m i =
       let H = transform_line (trans_matrix n) n (λ k. get_or h (k * n + c) (pos 0)) m in
       let L = transform_line (trans_matrix n) n (λ k. get_or l (k * n + c) (pos 0)) m in
@@ -93,13 +91,6 @@ module _ (n k s : ℕ) (b : ℤ) (ys h l : List ℤ) (e : (i : ℕ) → get_or y
       zero : (x : ℤ) → x ≡ x +ℤ pos 0
       zero x = rw (← split x) (simp ring (diff_ext _ _ _ _ (omega arith)))
 
-pub line_within : (n s : ℕ) {b : ℤ} (xs : List ℤ) (c m : ℕ) → ((j : ℕ) → j < n → abs_sum (trans_matrix n) n j ≤ℤ pos 1862) → m < n → Within (2 ^ 11) b
-    → ((i : ℕ) → Within 32768 (get_or xs i (pos 0))) → Within (2 ^ 28) (line_value n b s xs c m)
-unfolding line_value block_at
-line_within n s {b} xs c m a l h w =
-    within_le (omega arith)
-    (shift_right_within s (within_add (transform_line_within (trans_matrix n) n (λ k. get_or xs (k * n + c) (pos 0)) m (a m l) (λ k i. w (k * n + c))) h))
-
 -- ---- lists
 pub limited_in : (r w : ℕ) (xs : List ℤ) (i : ℕ) → i < w → get_or (limited_list r w xs) i (pos 0) ≡ clip_coeff r (get_or xs i (pos 0))
 unfolding limited_list
@@ -110,93 +101,49 @@ unfolding limited_list
 limited-past r w xs i h =
     get_or-eq_default (tabulate w (λ i. clip_coeff r (get_or xs i (pos 0)))) (pos 0) (omega (arith, tabulate-length w (λ i. clip_coeff r (get_or xs i (pos 0)))))
 
--- a list of w places that a run has filled reads as zero past them
-pub run_past : {w : ℕ} {f : ℕ → ℤ} {ys : List ℤ} → Placed 0 w f (replicate w (pos 0)) ys → (i : ℕ) → w ≤ i → get_or ys i (pos 0) ≡ pos 0
-run_past {w} p i h = p.kept i (λ j l e. omega arith) ∙ zeros-get_or w i
+pub whole_stage : (q n : ℕ) (l : List ℤ) {count : ℕ} (h : ℤ) (s : ℕ) {out out₂ : List ℤ} → length l ≡ q * n
+    → StageGives n (first_rows q n (map (λ x. x) l)) count h s (λ x. x) (map (λ x. x) out) (map (λ x. x) out₂) → Filled n n (line_value n h s l) count out out₂
+whole_stage q n l h s e p = rw (rows_whole q n l e) at (filled_same p)
 
-pub narrow_list : {r w : ℕ} (xs : List ℤ) {l : List ℤ} → 15 ≤ r → Narrow w xs → Placed 0 w (λ i. get_or xs i (pos 0)) (replicate w (pos 0)) l → (i : ℕ)
-    → get_or l i (pos 0) ≡ get_or (limited_list r w xs) i (pos 0)
-narrow_list {r} {w} xs h b p i =
-    elim (dec_lt i w) [
-      | yes y ↦ placed_run p i y ∙ sym (clip_coeff_narrow h (b.at i y)) ∙ sym (limited_in r w xs i y)
-      | no d ↦ run_past p i (omega arith) ∙ sym (limited-past r w xs i (omega arith))
-    ]
-
--- lines over lists that read alike
-pub line_same : (n : ℕ) (b : ℤ) (s : ℕ) (xs ys : List ℤ) → ((i : ℕ) → get_or xs i (pos 0) ≡ get_or ys i (pos 0)) → (c m : ℕ) → line_value n b s xs c m ≡ line_value n b s ys c m
-unfolding line_value block_at
-line_same n b s xs ys e c m =
-    ap (λ (z : ℤ). shift_right (z +ℤ b) s)
-    (transform_line_cong (trans_matrix n) n (λ k. get_or xs (k * n + c) (pos 0)) (λ k. get_or ys (k * n + c) (pos 0)) m (λ k h. e (k * n + c)))
+pub narrow_list : (q n : ℕ) {r : ℕ} (xs : List ℤ) → 15 ≤ r → q * n ≤ length xs → Narrow (q * n) xs → first_rows q n (map (clip_coeff 15) xs) ≡ limited_list r (q * n) xs
+unfolding first_rows limited_list
+narrow_list q n {r} xs h l b =
+    tabulate_cong (q * n) (λ i. get_or (map (clip_coeff 15) xs) i (pos 0)) (λ i. clip_coeff r (get_or xs i (pos 0)))
+    (λ i k. get_or-map (clip_coeff 15) xs i (pos 0) (pos 0) (omega (arith, l, k)) ∙ clip_coeff_narrow (omega arith) (b.at i k) ∙ sym (clip_coeff_narrow h (b.at i k)))
 
 -- ---- two parts
-module _ {w : ℕ} (k : ℕ) (xs : List ℤ) {h l : List ℤ} (p : Placed 0 w (λ j. high_of k (get_or xs j (pos 0))) (replicate w (pos 0)) h)
-    (q : Placed 0 w (λ j. low_of k (get_or xs j (pos 0))) (replicate w (pos 0)) l) where
-  pub parts-list : (i : ℕ) → get_or (limited_list (15 + k) w xs) i (pos 0) ≡ pow2 k *ℤ get_or h i (pos 0) +ℤ get_or l i (pos 0)
-  parts-list i =
-      elim (dec_lt i w) [
-        | yes y ↦ limited_in (15 + k) w xs i y ∙ sym (parts_exact k (get_or xs i (pos 0))) ∙ sym (ap₂ (λ (a b : ℤ). pow2 k *ℤ a +ℤ b) (placed_run p i y) (placed_run q i y))
-        | no d ↦ limited-past (15 + k) w xs i (omega arith) ∙ sym (ap₂ (λ (a b : ℤ). pow2 k *ℤ a +ℤ b) (run_past p i (omega arith)) (run_past q i (omega arith)) ∙ none (pow2 k))
-      ]
-    where
-      none : (x : ℤ) → x *ℤ pos 0 +ℤ pos 0 ≡ pos 0
-      none x = rw (← split x) (simp ring (diff_ext _ _ _ _ (omega arith)))
+parts_list : (q n k : ℕ) (xs : List ℤ) → q * n ≤ length xs → (i : ℕ)
+    → get_or (limited_list (15 + k) (q * n) xs) i (pos 0) ≡ pow2 k *ℤ get_or (first_rows q n (map (high_of k) xs)) i (pos 0) +ℤ get_or (first_rows q n (map (low_of k) xs)) i (pos 0)
+parts_list q n k xs h i =
+    elim (dec_lt i (q * n)) [
+      | yes y ↦ limited_in (15 + k) (q * n) xs i y ∙ sym (parts_exact k (get_or xs i (pos 0))) ∙ sym (ap₂ (λ (a b : ℤ). pow2 k *ℤ a +ℤ b) (part (high_of k) y) (part (low_of k) y))
+      | no d ↦ limited-past (15 + k) (q * n) xs i (omega arith)
+          ∙ sym (ap₂ (λ (a b : ℤ). pow2 k *ℤ a +ℤ b) (rows_past q n (map (high_of k) xs) i (omega arith)) (rows_past q n (map (low_of k) xs) i (omega arith)) ∙ none (pow2 k))
+    ]
+  where
+    part : (f : ℤ → ℤ) → i < q * n → get_or (first_rows q n (map f xs)) i (pos 0) ≡ f (get_or xs i (pos 0))
+    part f y = rows_in q n (map f xs) i y ∙ get_or-map f xs i (pos 0) (pos 0) (omega (arith, h, y))
 
-  pub highs_within : (i : ℕ) → Within 32768 (get_or h i (pos 0))
-  highs_within i =
-      elim (dec_lt i w) [ yes y ↦ within_eq (placed_run p i y) (high_within k (get_or xs i (pos 0))) | no d ↦ within_eq (run_past p i (omega arith)) (within_pos (omega arith)) ]
+    none : (x : ℤ) → x *ℤ pos 0 +ℤ pos 0 ≡ pos 0
+    none x = rw (← split x) (simp ring (diff_ext _ _ _ _ (omega arith)))
 
-  pub lows_within : k ≤ 7 → (i : ℕ) → Within 32768 (get_or l i (pos 0))
-  lows_within a i =
-      elim (dec_lt i w) [ yes y ↦ within_eq (placed_run q i y) (low_within k (get_or xs i (pos 0)) a) | no d ↦ within_eq (run_past q i (omega arith)) (within_pos (omega arith)) ]
+-- ---- what the pass's proof cites
+pub parts_give : {q n r count s : ℕ} (xs : List ℤ) {b : ℤ} {out out₂ : List ℤ} → 15 ≤ r → r ≤ s + 15 → q * n ≤ length xs → b ≡ pow2 (s - 1)
+    → SplitGives q n (r - 15) xs count b (s + 15 - r) out out₂ → PassGives q n r count s xs out out₂
+parts_give {q} {n} {r} {count} {s} xs {b} least most h e p = record { rows = filled_cong row p }
+  where
+    k : ℕ
+    k = r - 15
 
--- ---- rows as a run of places
-pub filled_at : {n : ℕ} {f : ℕ → ℕ → ℤ} {r : ℕ} {xs ys : List ℤ} → 0 < n → Filled n n f r xs ys → (i : ℕ) → i < r * n → get_or ys i (pos 0) ≡ f (i / n) (i % n)
-filled_at {n} {ys = ys} o p i h =
-    ap (λ (j : ℕ). get_or ys j (pos 0)) (sym (div-add-mod' i n)) ∙ p.done (i / n) (i % n) ((div-lt_iff_lt-mul o).1 h) (mod-lt i o)
+    row : (c m : ℕ) → c < count → m < n
+        → shift_right (line_value n b k (first_rows q n (map (low_of k) xs)) c m +ℤ line_value n (pos 0) 0 (first_rows q n (map (high_of k) xs)) c m) (s + 15 - r)
+        ≡ line_value n (pow2 (s - 1)) s (limited_list r (q * n) xs) c m
+    row c m x y =
+        ap₂ (λ (v : ℤ) (i : ℕ). shift_right (line_value n v k (first_rows q n (map (low_of k) xs)) c m +ℤ line_value n (pos 0) 0 (first_rows q n (map (high_of k) xs)) c m) i) e
+        (let f : s + 15 - r ≡ s - k = omega arith in f)
+        ∙ sym (line_parts n k s (pow2 (s - 1)) (limited_list (15 + k) (q * n) xs) (first_rows q n (map (high_of k) xs)) (first_rows q n (map (low_of k) xs)) (parts_list q n k xs h) c m (omega arith))
+        ∙ ap (λ (i : ℕ). line_value n (pow2 (s - 1)) s (limited_list i (q * n) xs) c m) (let f : 15 + k ≡ r = omega arith in f)
 
-pub joined_rows : {n : ℕ} {f g e : ℕ → ℕ → ℤ} {r : ℕ} (by : ℕ) {zs hs xs ys os : List ℤ} → 0 < n → Filled n n f r zs hs → Filled n n g r xs ys
-    → Placed 0 (r * n) (λ i. shift_right (get_or ys i (pos 0) +ℤ get_or hs i (pos 0)) by) ys os
-    → ((c m : ℕ) → c < r → m < n → e c m ≡ shift_right (g c m +ℤ f c m) by) → Filled n n e r xs os
-joined_rows {n} {f} {g} {e} {r} by {zs} {hs} {xs} {ys} {os} o p q j v =
-    record {
-      long = j.long ∙ q.long;
-      done = λ c m a b.
-          placed_run j (c * n + m) (digits_lt {q = c} {m = r} {r = m} {c = n} a b)
-          ∙ ap₂ (λ (x y : ℤ). shift_right (x +ℤ y) by) (q.done c m a b) (p.done c m a b) ∙ sym (v c m a b);
-      kept = λ i a. j.kept i (λ k h z. a (i / n) (i % n) ((div-lt_iff_lt-mul o).1 (omega arith)) (mod-lt i o) (sym (div-add-mod' i n))) ∙ q.kept i a;
-    }
-
--- ---- what the stages' proofs cite
-pub parts-rows : (n r s : ℕ) {w : ℕ} (xs : List ℤ) {h l : List ℤ} {b : ℤ} → 15 ≤ r → r ≤ s + 15 → b ≡ pow2 (s - 1)
-    → Placed 0 w (λ j. high_of (r - 15) (get_or xs j (pos 0))) (replicate w (pos 0)) h → Placed 0 w (λ j. low_of (r - 15) (get_or xs j (pos 0))) (replicate w (pos 0)) l
-    → (c m : ℕ) → line_value n (pow2 (s - 1)) s (limited_list r w xs) c m ≡ shift_right (line_value n b (r - 15) l c m +ℤ line_value n (pos 0) 0 h c m) (s + 15 - r)
-parts-rows n r s {w} xs {h} {l} {b} least most e p q c m =
-    ap (λ (i : ℕ). line_value n (pow2 (s - 1)) s (limited_list i w xs) c m) (let f : r ≡ 15 + (r - 15) = omega arith in f)
-    ∙ line_parts n (r - 15) s (pow2 (s - 1)) (limited_list (15 + (r - 15)) w xs) h l (parts-list (r - 15) xs p q) c m (omega arith)
-    ∙ ap₂ (λ (v : ℤ) (i : ℕ). shift_right (line_value n v (r - 15) l c m +ℤ line_value n (pos 0) 0 h c m) i) (sym e) (let f : s - (r - 15) ≡ s + 15 - r = omega arith in f)
-
-pub join_ask : {n count : ℕ} {b : ℤ} (k : ℕ) (h l : List ℤ) {z g out₀ out : List ℤ} → 0 < n → ((j : ℕ) → j < n → abs_sum (trans_matrix n) n j ≤ℤ pos 1862) → Within (2 ^ 11) b
-    → ((i : ℕ) → Within 32768 (get_or h i (pos 0))) → ((i : ℕ) → Within 32768 (get_or l i (pos 0)))
-    → Filled n n (line_value n (pos 0) 0 h) count z g → count * n ≤ length z → Filled n n (line_value n b k l) count out₀ out → count * n ≤ length out₀
-    → JoinNeeds (count * n) g out
-join_ask {n} k h l o a wb wh wl p u q v =
-    record {
-      source = omega (arith, p.long);
-      room = omega (arith, q.long);
-      high = λ i e. within_eq (filled_at o p i e) (line_within n 0 h (i / n) (i % n) a (mod-lt i o) (within_pos (omega arith)) wh);
-      low = λ i e. within_eq (filled_at o q i e) (line_within n k l (i / n) (i % n) a (mod-lt i o) wb wl);
-    }
-
-pub narrow_rows : (n r s : ℕ) {w : ℕ} (xs : List ℤ) {l : List ℤ} {b : ℤ} {count : ℕ} {out out₂ : List ℤ} → 15 ≤ r → b ≡ pow2 (s - 1) → Narrow w xs
-    → Placed 0 w (λ i. get_or xs i (pos 0)) (replicate w (pos 0)) l → Filled n n (line_value n b s l) count out out₂
-    → Filled n n (line_value n (pow2 (s - 1)) s (limited_list r w xs)) count out out₂
-narrow_rows n r s {w} xs {l} h e a p q =
-    filled_cong
-    (λ c m u v. ap (λ (z : ℤ). line_value n z s l c m) e ∙ line_same n (pow2 (s - 1)) s l (limited_list r w xs) (narrow_list xs h a p) c m) q
-
--- the first w values are the first q rows
-pub pass_gives : {q n r count s w : ℕ} {xs out out₂ : List ℤ} → w ≡ q * n
-    → Filled n n (line_value n (pow2 (s - 1)) s (limited_list r w xs)) count out out₂ → PassGives q n r count s xs out out₂
-pass_gives {q} {n} {r} {count} {s} {w} {xs} {out} {out₂} e p =
-    record { rows = subst (λ (i : ℕ). Filled n n (line_value n (pow2 (s - 1)) s (limited_list r i xs)) count out out₂) e p }
+pub narrow_gives : {q n r count s : ℕ} (xs : List ℤ) {b : ℤ} {out out₂ : List ℤ} → 15 ≤ r → q * n ≤ length xs → Narrow (q * n) xs → b ≡ pow2 (s - 1)
+    → Filled n n (line_value n b s (first_rows q n (map (clip_coeff 15) xs))) count out out₂ → PassGives q n r count s xs out out₂
+narrow_gives {q} {n} xs h l b e p = record { rows = rw (e, narrow_list q n xs h l b) at p }

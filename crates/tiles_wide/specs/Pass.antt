@@ -1,8 +1,7 @@
 -- A stage over 32-bit values of the range R, from 15 to 22.
 --   limited_list r w xs     the first w values of xs, limited to the range
---   PassSizes q n a g       a values in q rows of n, and g where they become rows
 --   PassNeeds, PassGives     what a stage over 32-bit values asks, and what it gives: lines over the limited values, rounded, as rows
-use Rattle.std.specs.Prelude.{◌≡◌, List, ℕ, ◌+◌, ◌*◌, ◌-◌, ◌<◌, ◌≤◌, ℤ, pos, get_or}
+use Rattle.std.specs.Prelude.{List, ℕ, ◌+◌, ◌*◌, ◌-◌, ◌<◌, ◌≤◌, ℤ, pos, get_or}
 use Rattle.integers.specs.Lists.{tabulate}
 use Rattle.integers.specs.Shift.{pow2}
 use Rattle.h265.specs.Range.{clip_coeff}
@@ -11,10 +10,6 @@ use Rattle.tiles.specs.Tile.{line_value}
 
 unfoldable pub limited_list : ℕ → ℕ → List ℤ → List ℤ
 limited_list r w xs = tabulate w (λ i. clip_coeff r (get_or xs i (pos 0)))
-
-pub record PassSizes (q n a g : ℕ) : Type 0 where
-  pub values : a ≡ q * n
-  pub turned : g ≡ n * n
 
 pub record PassNeeds (q n r count s source_length out_length : ℕ) : Type 0 where
   pub range_least : 15 ≤ r

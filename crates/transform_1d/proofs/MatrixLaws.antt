@@ -1,33 +1,65 @@
--- How large a line can be, and the computed tests over the matrices.
+-- How large entries and lines can be, and the computed tests over the matrices.
+--   trans_matrix_within, dst_matrix_within   entries of the DCT's matrices and of the DST's are at most 90 in size
 --   transform_line_within     |line| ≤ (sum of the absolute entries) × B, for data of at most B in size
 --   transform_line_cong       lines over matrices and data that agree
---   transMatrix-absSum, dst_matrix-abs_sum   247, 479, 940, 1862 for n = 4, 8, 16, 32, and 242
+--   trans_matrix-abs_sum_4, _8, _16, _32, dst_matrix-abs_sum   247, 479, 940, 1862, and 242
 --   size_abs_sum   1862 for every size
---   Laid, laid               all that a block needs of a layout: length, small entries, the matrix that it reads back as
-use mathlib.Core.Path.{◌≡◌, refl, sym, ap, ap₂, subst}
-use mathlib.Core.List.{List}
-use mathlib.Core.Bool.{Bool}
-use Prim.Native.Nat.{ℕ, zero, suc, ◌+◌, ◌*◌, ◌/◌, ◌≤◌, ◌<◌}
+use mathlib.Core.Path.{◌≡◌, refl, ap, ap₂}
+use mathlib.Core.List.{List, [], ◌∷◌}
+use mathlib.Core.Bool.{Bool, true, false, cond, ◌&&◌}
+use Prim.Native.Nat.{ℕ, zero, suc, ◌+◌, ◌*◌, ◌-◌, ◌/◌, ◌%◌, ◌≤◌, ◌<◌}
 use native.Mathlib.Nat.{add-mul, mul-le-mul, mul-le-mul_right, le_trans, le_refl}
 use native.Mathlib.Omega.{arith}
-use lib.Dec.{T}
-use lib.IntN.{ℤ, pos, nat_abs, ◌+ℤ◌, ◌*ℤ◌}
-use lib.ListN.{length}
+use lib.Dec.{T, ltb, leb, leb→le}
+use lib.IntN.{ℤ, pos, neg_ℤ, nat_abs, ◌+ℤ◌, ◌*ℤ◌}
+use lib.ListN.{get_or}
 use lib.Signed.{le_z, ◌≤ℤ◌}
+use mir.Facts.{and_yes}
 use Rattle.integers.specs.Sum.{sum}
 use Rattle.integers.specs.Within.{Within}
 use Rattle.integers.proofs.LinearLaws.{le_in}
 use Rattle.integers.proofs.OrderLaws.{≤ℤ_trans}
 use Rattle.integers.proofs.MachineLaws.{abs_add, abs_mul}
+use Rattle.integers.proofs.BoundLaws.{within_neg, within_pos, table_within}
 use Rattle.integers.proofs.SumLaws.{sum_cong}
 use Rattle.h265.specs.Matrix.{folding_values, folding, folded_entry, folded_angle, trans_matrix32, trans_matrix, dst_entries, dst_matrix, abs_sum}
 use Rattle.h265.specs.Range.{is_size}
 use Rattle.h265.specs.Transform.{transform_line}
 use Rattle.h265.proofs.RangeLaws.{size_cases}
 use Rattle.integers.proofs.TestLaws.{all_below, all_below_at}
-use Rattle.transform_1d.specs.Lanes.{lanes, lane_matrix, SmallEntries}
-use Rattle.transform_1d.proofs.LanesLaws.{lanes-length, lane_matrix-lanes, lanes_small}
 
+-- ---- entries at most 90 in size
+abbrev all_at_most : ℕ → List ℕ → Bool
+all_at_most b [] = true
+all_at_most b (x ∷ xs) = leb x b && all_at_most b xs
+
+at_most_get_or : (b : ℕ) (xs : List ℕ) → T (all_at_most b xs) → (i : ℕ) → get_or xs i 0 ≤ b
+at_most_get_or b [] t i = omega arith
+at_most_get_or b (x ∷ xs) t zero = leb→le x b (and_yes (leb x b) (all_at_most b xs) t).0
+at_most_get_or b (x ∷ xs) t (suc i) = at_most_get_or b xs (and_yes (leb x b) (all_at_most b xs) t).1 i
+
+folded_entry_within : (a : ℕ) → Within 90 (folded_entry a)
+unfolding folded_entry folding folding_values
+folded_entry_within a = by_test (ltb 32 a)
+  where
+    by_test : (b : Bool) → Within 90 (cond b (neg_ℤ (pos (get_or folding_values (64 - a - 1) 0))) (pos (get_or folding_values (a - 1) 0)))
+    by_test true = within_neg (within_pos (at_most_get_or 90 folding_values tt (64 - a - 1)))
+    by_test false = within_pos (at_most_get_or 90 folding_values tt (a - 1))
+
+trans_matrix32_within : (k m : ℕ) → Within 90 (trans_matrix32 k m)
+unfolding trans_matrix32
+trans_matrix32_within zero m = within_pos (leb→le 64 90 tt)
+trans_matrix32_within (suc k) m = folded_entry_within (folded_angle (suc k * (2 * m + 1) % 128))
+
+pub trans_matrix_within : (n k m : ℕ) → Within 90 (trans_matrix n k m)
+unfolding trans_matrix
+trans_matrix_within n k m = trans_matrix32_within (k * (32 / n)) m
+
+pub dst_matrix_within : (k m : ℕ) → Within 90 (dst_matrix k m)
+unfolding dst_matrix dst_entries
+dst_matrix_within k m = table_within 90 dst_entries tt (k * 4 + m)
+
+-- ---- equal lines
 pub transform_line_cong : (t u : ℕ → ℕ → ℤ) (n : ℕ) (x y : ℕ → ℤ) (m : ℕ)
     → ((k : ℕ) → k < n → t k m ≡ u k m) → ((k : ℕ) → k < n → x k ≡ y k) → transform_line t n x m ≡ transform_line u n y m
 unfolding transform_line
@@ -101,24 +133,3 @@ size_abs_sum =
 pub dst_matrix-abs_sum : (m : ℕ) → m < 4 → abs_sum dst_matrix 4 m ≤ℤ pos 242
 unfolding all_below abs_sum sum dst_matrix dst_entries
 dst_matrix-abs_sum = abs_sum_of dst_matrix 4 242 tt
-
--- ---- a layout as a block uses it
-pub record Laid (t : ℕ → ℕ → ℤ) (n : ℕ) (xs : List ℤ) : Type 0 where
-  pub some : 0 < n
-  pub fours : n ≡ 4 * (n / 4)
-  pub most : n ≤ 32
-  pub long : 16 * n ≤ length xs
-  pub small : SmallEntries xs
-  pub reads : (k j : ℕ) → k < n → j < n → lane_matrix xs k j ≡ t k j
-
-pub laid : (t : ℕ → ℕ → ℤ) (n : ℕ) {xs : List ℤ} → xs ≡ lanes t n → ((k m : ℕ) → Within 90 (t k m)) → 0 < n → n ≡ 4 * (n / 4) → n ≤ 16 → Laid t n xs
-laid t n e w s f m =
-    subst (λ (l : List ℤ). Laid t n l) (sym e)
-    record {
-      some = s;
-      fours = f;
-      most = omega (arith, m);
-      long = omega (arith, lanes-length t n);
-      small = lanes_small t n w;
-      reads = lane_matrix-lanes t n f (omega arith) (λ k j a b c d. absurd (let x : ⊥ = omega arith in x));
-    }

@@ -1,5 +1,3 @@
 pub mod Kinds
 pub mod MatrixOf
-pub mod Lanes
-pub mod Kernel
 pub mod Rows

@@ -1,15 +1,12 @@
-// One-dimensional inverse transforms on 16-bit data: the 32-point matrix and the DST's, the layouts that the kernel reads, and the lines of 4 points.
+// What the transforms share: the kinds with row 4's test, the shift of stage two, the 32-point matrix and the DST's.
 // Internal: no limit, no refusal but row 4's test; callers meet each `requires`.
 #![tactic(auto)]
 
-ghost use Rattle.std.specs.Prelude.{◌≡◌, ℕ, ◌+◌, ◌*◌, ◌/◌, ◌%◌, ◌<◌, ◌≤◌, ◌^◌, pos, nat_abs, ◌+ℤ◌, ◌*ℤ◌, length, get_or};
+ghost use Rattle.std.specs.Prelude.{◌≡◌, ◌+◌, ◌/◌, ◌%◌, ◌≤◌};
 ghost use Rattle.integers.specs.Lists.{tabulate};
-ghost use Rattle.integers.specs.Within.{Within};
-ghost use Rattle.h265.specs.Matrix.{trans_matrix32, trans_matrix, dst_matrix};
+ghost use Rattle.h265.specs.Matrix.{trans_matrix32, dst_matrix};
 ghost use Rattle.h265.specs.Transform.{stage_two_shift};
 ghost use Rattle.transform_1d.specs.Kinds.{dst_refused};
-ghost use Rattle.transform_1d.specs.Lanes.{lanes, SmallEntries, LineNeeds, LineSums};
-ghost use Rattle.transform_1d.specs.Kernel.{pair_most, row_pair, SumsRoom, Added};
 
 // The kind of a transform: a DCT of 4 to 32 points, or the 4-point DST.
 #[derive(Clone, Copy, Debug, PartialEq, Eq)]
@@ -83,19 +80,6 @@ const DST_MATRIX: [i16; 16] = [
      55, -84,  74, -29,
 ];
 
-// Layouts of the small matrices. Each line has 16 pairs of entries of two rows.
-#[rattlefmt::skip]
-const LANES_4: [i16; 64] = [
-     64,  64,  64, -64,  64, -64,  64,  64,   0,   0,   0,   0,   0,   0,   0,   0,   0,   0,   0,   0,   0,   0,   0,   0,   0,   0,   0,   0,   0,   0,   0,   0,
-     83,  36,  36, -83, -36,  83, -83, -36,   0,   0,   0,   0,   0,   0,   0,   0,   0,   0,   0,   0,   0,   0,   0,   0,   0,   0,   0,   0,   0,   0,   0,   0,
-];
-
-#[rattlefmt::skip]
-const LANES_DST: [i16; 64] = [
-     29,  84,  55, -29,  74, -74,  84,  55,   0,   0,   0,   0,   0,   0,   0,   0,   0,   0,   0,   0,   0,   0,   0,   0,   0,   0,   0,   0,   0,   0,   0,   0,
-     74,  55,  74, -84,   0,  74, -74, -29,   0,   0,   0,   0,   0,   0,   0,   0,   0,   0,   0,   0,   0,   0,   0,   0,   0,   0,   0,   0,   0,   0,   0,   0,
-];
-
 // The 32-point matrix, row by row.
 pub fn trans_matrix() -> [i16; 1024]
     ensures { result ≡ tabulate 1024 (λ i. trans_matrix32 (i / 32) (i % 32)) }
@@ -108,64 +92,4 @@ pub fn dst_matrix() -> [i16; 16]
     ensures { result ≡ tabulate 16 (λ i. dst_matrix (i / 4) (i % 4)) }
 {
     DST_MATRIX
-}
-
-// The layout of the 4-point DCT.
-// Kept: a function for each layout: the whole of it is its constant.
-pub fn lanes_4() -> [i16; 64]
-    ensures { result ≡ lanes (trans_matrix 4) 4 }
-{
-    LANES_4
-}
-
-// The layout of the 4-point DST.
-pub fn lanes_dst() -> [i16; 64]
-    ensures { result ≡ lanes dst_matrix 4 }
-{
-    LANES_DST
-}
-
-// Two products.
-// Kept: beside `pair` of `lines`, whose entries are twice as large and whose bound follows: neither crate builds on the other, and would do so for one line.
-fn pair(u: i16, x: i16, v: i16, y: i16) -> i32
-    requires { Within 90 u × Within 90 v }
-    ensures { (result ≡ u *ℤ x +ℤ v *ℤ y) × Within pair_most result }
-{
-    (u as i32) * (x as i32) + (v as i32) * (y as i32)
-}
-
-// Four rows in each of sixteen lanes: the even rows in z[0..16], the odd rows in z[16..32].
-// The products come before the sums are read, and the odd place first: else the compiler leaves its 16-bit multiply-add.
-fn add_rows(z: &mut [i32; 32], t: &[i16], a: i16, b: i16, d: i16, f: i16)
-    requires { (64 ≤ length t.now) × SmallEntries t.now × SumsRoom (2 ^ 26) z.old }
-    ensures { Added (row_pair t.now 0 a b d f) z.old 16 z.new }
-{
-    for j in 0..16 {
-        let i = 2 * j;
-        let p = pair(t[i + 1], d, t[i], a);
-        let r = pair(t[i + 33], f, t[i + 32], b);
-        let e = z[j] + p;
-        let o = z[16 + j] + r;
-        z[j] = e;
-        z[16 + j] = o;
-    }
-}
-
-// The 4-point line over s[base], s[base + stride], ..; with the DST's layout, the DST's. It has one group of four rows, or none.
-pub fn idct_raw_4(t: &[i16], s: &[i16], base: usize, stride: usize, groups: usize) -> [i32; 32]
-    requires { LineNeeds 4 t.now s.now base stride groups }
-    ensures { LineSums t.now s.now base stride groups result }
-{
-    let mut z = [0i32; 32];
-    if groups == 1 {
-        add_rows(
-            &mut z,
-            t,
-            s[base],
-            s[base + stride],
-            s[base + 2 * stride],
-            s[base + 3 * stride],
-        );
-    }
-    z
 }

@@ -2,9 +2,11 @@
 // Internal: callers meet each `requires`.
 #![tactic(auto)]
 
-ghost use Rattle.std.specs.Prelude.{◌≡◌, true, false, ◌*◌, ◌≤◌, length};
+ghost use Rattle.std.specs.Prelude.{◌≡◌, true, false, ◌*◌, ◌≤◌, T, length};
 ghost use Rattle.integers.specs.Lists.{overwrite};
+ghost use Rattle.h265.specs.Range.{is_size};
 ghost use Rattle.h265.specs.Transform.{row_order, residual};
+ghost use Rattle.refusal.specs.Check.{RoomChecked};
 ghost use Rattle.refusal.specs.Outcome.{answer, accepted, refused};
 ghost use Rattle.refusal.specs.Written.{Writes};
 ghost use Rattle.transform_1d.specs.MatrixOf.{matrix_of};
@@ -14,6 +16,15 @@ ghost use Rattle.transform_blocks.specs.Blocks.{transform_ladder, inverted, OfKi
 
 use refusal::{Precision, Refusal};
 use transform_1d::Kind;
+
+// Row 6 or 7, as `why` says, of a size: its square does not wrap, which `refusal::check_room` would look at first.
+#[tactic(auto, unfolding(refusal::specs::Condition::block_refused), using(h265::proofs::RangeLaws::size_bound))]
+fn check_room(n: usize, len: usize, why: Refusal) -> Result<(), Refusal>
+    requires { T (is_size n) }
+    ensures { RoomChecked n len why result }
+{
+    refusal::check(len < n * n, why)
+}
 
 // The refusals of both widths, lowest number first, by the lengths of the buffers. Row 3 is of 16-bit output alone.
 // Kept: a flag for row 3, which stands in the middle of the order: two functions would each repeat what is before it and after it.
@@ -33,8 +44,8 @@ fn block_refusal(
         narrow && refusal::width_refused(precision),
         Refusal::WidthTooNarrow,
     )?;
-    refusal::check_room(n, coeff, Refusal::InputTooShort)?;
-    refusal::check_room(n, out, Refusal::OutputTooShort)
+    check_room(n, coeff, Refusal::InputTooShort)?;
+    check_room(n, out, Refusal::OutputTooShort)
 }
 
 // Reads each element: of a slice of signed numbers, only what is read is known to fit its type. The loop does nothing, and the compiler leaves it out.
@@ -49,6 +60,8 @@ fn elements_fit(xs: &[i16], len: usize)
 
 // Kept: a function for each width: they share the ladder alone, since a coefficient is looked at for row 9, and a range chosen, at 32 bits only.
 // A block at 16 bits, where no coefficient can be outside the range.
+// Kept: put inside its two callers: a block of 4 points takes a tenth less time where its answer needs no place in memory.
+#[inline(always)]
 pub fn invert_16(
     kind: Kind,
     n: usize,

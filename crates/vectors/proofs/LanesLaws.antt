@@ -4,30 +4,34 @@
 --   all_cases                 a fact of the lanes 0 to 3, and of those past them
 --   map_trip, placed          bits and back; a store
 --   two_long, two_lanes       the length and a lane of an operation on two vectors
---   plus_is, minus_is, shifted_lanes     the operations on lanes: a sum and a difference that fit, and a shift
+--   product_bits              the bits of a product that fits
+--   plus_is, minus_is, shifted_lanes, times_lanes     the operations on lanes: a sum and a difference that fit, a shift, and a multiple that fits
+--   wide_lanes                16 bits as 32
 use mathlib.Core.Path.{◌≡◌, refl, sym, subst, ap, ap₂, ◌∙◌}
 use mathlib.Core.List.{List, [], ◌∷◌, map}
-use Prim.Native.Nat.{ℕ, zero, suc, ◌+◌, ◌-◌, ◌%◌, ◌^◌, ◌≤◌}
-use native.Mathlib.Nat.{zero-div}
+use Prim.Native.Nat.{ℕ, zero, suc, ◌+◌, ◌*◌, ◌-◌, ◌%◌, ◌^◌, ◌≤◌}
+use native.Mathlib.Nat.{zero-div, mod-lt}
 use native.Mathlib.Decide.{dec_lt}
 use native.Mathlib.Omega.{arith}
-use lib.IntN.{ℤ, pos, ◌+ℤ◌, ◌-ℤ◌}
+use lib.IntN.{ℤ, pos, ◌+ℤ◌, ◌-ℤ◌, ◌*ℤ◌, *ℤ_comm, *ℤ-zero}
 use lib.Lanes.{zip2, put_chunk, pick_l}
 use lib.ListN.{length, length-map, replicate}
-use lib.Pow.{pow_pos}
+use lib.Pow.{pow_pos, pow_mono}
 use lib.Signed.{shr_z}
-use mir.Syntax.{Width}
+use mir.Syntax.{Width, w16, w32}
 use mir.Val.{Val, SFits, to_z, of_z, bits, hbits}
 use mir.ValLaws.{of_z_fits}
-use mir.Facts.{to_z-of_z}
+use mir.Facts.{to_z-of_z, of_z-to_z, sfits_widen}
 use denote.Array.{each}
 use denote.Shadow.{shadow}
 use denote.Signed.{SInt}
 use Rattle.std.specs.List.{range_with_len}
-use Rattle.std.proofs.lemmas.Int.{wrapping_add-bits, wrapping_sub-bits, int_wrap_fits}
+use Rattle.std.specs.Int.{int_wrap}
+use Rattle.std.proofs.lemmas.Int.{wrapping_add-bits, wrapping_sub-bits, wrapping_mul-bits, int_wrap_fits}
 use Rattle.std.proofs.lemmas.Simd.{length-zip2, pick_l_whole, length-put_chunk, get_or-put_chunk_below, get_or-put_chunk_at, get_or-put_chunk_above}
-use Rattle.integers.specs.Shift.{shift_right}
+use Rattle.integers.specs.Shift.{pow2, shift_right}
 use Rattle.integers.proofs.MachineLaws.{sfits_shr}
+use Rattle.integers.proofs.BoundLaws.{within_pos, within_fits}
 use Rattle.transform_1d.specs.Rows.{Placed}
 use Rattle.vectors.specs.Lanes.{lane}
 
@@ -108,3 +112,26 @@ shifted_lanes w s zero (x ∷ v) l h j = absurd (let b : ⊥ = omega arith in b)
 shifted_lanes w s (suc n) [] l h j = absurd (let b : ⊥ = omega arith in b)
 shifted_lanes w s (suc n) (x ∷ v) l h zero = simp (to_z-of_z, h 0, sfits_shr (2 ^ s) (h 0))
 shifted_lanes w s (suc n) (x ∷ v) l h (suc j) = shifted_lanes w s n v (omega arith) (λ k. h (suc k)) j
+
+-- the bits of a product that fits
+pub product_bits : {x y : ℤ} → SFits w32 x → SFits w32 y → SFits w32 (x *ℤ y) → (of_z w32 x * of_z w32 y) % 4294967296 ≡ of_z w32 (x *ℤ y)
+product_bits {x} {y} f g h =
+    sym (of_z-to_z {w = w32} (record { fits = mod-lt (of_z w32 x * of_z w32 y) (pow_pos 32) }))
+    ∙ ap (of_z w32) (wrapping_mul-bits w32 (of_z w32 x) (of_z w32 y) (of_z_fits w32 x f).fits (of_z_fits w32 y g).fits
+    ∙ ap₂ (λ a b. int_wrap w32 (a *ℤ b)) (to_z-of_z f) (to_z-of_z g) ∙ int_wrap_fits w32 (x *ℤ y) h)
+
+-- 2^s times each lane
+pub times_lanes : (s n : ℕ) (v : List ℤ) → s ≤ 30 → length v ≡ n → ((j : ℕ) → SFits w32 (lane j v)) → ((j : ℕ) → SFits w32 (pow2 s *ℤ lane j v)) → (j : ℕ)
+    → lane j (map (to_z w32) (zip2 (λ a b. a * 2 ^ b % 4294967296) (map (of_z w32) v) (replicate n s))) ≡ pow2 s *ℤ lane j v
+times_lanes s zero [] i l h g j = sym (*ℤ-zero (pow2 s))
+times_lanes s zero (x ∷ v) i l h g j = absurd (let b : ⊥ = omega arith in b)
+times_lanes s (suc n) [] i l h g j = absurd (let b : ⊥ = omega arith in b)
+times_lanes s (suc n) (x ∷ v) i l h g zero =
+    let f : SFits w32 (x *ℤ pow2 s) = subst (λ z. SFits w32 z) (*ℤ_comm (pow2 s) x) (g 0) in
+    ap (to_z w32) (product_bits (h 0) (within_fits {b = 2 ^ 30} tt (within_pos (pow_mono {j = 30} i))) f) ∙ to_z-of_z f ∙ *ℤ_comm x (pow2 s)
+times_lanes s (suc n) (x ∷ v) i l h g (suc j) = times_lanes s n v i (omega arith) (λ k. h (suc k)) (λ k. g (suc k)) j
+
+pub wide_lanes : (v : List ℤ) → ((j : ℕ) → SFits w16 (lane j v)) → (j : ℕ) → lane j (map (to_z w32) (map (λ n. of_z w32 (to_z w16 n)) (map (of_z w16) v))) ≡ lane j v
+wide_lanes [] h j = refl
+wide_lanes (x ∷ v) h zero = simp (to_z-of_z, h 0, sfits_widen {w' = w32} tt (h 0))
+wide_lanes (x ∷ v) h (suc j) = wide_lanes v (λ k. h (suc k)) j

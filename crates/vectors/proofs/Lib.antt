@@ -1,1 +1,2 @@
 pub mod LanesLaws
+pub mod ClampLaws

@@ -2,10 +2,11 @@
 // Internal: no refusal; callers meet each `requires`.
 #![tactic(auto)]
 
-ghost use Rattle.std.specs.Prelude.{◌≡◌, ℕ, ◌+◌, ◌<◌, ◌≤◌, pos, ◌+ℤ◌, ◌-ℤ◌, ◌*ℤ◌, length, get_or};
+ghost use Rattle.std.specs.Prelude.{◌≡◌, ℕ, ◌+◌, ◌<◌, ◌≤◌, pos, ◌+ℤ◌, ◌-ℤ◌, ◌*ℤ◌, ◌≤ℤ◌, length, get_or};
 ghost use Rattle.std.specs.Int.{w32};
 ghost use Rattle.std.proofs.Common.{SFits};
-ghost use Rattle.integers.specs.Shift.{shift_right};
+ghost use Rattle.integers.specs.Clip.{clip3};
+ghost use Rattle.integers.specs.Shift.{pow2, shift_right};
 ghost use Rattle.integers.specs.Within.{Within};
 ghost use Rattle.h265.specs.Range.{clip_coeff};
 ghost use Rattle.transform_1d.specs.Rows.{Placed};
@@ -40,6 +41,58 @@ impl Values {
         Values {
             v: i16x4::from_array([a[at], a[at + 1], a[at + 2], a[at + 3]]),
         }
+    }
+
+    // 128 times each value.
+    #[inline(always)]
+    pub fn times_128(self) -> Sums
+        ensures { (j : ℕ) → (lane j result.v ≡ pos 128 *ℤ lane j self.v) × Within 4194304 (lane j result.v) }
+    {
+        Sums {
+            v: self.v.cast::<i32>() * i32x4::splat(128),
+        }
+    }
+
+    // The values of the first columns, and zeros for the others.
+    #[inline(always)]
+    pub fn first(self, count: usize) -> Values
+        requires { count ≤ 4 }
+        ensures { (j : ℕ) → (j < count → lane j result.v ≡ lane j self.v) × (count ≤ j → lane j result.v ≡ pos 0) }
+    {
+        let first = i16x4::from_array([0, 1, 2, 3]).simd_lt(i16x4::splat(count as i16));
+        Values {
+            v: first.select(self.v, i16x4::splat(0)),
+        }
+    }
+
+    // The same numbers as sums.
+    #[inline(always)]
+    pub fn wide(self) -> Sums
+        ensures { (j : ℕ) → lane j result.v ≡ lane j self.v }
+    {
+        Sums {
+            v: self.v.cast::<i32>(),
+        }
+    }
+
+    // Each value, limited to 0 .. most.
+    #[inline(always)]
+    pub fn between(self, most: i16) -> Values
+        requires { pos 0 ≤ℤ most }
+        ensures { (j : ℕ) → j < 4 → lane j result.v ≡ clip3 (pos 0) most (lane j self.v) }
+    {
+        Values {
+            v: self.v.simd_clamp(i16x4::splat(0), i16x4::splat(most)),
+        }
+    }
+
+    // The four values, from place at on.
+    #[inline(always)]
+    pub fn store(self, out: &mut [i16], at: usize)
+        requires { at + 4 ≤ length out.old }
+        ensures { Placed at 4 (λ j. lane j self.v) out.old out.new }
+    {
+        self.v.copy_to_slice(&mut out[at..]);
     }
 }
 
@@ -81,6 +134,18 @@ impl Sums {
         Sums { v: i32x4::splat(x) }
     }
 
+    // The four numbers from place at on.
+    // Kept: one by one, as in `Values`.
+    #[inline(always)]
+    pub fn load(a: &[i32], at: usize) -> Sums
+        requires { at + 4 ≤ length a.now }
+        ensures { (j : ℕ) → j < 4 → lane j result.v ≡ get_or a.now (at + j) (pos 0) }
+    {
+        Sums {
+            v: i32x4::from_array([a[at], a[at + 1], a[at + 2], a[at + 3]]),
+        }
+    }
+
     #[inline(always)]
     pub fn plus(self, o: Sums) -> Sums
         requires { (j : ℕ) → SFits w32 (lane j self.v +ℤ lane j o.v) }
@@ -108,6 +173,29 @@ impl Sums {
         }
     }
 
+    // 2^s times each sum.
+    #[inline(always)]
+    pub fn times(self, s: u32) -> Sums
+        requires { (s ≤ 30) × ((j : ℕ) → SFits w32 (pow2 s *ℤ lane j self.v)) }
+        ensures { (j : ℕ) → lane j result.v ≡ pow2 s *ℤ lane j self.v }
+    {
+        Sums {
+            v: self.v << i32x4::splat(s as i32),
+        }
+    }
+
+    // Each sum, limited to 16 bits.
+    #[inline(always)]
+    pub fn limited(self) -> Values
+        ensures { (j : ℕ) → j < 4 → lane j result.v ≡ clip_coeff 15 (lane j self.v) }
+    {
+        let least = i32x4::splat(-32768);
+        let most = i32x4::splat(32767);
+        Values {
+            v: self.v.simd_clamp(least, most).cast::<i16>(),
+        }
+    }
+
     // The four sums, from place at on.
     #[inline(always)]
     pub fn store(self, out: &mut [i32], at: usize)
@@ -128,6 +216,31 @@ pub fn turned(a: Sums, b: Sums, c: Sums, d: Sums) -> (Sums, Sums, Sums, Sums)
     let (p, q) = e.interleave(g);
     let (r, s) = f.interleave(h);
     (Sums { v: p }, Sums { v: q }, Sums { v: r }, Sums { v: s })
+}
+
+// The same of values.
+#[inline(always)]
+pub fn values_turned(a: Values, b: Values, c: Values, d: Values) -> (Values, Values, Values, Values)
+    ensures { Turned a.v b.v c.v d.v result.0.v result.1.v result.2.v result.3.v }
+{
+    let e = a.v.shuffle(b.v, [0, 4, 1, 5, 2, 6, 3, 7]);
+    let f = c.v.shuffle(d.v, [0, 4, 1, 5, 2, 6, 3, 7]);
+    let p = e.shuffle(f, [0, 1, 8, 9, 2, 3, 10, 11]);
+    let q = e.shuffle(f, [4, 5, 12, 13, 6, 7, 14, 15]);
+    (
+        Values {
+            v: p.extract::<0, 4>(),
+        },
+        Values {
+            v: p.extract::<4, 4>(),
+        },
+        Values {
+            v: q.extract::<0, 4>(),
+        },
+        Values {
+            v: q.extract::<4, 4>(),
+        },
+    )
 }
 
 // Eight values of 16 bits.
@@ -165,6 +278,13 @@ pub fn eight_turned(a: Row, b: Row, c: Row, d: Row) -> (Row, Row, Row, Row)
 }
 
 impl Row {
+    #[inline(always)]
+    pub fn zero() -> Row
+        ensures { (j : ℕ) → lane j result.v ≡ pos 0 }
+    {
+        Row { v: i16x8::splat(0) }
+    }
+
     // The eight values, from place at on.
     #[inline(always)]
     pub fn store(self, out: &mut [i16], at: usize)

@@ -1,2 +1,1 @@
--- Laws of the two parts of a value.
-pub mod SplitLaws
+pub mod NarrowLaws

@@ -1,5 +1,6 @@
 -- `tiles::columns` meets its contract: the loop has read the rows passed.
 use mathlib.Core.Path.{ap, ◌∙◌}
+use mathlib.Core.List.{map}
 use Prim.Native.Nat.{ℕ}
 use native.Mathlib.Omega.{arith}
 use lib.IntN.{pos}
@@ -16,7 +17,7 @@ pub loop-k-preserved : goal.loop-k-preserved
 loop-k-preserved g c = (
   omega arith,
   λ j l. simp map-set (stored_more (c.loop-k.invariant.1 j l) (simp (length-map, length-replicate) c.loop-k-test.true)
-      (c.load.ensures j l ∙ ap (λ (i : ℕ). get_or c.args.a.now i (pos 0)) (omega arith))),
+      (c.load.ensures j l ∙ ap (λ (i : ℕ). get_or (map g.I.Input.read c.args.a.now) i (pos 0)) (omega arith))),
 )
 
 pub returns : goal.returns

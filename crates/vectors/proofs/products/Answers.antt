@@ -8,27 +8,17 @@ use native.Mathlib.Omega.{arith}
 use lib.IntN.{ℤ, pos, negsuc, ◌+ℤ◌, ◌*ℤ◌, *ℤ_comm, *ℤ-zero}
 use lib.Lanes.{Each1, number_l, digits_l, pick_l, chunk}
 use lib.ListN.{length, get_or, get_or-eq_default}
-use lib.Pow.{pow_pos}
 use lib.Signed.{shr_z}
 use mir.Syntax.{w16, w32}
 use mir.Val.{SFits, to_z, of_z}
 use mir.ValLaws.{of_z_fits}
-use mir.Facts.{to_z-of_z, of_z-to_z, to_z_pos, to_z-neg, sfits_widen}
-use Rattle.std.specs.Int.{int_wrap}
-use Rattle.std.proofs.lemmas.Int.{wrapping_mul-bits, int_wrap_fits}
+use mir.Facts.{to_z-of_z, to_z_pos, to_z-neg, sfits_widen}
 use Rattle.std.proofs.lemmas.Simd.{get_or_wider, get_or_narrower, Each1-from_get_or}
 use Rattle.integers.specs.Within.{Within}
 use Rattle.integers.proofs.BoundLaws.{within_add, within_mul, within_fits, within_sfits, within_eq}
 use Rattle.vectors.specs.Lanes.{lane}
-use Rattle.vectors.proofs.LanesLaws.{lanes_fit, by_lanes, all_cases, plus_is}
+use Rattle.vectors.proofs.LanesLaws.{lanes_fit, by_lanes, all_cases, product_bits, plus_is}
 use Rattle.vectors.proofs.products.Goals as goal
-
--- ---- the bits of a product that fits
-product_bits : {x y : ℤ} → SFits w32 x → SFits w32 y → SFits w32 (x *ℤ y) → (of_z w32 x * of_z w32 y) % 4294967296 ≡ of_z w32 (x *ℤ y)
-product_bits {x} {y} f g h =
-    sym (of_z-to_z {w = w32} (record { fits = mod-lt (of_z w32 x * of_z w32 y) (pow_pos 32) }))
-    ∙ ap (of_z w32) (wrapping_mul-bits w32 (of_z w32 x) (of_z w32 y) (of_z_fits w32 x f).fits (of_z_fits w32 y g).fits
-    ∙ ap₂ (λ a b. int_wrap w32 (a *ℤ b)) (to_z-of_z f) (to_z-of_z g) ∙ int_wrap_fits w32 (x *ℤ y) h)
 
 -- ---- the halves of 32 bits
 low_half : {x : ℤ} (y : ℕ) → SFits w16 x → shr_z (to_z w32 (((of_z w16 x + 65536 * y) * 65536) % 4294967296)) 65536 ≡ x

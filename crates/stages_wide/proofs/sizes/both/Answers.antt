@@ -19,4 +19,4 @@ returns g c =
     filled_stages (trans_matrix n) n a.range a.nx a.coeff.now (zeros-get_or g.row.A)
     (pass_rows q n a.range a.coeff.now p.0.columns p.3.zero 7 one) a.shift
     (filled-all n c.POINTS.ensures
-    (short-rows q n a.range _ (omega (arith, c.POINTS.ensures)) (one.rows.long ∙ length-replicate g.row.A (pos 0) ∙ p.1.values) a.shift c.pass-2.ensures))
+    (short-rows q n a.range _ (omega (arith, c.POINTS.ensures)) (one.rows.long ∙ length-replicate g.row.A (pos 0) ∙ p.1) a.shift c.pass-2.ensures))

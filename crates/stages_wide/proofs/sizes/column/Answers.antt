@@ -13,5 +13,6 @@ returns-then-column_narrow g c =
     let a = c.args in
     let t = moved_32 c.take_column.ensures in
     let n = c.column_narrow.ensures c.if-column_narrow.true in
-    put_one_lem (trans_matrix g.row.N) g.row.N a.range a.coeff.now t
-    (narrow_stage g.row.N a.range 7 _ c.requires.0.range_least refl (taken_narrow g.row.N a.coeff.now n t) (stage_named _ _ _ c.requires.1.points c.stage.ensures)) ((stage_named _ _ _ c.requires.1.points c.stage.ensures).long ∙ length-replicate g.row.N (pos 0)) c.put_column.ensures
+    let f = stage_named c.requires.1.rows c.requires.1.points _ _ _ (t.long ∙ length-replicate g.row.A (pos 0) ∙ c.requires.1.values) c.stage.ensures in
+    put_one_lem (trans_matrix g.row.N) g.row.N a.range a.coeff.now t (narrow_stage g.row.N a.range 7 _ c.requires.0.range_least refl (taken_narrow g.row.N a.coeff.now n t) f)
+    (f.long ∙ length-replicate g.row.N (pos 0)) c.put_column.ensures

@@ -1,10 +1,12 @@
 -- `stages_wide::sizes::rows` meets its contract, by its branches: values that fit 16 bits are their own limits.
 use mathlib.Core.Path.{refl, ◌∙◌, subst}
 use Prim.Native.Nat.{ℕ}
-use Rattle.h265.specs.Matrix.{trans_matrix}
+use lib.IntN.{pos}
+use lib.ListN.{length-replicate}
 use mir.Syntax.{w32}
 use mir.Facts.{to_z-of_z}
 use borrow.Author.Rules.{sfits_of}
+use Rattle.h265.specs.Matrix.{trans_matrix}
 use Rattle.integers.specs.Within.{Narrow}
 use Rattle.stages.proofs.SizesLaws.{stored_16}
 use Rattle.stages_wide.proofs.NarrowLaws.{narrow_stage, turned_narrow}
@@ -20,4 +22,4 @@ returns-then-all_narrow g c =
     let f = stored_16 (rw c.POINTS.ensures at c.turn.ensures) in
     let h = to_z-of_z {w = w32} (sfits_of c.half.type_inv) ∙ c.half.ensures.0 in
     turned_rows (trans_matrix m) m a.range a.shift a.inter.now f
-    (narrow_stage m a.range a.shift _ c.requires.0.range_least h (turned_narrow m a.inter.now n f) (stage_named _ _ _ refl (rw c.POINTS-then-all_narrow.ensures at c.stage.ensures)))
+    (narrow_stage m a.range a.shift _ c.requires.0.range_least h (turned_narrow m a.inter.now n f) (stage_named c.requires.1.rows refl _ _ _ (f.long ∙ length-replicate g.row.A (pos 0) ∙ c.requires.1.values) (rw c.POINTS-then-all_narrow.ensures at c.stage.ensures)))

@@ -10,7 +10,7 @@ both-requires g c =
     let r = c.requires in
     let area : g.Q.Stage.POINTS * g.Q.Stage.POINTS ≡ g.row.A = rw r.2 (sym r.3) in (
       rw r.2 r.0,
-      record { values = r.4; turned = sym area },
+      r.4,
       omega (arith, c.if-nx-ROWS.true, c.ROWS.ensures),
       rest_used c.args.coeff.now (g.met.Q.Stage.size).few (omega (arith, c.if-nx-ROWS.true, c.ROWS.ensures, (g.met.Q.Stage.size).few))
           (λ i a b. c.rest_zero.ensures c.if-rest_zero.true i (omega (arith, a, r.4)) (omega (arith, b, area))),
