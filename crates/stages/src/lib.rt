@@ -38,7 +38,7 @@ fn dct_sized<V: Sample>(coeff: &[V], n: usize, nx: usize, s: u32, out: &mut [V])
 }
 
 // The DCT of a block of any size; one coefficient alone fills it.
-// Kept: 4 points here and not in `dct_sized`, which is not put inside: its buffers, and what they take to begin and end a call, would cost the smallest block, and one coefficient, a tenth.
+// Kept: 4 points here and not in `dct_sized`, which is not put inside: for its buffers the smallest block, and one coefficient, would save and restore registers that they have no use for.
 #[inline(always)]
 fn dct_plain<V: Sample>(coeff: &[V], n: usize, nx: usize, s: u32, out: &mut [V])
     requires { T (is_size n) × BlockNeeds n s nx (map V.value coeff.now) (length out.old) × (V.least_shift ≤ s) }

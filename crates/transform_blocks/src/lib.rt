@@ -60,7 +60,7 @@ fn elements_fit(xs: &[i16], len: usize)
 
 // Kept: a function for each width: they share the ladder alone, since a coefficient is looked at for row 9, and a range chosen, at 32 bits only.
 // A block at 16 bits, where no coefficient can be outside the range.
-// Kept: put inside its two callers: a block of 4 points takes a tenth less time where its answer needs no place in memory.
+// Kept: put inside its two callers: a block of 4 points takes a tenth fewer instructions where its answer needs no place in memory.
 #[inline(always)]
 pub fn invert_16(
     kind: Kind,

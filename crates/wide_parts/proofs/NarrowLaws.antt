@@ -1,6 +1,5 @@
--- Laws of values that fit 16 bits.
+-- Values that fit 16 bits.
 --   clip_coeff_narrow       16 bits are inside every range
---   tests_narrow, narrow_…    what two tests say of a value that fits 16 bits; no value, one value more
 use mathlib.Core.Path.{◌≡◌}
 use Prim.Native.Nat.{ℕ, ◌^◌, ◌≤◌, ◌<◌}
 use native.Mathlib.Omega.{arith}
