@@ -1,14 +1,11 @@
 -- Laws of stage two at both widths.
 --   rows_unlimited     where no sum is limited, stage two writes its lines as they are
---   stored_16          what a stage stores in 16 bits, as numbers
-use mathlib.Core.Path.{◌≡◌, ap, ◌∙◌, subst}
+use mathlib.Core.Path.{◌≡◌, ap, ◌∙◌}
 use mathlib.Core.List.{List}
 use Prim.Native.Nat.{ℕ, ◌+◌, ◌-◌, ◌*◌, ◌<◌}
 use lib.IntN.{ℤ, pos}
 use lib.ListN.{get_or}
 use lib.Signed.{◌≤ℤ◌}
-use Rattle.std.specs.Prelude.{map}
-use Rattle.std.proofs.lemmas.List.{map-id}
 use Rattle.integers.specs.Shift.{pow2, round_shift}
 use Rattle.integers.specs.Within.{Within}
 use Rattle.h265.specs.Matrix.{abs_sum}
@@ -27,7 +24,3 @@ module _ (t : ℕ → ℕ → ℤ) {n : ℕ} (s : ℕ) (d : List ℤ) (made : �
   pub rows_unlimited : {k : ℕ} {z : ℤ} {xs ys : List ℤ} → k ≡ n → z ≡ pow2 (s - 1) → Filled n n (λ c m. made (line_by t n z s d c m)) k xs ys
       → Filled n n (line_by t n (pow2 (s - 1)) s d) n xs ys
   rows_unlimited e f p = filled_cong (λ c m i j. ap (λ (y : ℤ). made (line_by t n y s d c m)) f ∙ line_kept c m i j) (filled-all n e p)
-
-pub stored_16 : {n k : ℕ} {f : ℕ → ℕ → ℤ} {xs ys : List ℤ} → Filled n n f k (map (λ (x : ℤ). x) xs) (map (λ (x : ℤ). x) ys) → Filled n n f k xs ys
-stored_16 {n} {k} {f} {xs} {ys} p =
-    subst (λ (zs : List ℤ). Filled n n f k zs ys) (map-id xs) (subst (λ (zs : List ℤ). Filled n n f k (map (λ (x : ℤ). x) xs) zs) (map-id ys) p)

@@ -12,9 +12,9 @@ use Rattle.h265.specs.Matrix.{trans_matrix}
 use Rattle.h265.proofs.RangeLaws.{size_bound}
 use Rattle.transform_1d.proofs.MatrixLaws.{size_abs_sum}
 use Rattle.tiles.specs.Tile.{first_rows}
-use Rattle.tiles.proofs.TileLaws.{rows_whole}
+use Rattle.tiles.proofs.TileLaws.{filled_same, rows_whole}
 use Rattle.stages.proofs.BothLaws.{stored_small, both_rows, read_rows, same_block}
-use Rattle.stages.proofs.SizesLaws.{rows_unlimited, stored_16}
+use Rattle.stages.proofs.SizesLaws.{rows_unlimited}
 use Rattle.stages.proofs.blocks.block.Goals as goal
 
 pub returns : goal.returns
@@ -25,7 +25,7 @@ returns g c =
     let t = trans_matrix n in
     let size = (g.met.S.Stage.size).size in
     let xs = first_rows q n (map g.V.Input.read c.args.coeff.now) in
-    let one = stored_16 c.stage.ensures in
+    let one = filled_same c.stage.ensures in
     let whole : first_rows q n (map (λ x. x) c.stage.new.out) ≡ c.stage.new.out = rows_whole q n c.stage.new.out (one.long ∙ length-replicate g.row.A (pos 0) ∙ c.requires.2) in
     same_block t _ xs (read_rows g.V.Input.read g.V.Output.value g.met.V.Sample.reads q n c.args.nx c.args.coeff.now p.columns p.fits c.requires.4) c.args.s
     (omega (arith, size_bound n size)) (omega (arith, p.room, length-map c.args.out.now g.V.Output.value))
