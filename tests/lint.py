@@ -66,15 +66,25 @@ def heads(text):
         yield fn.group(1), words
 
 
+def brought(text, listed):
+    """The names that `pub use` brings from other crates, each with its crate."""
+    for crate, rest in re.findall(r"^pub use (\w+)::([^;]*);", text, flags=re.M):
+        if crate in listed:
+            yield from ((crate, name) for name in re.findall(r"\w+(?=\s*(?:,|\}|$))", rest))
+
+
+def asks(crate, name):
+    """Whether a crate's public function of this name has a `requires`."""
+    sources = (pathlib.Path("crates") / crate / "src").rglob("*.rt")
+    return any(name == fn and "requires" in words for source in sources for fn, words in heads(source.read_text()))
+
+
 def instance_edits(crate, name):
-    """The edits of the generic function that an entry point is one width of, and those of a generic function that are named for one of its widths."""
-    if crate == "list_blocks":
-        width = f"{name}_i" if name.startswith("dequantize") else f"dequantize_{name}_i"
-        return len(list(pathlib.Path("crates/list_blocks/must-fail").glob(f"{width}*.edit")))
-    if crate not in ("scaling_wide", "scaling_narrow"):
+    """The edits of a generic function that are named for one of its widths."""
+    if crate != "list_blocks":
         return 0
-    generic = "transform_skip" if "transform_skip" in name else "dequantize"
-    return len(list(pathlib.Path("crates/scaling_blocks/must-fail").glob(f"{generic}-*.edit")))
+    width = f"{name}_i" if name.startswith("dequantize") else f"dequantize_{name}_i"
+    return len(list(pathlib.Path("crates/list_blocks/must-fail").glob(f"{width}*.edit")))
 
 
 def crate_rules():
@@ -93,6 +103,9 @@ def crate_rules():
             # a path would not say which of the two it means
             if source.stem in listed:
                 say("a module named like a crate", source)
+            for crate, name in brought(source.read_text(), listed):
+                if folder.name not in INTERNAL and asks(crate, name):
+                    say("an entry point with a requires, from another crate", f"{source}: {crate}::{name}")
             for name, words in heads(source.read_text()):
                 if "ensures" not in words:
                     say("a public function that states no result", f"{source}: {name}")

@@ -5,6 +5,9 @@
 --   accumulated_within         a sum of at most 32 samples of at most 2^22 is at most 2^27
 --   accumulated_cong           blocks that agree have the same sums
 --   stored_kept, -done, -rest  a loop that leaves an element that is right as it stands; an element that it stored, and one that it has not come to
+--   stored_firsts              a loop that begins past samples with none before them
+--   along_first, -later, down_first, -later   a sample at the start of its row, and one behind it; one in the first row, and one below it
+--   taken_fits, taken_stored   the sum that a loop stores at a sample, by the one before it: it fits 32 bits, and is right
 use Rattle.std.specs.Prelude.{Option, Some, None}
 use mathlib.Core.Path.{◌≡◌, refl, sym, ap, ap₂, subst, ◌∙◌}
 use mathlib.Core.Bool.{cond}
@@ -18,20 +21,24 @@ use lib.Arith.{digits_div, digits_mod, digits_lt}
 use lib.Bits.{bit_and, and_mask}
 use lib.Dec.{T, eqb}
 use lib.IntN.{ℤ, pos, ◌+ℤ◌, +ℤ_idl, +ℤ_comm}
-use lib.ListN.{length}
+use lib.ListN.{length, set}
 use lib.Seq.{set-get_or}
+use mir.Syntax.{w32}
+use mir.Val.{SFits, to_z, of_z}
 use Rattle.integers.specs.Sum.{sum}
 use Rattle.integers.specs.Within.{Within}
-use Rattle.integers.proofs.BoundLaws.{within_le}
-use Rattle.integers.proofs.ListsLaws.{Stored, stored_more, overwrite-get_or, overwrite-get_or-past}
+use Rattle.integers.proofs.MachineLaws.{round_trip}
+use Rattle.integers.proofs.BoundLaws.{within_le, within_fits}
+use Rattle.integers.proofs.ListsLaws.{Stored, stored_more, overwrite_cong, overwrite-get_or, overwrite-get_or-past}
 use Rattle.integers.proofs.SumLaws.{sum_zero, sum_suc, sum_cong, sum_bound}
 use Rattle.h265.specs.Range.{is_size}
-use Rattle.h265.proofs.RangeLaws.{size_cases}
+use Rattle.h265.proofs.RangeLaws.{size_cases, size_bound}
 use Rattle.block_tool_rules.specs.declared.Accumulate.{Accumulate}
 use Rattle.block_tool_rules.specs.declared.Accumulate.TheVariants.{Off, AlongRows, DownColumns}
 use Rattle.block_tool_rules.specs.Modification.{accumulated_row, accumulated_column, accumulated}
 use Rattle.h265.proofs.TransformLaws.{cell_row}
-use Rattle.block_tool_work.specs.Work.{step_back, at}
+use Rattle.block_tool_work.specs.Work.{step_back, at, Summable}
+use Rattle.block_tool_work.proofs.RotationLaws.{overwrite_self}
 
 -- none is no distance, and a distance is by what stands in it
 Far : Option ℕ → Type 0
@@ -160,11 +167,48 @@ accumulated_within DownColumns n f i m h w =
 pub stored_kept : {f : ℕ → ℤ} {xs : List ℤ} {k : ℕ} {ys : List ℤ} → Stored f xs k ys → k < length xs → at ys k ≡ f k → Stored f xs (k + 1) ys
 stored_kept {f} {xs} {k} {ys} s h e = subst (λ (l : List ℤ). Stored f xs (k + 1) l) (set-get_or ys k (pos 0)) (stored_more s h e)
 
+pub stored_firsts : (f : ℕ → ℤ) (xs : List ℤ) (k : ℕ) → k ≤ length xs → ((i : ℕ) → i < k → f i ≡ at xs i) → Stored f xs k xs
+stored_firsts f xs k l h = record { is = sym (overwrite_cong k f (at xs) xs h ∙ overwrite_self k xs l); inside = l }
+
 pub stored_done : {f : ℕ → ℤ} {xs : List ℤ} {k : ℕ} {ys : List ℤ} → Stored f xs k ys → (i : ℕ) → i < k → at ys i ≡ f i
 stored_done {f} {xs} {k} s i h = ap (λ (l : List ℤ). at l i) s.is ∙ overwrite-get_or k f xs i (pos 0) h
 
 pub stored_rest : {f : ℕ → ℤ} {xs : List ℤ} {k : ℕ} {ys : List ℤ} → Stored f xs k ys → (i : ℕ) → k ≤ i → at ys i ≡ at xs i
 stored_rest {f} {xs} {k} s i h = ap (λ (l : List ℤ). at l i) s.is ∙ overwrite-get_or-past k f xs i (pos 0) h
+
+-- ---- a sample that takes up the sum at the one before it
+module _ (n : ℕ) (f : ℕ → ℤ) (size : T (is_size n)) (i : ℕ) where
+  positive : 0 < n
+  positive = omega (arith, (size_bound n size).0)
+
+  pub along_first : bit_and i (n - 1) ≡ 0 → accumulated_row n f i ≡ f i
+  along_first e = row_first n f i positive (sym (column_mask n i size) ∙ e)
+
+  pub along_later : (bit_and i (n - 1) ≡ 0 → ⊥) → Follows n f AlongRows i 1
+  along_later h =
+      accumulated_later n f AlongRows i 1 positive (sym (ap (λ b. cond b None (Some 1)) (ne_eqb (i % n) 0 (λ e. h (column_mask n i size ∙ e)))))
+
+  pub down_first : i < n → accumulated_column n f i ≡ f i
+  down_first h = column_first n f i h
+
+  pub down_later : n ≤ i → Follows n f DownColumns i n
+  down_later h = accumulated_later n f DownColumns i n positive (sym (ap (λ b. cond b None (Some n)) (le-ltb i n h)))
+
+module _ (a : Accumulate) (n : ℕ) (xs : List ℤ) (size : T (is_size n)) (small : Summable (n * n) xs) (i : ℕ) (inside : i < n * n) where
+  total_fits : SFits w32 (accumulated a n (at xs) i)
+  total_fits = within_fits tt (accumulated_within a n (at xs) i (size_bound n size).1 inside small.small)
+
+  module _ {ys : List ℤ} (s : Stored (accumulated a n (at xs)) xs i ys) {back : ℕ} (f : Follows n (at xs) a i back) (p : SFits w32 (at ys i)) (q : SFits w32 (at ys (i - back))) where
+    taken_is : to_z w32 (of_z w32 (at ys i)) +ℤ to_z w32 (of_z w32 (at ys (i - back))) ≡ accumulated a n (at xs) i
+    taken_is =
+        ap₂ ◌+ℤ◌ (round_trip p ∙ stored_rest s i (omega arith)) (round_trip q ∙ stored_done s (i - back) (omega (arith, f.before, f.away)))
+        ∙ sym f.is
+
+    pub taken_fits : SFits w32 (to_z w32 (of_z w32 (at ys i)) +ℤ to_z w32 (of_z w32 (at ys (i - back))))
+    taken_fits = subst (λ (z : ℤ). SFits w32 z) (sym taken_is) total_fits
+
+    pub taken_stored : i < length xs → Stored (accumulated a n (at xs)) xs (i + 1) (set ys i (to_z w32 (of_z w32 (to_z w32 (of_z w32 (at ys i)) +ℤ to_z w32 (of_z w32 (at ys (i - back)))))))
+    taken_stored h = stored_more s h (ap (λ (z : ℤ). to_z w32 (of_z w32 z)) taken_is ∙ round_trip total_fits)
 
 -- ---- whole blocks
 pub accumulated_cong : (a : Accumulate) (n : ℕ) (f g : ℕ → ℤ) → ((j : ℕ) → j < n * n → f j ≡ g j) → (i : ℕ) → i < n * n → accumulated a n f i ≡ accumulated a n g i

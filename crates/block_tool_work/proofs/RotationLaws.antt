@@ -1,24 +1,24 @@
 -- Laws of rotation.
 --   rotated_index_lem                  at size 4 rotation exchanges index i and index 15 - i
---   turned                         the first 16 elements backwards
---   taken                          the first k elements
+--   Turned, turned_none, -more, -all   a loop that has exchanged the first and the last k of 16 elements
 --   rotated_cong, rotated_within   blocks that agree, and their bound
 --   rotates, rotates_not           a block of any size, rotated or not
-use mathlib.Core.Path.{◌≡◌, sym, ap, subst, ◌∙◌}
+use mathlib.Core.Path.{◌≡◌, refl, sym, ap, subst, ◌∙◌}
 use mathlib.Core.Bool.{Bool, true, false, cond}
-use mathlib.Core.List.{List, ◌++◌, reverse}
+use mathlib.Core.List.{List}
 use Prim.Native.Nat.{ℕ, ◌+◌, ◌-◌, ◌*◌, ◌/◌, ◌%◌, ◌≤◌, ◌<◌}
-use native.Mathlib.Decide.{dec_lt}
+use native.Mathlib.Nat.{not-suc-le-zero}
+use native.Mathlib.Decide.{ℕ_discrete, dec_lt}
 use native.Mathlib.Omega.{arith}
 use lib.Arith.{digits_lt}
 use lib.Dec.{T}
 use lib.IntN.{ℤ, pos}
-use lib.ListN.{length, get_or, take, drop}
+use lib.ListN.{length}
 use lib.Seq.{ext_get_or}
-use Rattle.std.proofs.lemmas.List.{length-take-le, length-reverse, get_or-reverse, get_or-take}
-use Rattle.integers.specs.Lists.{tabulate, overwrite}
+use Rattle.std.specs.List.{SwappedAt}
+use Rattle.integers.specs.Lists.{overwrite}
 use Rattle.integers.specs.Within.{Within}
-use Rattle.integers.proofs.ListsLaws.{tabulate-length, tabulate-get_or, overwrite-length, overwrite-get_or, overwrite-get_or-past}
+use Rattle.integers.proofs.ListsLaws.{overwrite-length, overwrite-get_or, overwrite-get_or-past}
 use Rattle.refusal.specs.Condition.{rotation_refused}
 use Rattle.refusal.proofs.ConditionLaws.{rotation_accepted}
 use Rattle.block_tool_rules.specs.Modification.{rotated_index, rotated}
@@ -29,33 +29,57 @@ pub rotated_index_lem : (f : ℕ → ℤ) (i : ℕ) → i < 16 → rotated true 
 unfolding rotated rotated_index
 rotated_index_lem f i h = ap f (let e : (3 - i / 4) * 4 + (3 - i % 4) ≡ 15 - i = omega arith in e)
 
-pub turned : (xs : List ℤ) → 16 ≤ length xs → reverse (take 16 xs) ++ drop 16 xs ≡ overwrite 16 (rotated true 4 (at xs)) xs
-unfolding overwrite
-turned xs l = ap (λ (ys : List ℤ). ys ++ drop 16 xs) (ext_get_or (pos 0) (reverse (take 16 xs)) (tabulate 16 (rotated true 4 (at xs))) same each)
+-- ---- one pair after the other
+pub record Turned (k : ℕ) (xs ys : List ℤ) : Type 0 where
+  pub same : length ys ≡ length xs
+  pub low : (j : ℕ) → j < k → at ys j ≡ at xs (15 - j)
+  pub high : (j : ℕ) → j < k → at ys (15 - j) ≡ at xs j
+  pub rest : (j : ℕ) → k ≤ j → j + k < 16 → at ys j ≡ at xs j
+  pub past : (j : ℕ) → 16 ≤ j → at ys j ≡ at xs j
+
+pub turned_none : {xs : List ℤ} → Turned 0 xs xs
+turned_none = record { same = refl; low = λ j h. absurd (not-suc-le-zero h); high = λ j h. absurd (not-suc-le-zero h); rest = λ j a b. refl; past = λ j h. refl }
+
+pub turned_more : {k : ℕ} {xs ys zs : List ℤ} → Turned k xs ys → k < 8 → length zs ≡ length ys → SwappedAt ys zs k (15 - k) → Turned (k + 1) xs zs
+turned_more {k} {xs} {ys} {zs} t h e s =
+    record {
+      same = e ∙ t.same;
+      low = λ j a.
+          elim (ℕ_discrete j k) [
+            | yes q ↦ rw q (s.0 (pos 0) ∙ t.rest (15 - k) (omega arith) (omega arith))
+            | no q ↦ other j q (λ w. omega arith) ∙ t.low j (omega arith)
+          ];
+      high = λ j a.
+          elim (ℕ_discrete j k) [
+            | yes q ↦ rw q (s.1 (pos 0) ∙ t.rest k (omega arith) (omega arith))
+            | no q ↦ other (15 - j) (λ w. omega arith) (λ w. omega arith) ∙ t.high j (omega arith)
+          ];
+      rest = λ j a b. other j (λ w. omega arith) (λ w. omega arith) ∙ t.rest j (omega arith) (omega arith);
+      past = λ j a. other j (λ w. omega arith) (λ w. omega arith) ∙ t.past j a;
+    }
   where
-    whole : length (take 16 xs) ≡ 16
-    whole = length-take-le 16 xs l
+    other : (j : ℕ) → (j ≡ k → ⊥) → (j ≡ 15 - k → ⊥) → at zs j ≡ at ys j
+    other j a b = s.2 j (pos 0) a b
 
-    same : length (reverse (take 16 xs)) ≡ length (tabulate 16 (rotated true 4 (at xs)))
-    same = length-reverse (take 16 xs) ∙ whole ∙ sym (tabulate-length 16 (rotated true 4 (at xs)))
+pub turned_all : {xs ys : List ℤ} → Turned 8 xs ys → 16 ≤ length xs → ys ≡ overwrite 16 (rotated true 4 (at xs)) xs
+turned_all {xs} {ys} t l =
+    ext_get_or (pos 0) ys (overwrite 16 (rotated true 4 (at xs)) xs) (t.same ∙ sym (overwrite-length 16 (rotated true 4 (at xs)) xs l)) each
+  where
+    inside : (j : ℕ) → j < 16 → at ys j ≡ at xs (15 - j)
+    inside j h =
+        elim (dec_lt j 8) [
+          | yes q ↦ t.low j q
+          | no q ↦ subst (λ (i : ℕ). at ys i ≡ at xs (15 - j)) (omega arith) (t.high (15 - j) (omega arith))
+        ]
 
-    each : (i : ℕ) → i < length (reverse (take 16 xs)) → get_or (reverse (take 16 xs)) i (pos 0) ≡ get_or (tabulate 16 (rotated true 4 (at xs))) i (pos 0)
-    each i h =
-        let below : i < 16 = omega (arith, length-reverse (take 16 xs), whole) in
-        get_or-reverse (take 16 xs) i (pos 0) (omega (arith, whole))
-        ∙ ap (λ (j : ℕ). get_or (take 16 xs) j (pos 0)) (omega (arith, whole))
-        ∙ get_or-take 16 xs (15 - i) (pos 0) (omega arith)
-        ∙ sym (tabulate-get_or 16 (rotated true 4 (at xs)) i (pos 0) below ∙ rotated_index_lem (at xs) i below)
+    each : (j : ℕ) → j < length ys → at ys j ≡ at (overwrite 16 (rotated true 4 (at xs)) xs) j
+    each j h =
+        elim (dec_lt j 16) [
+          | yes q ↦ inside j q ∙ sym (rotated_index_lem (at xs) j q) ∙ sym (overwrite-get_or 16 (rotated true 4 (at xs)) xs j (pos 0) q)
+          | no q ↦ t.past j (omega arith) ∙ sym (overwrite-get_or-past 16 (rotated true 4 (at xs)) xs j (pos 0) (omega arith))
+        ]
 
 -- ---- whole blocks
-pub taken : (k : ℕ) (xs : List ℤ) → k ≤ length xs → take k xs ≡ tabulate k (at xs)
-taken k xs l = ext_get_or (pos 0) (take k xs) (tabulate k (at xs)) (length-take-le k xs l ∙ sym (tabulate-length k (at xs))) each
-  where
-    each : (i : ℕ) → i < length (take k xs) → get_or (take k xs) i (pos 0) ≡ get_or (tabulate k (at xs)) i (pos 0)
-    each i h =
-        let below : i < k = omega (arith, length-take-le k xs l) in
-        get_or-take k xs i (pos 0) below ∙ sym (tabulate-get_or k (at xs) i (pos 0) below)
-
 -- a place of the block, rotated or not
 place_lt : (t : Bool) (n i : ℕ) → i < n * n → cond t (rotated_index n i) i < n * n
 unfolding rotated_index

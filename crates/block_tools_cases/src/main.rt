@@ -5,13 +5,12 @@
 #![tactic(auto)]
 
 use block_tools::Accumulate;
-use cases::UnknownNumber;
 use parameters::QpPrime;
 use refusal::{Precision, Refusal};
 use scaling_values::ScalingList;
 use std::io::Read;
 
-// The function that a case is of, by its number.
+// The function that a case is of, by its number; the last one is any number from its own on.
 #[derive(Clone, Copy)]
 enum Function {
     Skip,
@@ -19,7 +18,7 @@ enum Function {
     Bypass,
 }
 
-// How the levels of a case are made, by its number.
+// How the levels of a case are made, by its number; a number past these three makes small ones.
 #[derive(Clone, Copy)]
 enum Levels {
     Given,
@@ -27,28 +26,22 @@ enum Levels {
     Wide,
 }
 
-impl TryFrom<u8> for Function {
-    type Error = UnknownNumber;
-
-    fn try_from(number: u8) -> Result<Function, UnknownNumber> {
+impl From<u8> for Function {
+    fn from(number: u8) -> Function {
         match number {
-            0 => Ok(Function::Skip),
-            1 => Ok(Function::SkipListed),
-            2 => Ok(Function::Bypass),
-            _ => Err(UnknownNumber),
+            0 => Function::Skip,
+            1 => Function::SkipListed,
+            _ => Function::Bypass,
         }
     }
 }
 
-impl TryFrom<u8> for Levels {
-    type Error = UnknownNumber;
-
-    fn try_from(number: u8) -> Result<Levels, UnknownNumber> {
+impl From<u8> for Levels {
+    fn from(number: u8) -> Levels {
         match number {
-            0 => Ok(Levels::Given),
-            1 => Ok(Levels::Small),
-            2 => Ok(Levels::Wide),
-            _ => Err(UnknownNumber),
+            0 => Levels::Given,
+            2 => Levels::Wide,
+            _ => Levels::Small,
         }
     }
 }
@@ -64,26 +57,25 @@ struct Case {
     accumulate: Accumulate,
 }
 
-// Kept: a TryFrom<u8> can only stand where Accumulate is declared, and these numbers are this file's alone.
-fn way_of(number: u8) -> Result<Accumulate, UnknownNumber> {
+// Kept: a From<u8> can only stand where Accumulate is declared, and these numbers are this file's alone.
+fn way_of(number: u8) -> Accumulate {
     match number {
-        0 => Ok(Accumulate::Off),
-        1 => Ok(Accumulate::AlongRows),
-        2 => Ok(Accumulate::DownColumns),
-        _ => Err(UnknownNumber),
+        0 => Accumulate::Off,
+        1 => Accumulate::AlongRows,
+        _ => Accumulate::DownColumns,
     }
 }
 
-fn next_case(stdin: &mut impl Read) -> Result<Case, UnknownNumber> {
-    Ok(Case {
-        function: Function::try_from(cases::next::<u8, _>(stdin))?,
+fn next_case(stdin: &mut impl Read) -> Case {
+    Case {
+        function: Function::from(cases::next::<u8, _>(stdin)),
         n: cases::next(stdin),
         qp: QpPrime(cases::next(stdin)),
         precision: cases::next_precision(stdin),
         dc: cases::next(stdin),
         rotate: cases::next::<u8, _>(stdin) != 0,
-        accumulate: way_of(cases::next(stdin))?,
-    })
+        accumulate: way_of(cases::next(stdin)),
+    }
 }
 
 // The sum of the elements modulo 2^32, and the sum of the sums on the way, which tells places apart.
@@ -170,16 +162,19 @@ fn make(stdin: &mut impl Read, how: Levels, count: usize, levels: &mut [i32]) {
     }
 }
 
-// What follows the text of a case.
-fn replay_case(rt: &impl Print, stdin: &mut impl Read) -> Result<(), UnknownNumber> {
-    let case = next_case(stdin)?;
+// One case; answers whether there was one.
+fn replay(rt: &impl Print, stdin: &mut impl Read) -> bool {
+    if !cases::copy_text(rt, stdin) {
+        return false;
+    }
+    let case = next_case(stdin);
     let mut list = [0u8; 64];
     let mut levels = [0i32; 1024];
     let mut out = [999i32; 1028];
     let entries = cases::next_length(stdin, 64);
-    cases::read_first(stdin, entries, &mut list);
+    cases::read_bytes(stdin, entries, &mut list);
     let count = cases::next_length(stdin, 1024);
-    let how = Levels::try_from(cases::next::<u8, _>(stdin))?;
+    let how = Levels::from(cases::next::<u8, _>(stdin));
     make(stdin, how, count, &mut levels);
     let len = cases::next_length(stdin, 1028);
     show(
@@ -190,15 +185,7 @@ fn replay_case(rt: &impl Print, stdin: &mut impl Read) -> Result<(), UnknownNumb
         &mut out[0..len],
     );
     cases::put_end(rt);
-    Ok(())
-}
-
-// One case; answers whether there was one.
-fn replay(rt: &impl Print, stdin: &mut impl Read) -> bool {
-    if !cases::copy_text(rt, stdin) {
-        return false;
-    }
-    replay_case(rt, stdin).is_ok()
+    true
 }
 
 fn main(rt: HostRuntime) {

@@ -10,14 +10,10 @@ mod writing;
 pub use defaults::{Defaults, kept, put_refused};
 pub use reading::{
     Number, are_next, copy_text, named, next, next_kind, next_length, next_precision,
-    next_short_length, read_all, read_first, read_indices, read_named,
+    next_short_length, read_all, read_bytes, read_first, read_indices, read_named,
 };
 pub use replay::replay_all;
 pub use writing::{
     put, put_all, put_answer, put_count, put_each, put_end, put_flag, put_place, put_refusal,
     put_same, put_value,
 };
-
-// A number of a file that stands for nothing there.
-#[derive(Clone, Copy)]
-pub struct UnknownNumber;

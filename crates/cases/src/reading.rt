@@ -94,6 +94,18 @@ pub fn read_first<T: Number, R: Read>(input: &mut R, count: usize, xs: &mut [T])
     }
 }
 
+// The first bytes of a slice, or none where it has fewer; those that the input has no more of stay as they were.
+// Kept: beside `read_first`, which asks the reader once for each number: a list of bytes is there in one read.
+pub fn read_bytes<R: Read>(input: &mut R, count: usize, xs: &mut [u8])
+    ensures read { count ≤ length xs.old → (n : ℕ) × Consumes (R.remaining input.old) (R.remaining input.new) (take n (take count xs.new)) }
+    ensures rest { drop count xs.new ≡ drop count xs.old }
+    ensures fewer { length xs.old < count → xs.new ≡ xs.old }
+{
+    if count <= xs.len() {
+        streams::read_full(input, &mut xs[..count]);
+    }
+}
+
 // Whether the elements are the next numbers; all of them are read.
 pub fn are_next<T: Number, R: Read>(input: &mut R, xs: &[T]) -> bool
     ensures { (ys : List T) × GivesEach T.bytes (R.remaining input.old) ys (R.remaining input.new) × (result ≡ pointwise T.eq xs.now ys) }

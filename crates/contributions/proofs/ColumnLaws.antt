@@ -2,7 +2,7 @@
 --   column_stored              n stores of a column's entries
 --   product_at                 the product at an index
 --   products_are               the products by two columns are the contributions
---   column_dct, column_dst     the column of a kind
+--   kind_dct, kind_dst         the contributions of a kind
 use mathlib.Core.Path.{◌≡◌, sym, ap, ap₂, subst, ◌∙◌}
 use mathlib.Core.List.{List}
 use Prim.Native.Nat.{ℕ, ◌*◌, ◌/◌, ◌%◌}
@@ -39,10 +39,13 @@ products_are {t} {n} {m} {j} {u} {v} d out p q =
     (row_order_cong n (product_of u v n d) (contribution t n d m j) (λ k c hk hc. ap₂ (λ (x y : ℤ). (x *ℤ y) *ℤ block_at n d k c) (p.at k hk) (q.at c hc)))
 
 -- ---- by kind
-pub column_dct : {kind : Kind} {n m : ℕ} {xs : List ℤ} → kind ≡ Dct → ColumnOf (trans_matrix n) n m xs → ColumnOf (matrix_of kind n) n m xs
-unfolding matrix_of
-column_dct {n = n} {m} {xs} e h = subst (λ (k : Kind). ColumnOf (matrix_of k n) n m xs) (sym e) h
+module _ {kind : Kind} (n : ℕ) (d : List ℤ) (m j : ℕ) (out : List ℤ) {after : List ℤ} where
+  pub kind_dct : kind ≡ Dct → after ≡ overwrite (n * n) (row_order n (contribution (trans_matrix n) n d m j)) out
+      → after ≡ overwrite (n * n) (row_order n (contribution (matrix_of kind n) n d m j)) out
+  unfolding matrix_of
+  kind_dct e h = subst (λ (k : Kind). after ≡ overwrite (n * n) (row_order n (contribution (matrix_of k n) n d m j)) out) (sym e) h
 
-pub column_dst : {kind : Kind} {n m : ℕ} {xs : List ℤ} → kind ≡ Dst → n ≡ 4 → ColumnOf dst_matrix 4 m xs → ColumnOf (matrix_of kind n) n m xs
-unfolding matrix_of
-column_dst e s h = rw (e, s) h
+  pub kind_dst : kind ≡ Dst → n ≡ 4 → after ≡ overwrite 16 (row_order 4 (contribution dst_matrix 4 d m j)) out
+      → after ≡ overwrite (n * n) (row_order n (contribution (matrix_of kind n) n d m j)) out
+  unfolding matrix_of
+  kind_dst e s h = rw (e, s) h

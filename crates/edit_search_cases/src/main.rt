@@ -4,14 +4,13 @@
 // outputs. tests/edit_search_cases.py, which asks every value of the range, writes cases and text.
 #![tactic(auto)]
 
-use cases::UnknownNumber;
 use parameters::QpPrime;
 use refusal::{Precision, Refusal};
 use scaling_values::ScalingList;
 use std::io::Read;
 use transform_1d::Kind;
 
-// The function that a case is of, by its number.
+// The function that a case is of, by its number; the last one is any number from its own on.
 #[derive(Clone, Copy)]
 enum Function {
     Coefficients,
@@ -19,15 +18,12 @@ enum Function {
     ListedLevels,
 }
 
-impl TryFrom<u8> for Function {
-    type Error = UnknownNumber;
-
-    fn try_from(number: u8) -> Result<Function, UnknownNumber> {
+impl From<u8> for Function {
+    fn from(number: u8) -> Function {
         match number {
-            0 => Ok(Function::Coefficients),
-            1 => Ok(Function::Levels),
-            2 => Ok(Function::ListedLevels),
-            _ => Err(UnknownNumber),
+            0 => Function::Coefficients,
+            1 => Function::Levels,
+            _ => Function::ListedLevels,
         }
     }
 }
@@ -92,13 +88,13 @@ fn replay_case(rt: &impl Print, stdin: &mut impl Read, case: Case) {
     let mut least = [7i32; 1040];
     let mut most = [7i32; 1040];
     let entries = cases::next_length(stdin, 64);
-    cases::read_first(stdin, entries, &mut list);
+    cases::read_bytes(stdin, entries, &mut list);
     let count = cases::next_length(stdin, 1024);
     cases::read_first(stdin, count, &mut given);
     let targets = cases::next_length(stdin, 1024);
     cases::read_first(stdin, targets, &mut target);
     let flags = cases::next_length(stdin, 1024);
-    cases::read_first(stdin, flags, &mut wanted);
+    cases::read_bytes(stdin, flags, &mut wanted);
     let low = cases::next_length(stdin, 1040);
     let high = cases::next_length(stdin, 1040);
     let least = &mut least[0..low];
@@ -122,9 +118,7 @@ fn replay(rt: &impl Print, stdin: &mut impl Read) -> bool {
     if !cases::copy_text(rt, stdin) {
         return false;
     }
-    let Ok(function) = Function::try_from(cases::next::<u8, _>(stdin)) else {
-        return false;
-    };
+    let function = Function::from(cases::next::<u8, _>(stdin));
     let case = next_case(stdin, function);
     replay_case(rt, stdin, case);
     cases::put_end(rt);

@@ -62,7 +62,7 @@ pub fn is_fresh(setting: &Setting, block: EditedBlock, kept: &[i32; 1040], now: 
     let marks = [7i32; 1040];
     let given = match setting.way {
         Way::Coefficients => &*now.levels == marks.as_slice() && &*now.coeff == kept.as_slice(),
-        Way::Levels | Way::ListedLevels => {
+        Way::Levels | Way::ListedLevels | Way::Other => {
             &*now.levels == kept.as_slice() && is_scaled(setting, kept, now.coeff)
         }
     };

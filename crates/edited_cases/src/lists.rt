@@ -78,7 +78,7 @@ fn on_levels(
         setting.n,
         setting.precision,
         setting.qp_prime,
-        setting.list(),
+        setting.whole_list(),
         buffers.levels,
         buffers.coeff,
         buffers.inter,
@@ -104,7 +104,7 @@ pub fn call(
 ) {
     let listed = match setting.way {
         Way::Coefficients => on_coefficients(setting, buffers, given, told),
-        Way::Levels | Way::ListedLevels => on_levels(setting, buffers, given, told),
+        Way::Levels | Way::ListedLevels | Way::Other => on_levels(setting, buffers, given, told),
     };
     put_listed(rt, listed);
     told.put(rt);

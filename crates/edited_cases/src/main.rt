@@ -3,7 +3,6 @@
 // then what `borders` or `random` says. tests/edited_cases.py writes cases and text.
 #![tactic(auto)]
 
-use cases::UnknownNumber;
 use std::io::Read;
 
 mod borders;
@@ -14,23 +13,20 @@ mod lists;
 mod random;
 mod settings;
 
-// What is replayed: a call on buffers of any length, or random edits.
+// What is replayed: a call on buffers of any length, or, by any other number, random edits.
 #[derive(Clone, Copy)]
 enum Case {
     Borders(borders::Call),
     Random,
 }
 
-impl TryFrom<u8> for Case {
-    type Error = UnknownNumber;
-
-    fn try_from(number: u8) -> Result<Case, UnknownNumber> {
+impl From<u8> for Case {
+    fn from(number: u8) -> Case {
         match number {
-            0 => Ok(Case::Borders(borders::Call::Opening)),
-            1 => Ok(Case::Borders(borders::Call::Edit)),
-            2 => Ok(Case::Borders(borders::Call::List)),
-            3 => Ok(Case::Random),
-            _ => Err(UnknownNumber),
+            0 => Case::Borders(borders::Call::Opening),
+            1 => Case::Borders(borders::Call::Edit),
+            2 => Case::Borders(borders::Call::List),
+            _ => Case::Random,
         }
     }
 }
@@ -40,12 +36,8 @@ fn replay(rt: &impl Print, stdin: &mut impl Read) -> bool {
     if !cases::copy_text(rt, stdin) {
         return false;
     }
-    let Ok(what) = Case::try_from(cases::next::<u8, _>(stdin)) else {
-        return false;
-    };
-    let Ok(setting) = settings::next(stdin) else {
-        return false;
-    };
+    let what = Case::from(cases::next::<u8, _>(stdin));
+    let setting = settings::next(stdin);
     match what {
         Case::Borders(call) => borders::replay(rt, stdin, call, &setting),
         Case::Random => random::replay(rt, stdin, &setting),

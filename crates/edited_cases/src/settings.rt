@@ -1,6 +1,5 @@
 // What an opening fixes, and blocks that are opened with it.
 use crate::buffers::Buffers;
-use cases::UnknownNumber;
 use edited_block::{EditedBlock, Source};
 use level_block::LevelsOpened;
 use parameters::QpPrime;
@@ -9,23 +8,22 @@ use scaling_values::ScalingList;
 use std::io::Read;
 use transform_1d::Kind;
 
-// How a block is opened.
+// How a block is opened. By a number past the first three as with a list, and a record that is made of it says that there is none.
 #[derive(Clone, Copy)]
 pub enum Way {
     Coefficients,
     Levels,
     ListedLevels,
+    Other,
 }
 
-impl TryFrom<u8> for Way {
-    type Error = UnknownNumber;
-
-    fn try_from(number: u8) -> Result<Way, UnknownNumber> {
+impl From<u8> for Way {
+    fn from(number: u8) -> Way {
         match number {
-            0 => Ok(Way::Coefficients),
-            1 => Ok(Way::Levels),
-            2 => Ok(Way::ListedLevels),
-            _ => Err(UnknownNumber),
+            0 => Way::Coefficients,
+            1 => Way::Levels,
+            2 => Way::ListedLevels,
+            _ => Way::Other,
         }
     }
 }
@@ -44,36 +42,46 @@ pub struct Setting {
 }
 
 impl Setting {
-    // What levels are scaled by.
-    pub fn list(&self) -> ScalingList {
+    // What levels are scaled by, with so many of the entries lent.
+    fn listed(&self, count: usize) -> ScalingList {
         match self.way {
             Way::Coefficients | Way::Levels => ScalingList::Flat,
-            Way::ListedLevels => {
-                ScalingList::Listed(&self.entries[..self.count.min(64)], self.dc)
+            Way::ListedLevels | Way::Other => {
+                ScalingList::Listed(&self.entries[..count.min(64)], self.dc)
             }
         }
+    }
+
+    // With as many as the case says.
+    pub fn list(&self) -> ScalingList {
+        self.listed(self.count)
+    }
+
+    // With all of them, as a list of edits gets it.
+    pub fn whole_list(&self) -> ScalingList {
+        self.listed(64)
     }
 
     // Levels and coefficients before an opening on the values, with marks in the other buffer.
     pub fn begun(&self, values: &[i32; 1040]) -> ([i32; 1040], [i32; 1040]) {
         match self.way {
             Way::Coefficients => ([7i32; 1040], *values),
-            Way::Levels | Way::ListedLevels => (*values, [7i32; 1040]),
+            Way::Levels | Way::ListedLevels | Way::Other => (*values, [7i32; 1040]),
         }
     }
 }
 
-pub fn next(stdin: &mut impl Read) -> Result<Setting, UnknownNumber> {
+pub fn next(stdin: &mut impl Read) -> Setting {
     let kind = cases::next_kind(stdin);
     let n = cases::next::<usize, _>(stdin);
     let precision = cases::next_precision(stdin);
-    let way = Way::try_from(cases::next::<u8, _>(stdin))?;
+    let way = Way::from(cases::next::<u8, _>(stdin));
     let qp_prime = QpPrime(cases::next::<i32, _>(stdin));
     let dc = cases::next::<u8, _>(stdin);
     let count = cases::next_length(stdin, 64);
     let mut entries = [0u8; 64];
-    cases::read_first(stdin, count, &mut entries);
-    Ok(Setting {
+    cases::read_bytes(stdin, count, &mut entries);
+    Setting {
         kind,
         n,
         precision,
@@ -82,14 +90,14 @@ pub fn next(stdin: &mut impl Read) -> Result<Setting, UnknownNumber> {
         dc,
         count,
         entries,
-    })
+    }
 }
 
 // The record that an opening would give, or refuse to.
 pub fn record(setting: &Setting, columns: usize) -> EditedBlock {
     let (levels, listed) = match setting.way {
         Way::Coefficients => (false, false),
-        Way::Levels => (true, false),
+        Way::Levels | Way::Other => (true, false),
         Way::ListedLevels => (true, true),
     };
     EditedBlock {
@@ -151,7 +159,7 @@ pub fn open(setting: &Setting, buffers: &mut Buffers) -> Result<LevelsOpened, Re
         Way::Coefficients => {
             open_coefficients(setting, buffers.coeff, buffers.inter, buffers.residual)
         }
-        Way::Levels | Way::ListedLevels => open_levels(
+        Way::Levels | Way::ListedLevels | Way::Other => open_levels(
             setting,
             buffers.levels,
             buffers.coeff,

@@ -23,7 +23,9 @@ fn replay(rt: &impl Print, file: &mut impl Read, number: u64) -> bool {
     if streams::read_full(file, &mut head) < 4 {
         return false;
     }
-    let n = u32::from_le_bytes(head) as usize;
+    // no case is longer than 64 KiB: the upper two bytes say nothing
+    let [low, high, _, _] = head;
+    let n = u16::from_le_bytes([low, high]) as usize;
     if LONGEST < n {
         return false;
     }

@@ -8,7 +8,8 @@
 --   is_unknown kind    a byte that is no kind
 --   size_known kind    levels of one of the four sizes, or none
 --   flag_of f          a flag of 0 or 1
---   mode_of m          DCT, DST, transform skip for 0, 1, 2
+--   mode_of m          DCT and DST for 0 and 1, transform skip for any other number
+--   known_mode m       the same for 0, 1, 2, and none for any other number
 --   dst_refused mode n    row 4: the DST has size 4 only
 --   list_ignored mode n   a block that is scaled without a list, though one may be in force
 --   signed32 u        the signed number that 32 bits stand for
@@ -81,8 +82,11 @@ record_room k = by_kind text_room (kind_of k)
 unfoldable pub flag_of : ℕ → Option Bool
 flag_of f = cond (eqb f 0) (Some false) (cond (eqb f 1) (Some true) None)
 
-unfoldable pub mode_of : ℕ → Option Mode
-mode_of m = cond (eqb m 0) (Some (Transform Dct)) (cond (eqb m 1) (Some (Transform Dst)) (cond (eqb m 2) (Some Skip) None))
+unfoldable pub mode_of : ℕ → Mode
+mode_of m = cond (eqb m 0) (Transform Dct) (cond (eqb m 1) (Transform Dst) Skip)
+
+unfoldable pub known_mode : ℕ → Option Mode
+known_mode m = cond (ltb 2 m) None (Some (mode_of m))
 
 unfoldable pub dst_refused : Mode → ℕ → Bool
 dst_refused (Transform kind) n = kind_refused kind n

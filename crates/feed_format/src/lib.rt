@@ -7,7 +7,8 @@ mod room;
 mod values;
 
 pub use format::{
-    dst_refused, flag_of, kind_of, list_ignored, mode_of, record_at, record_length, record_room,
+    dst_refused, flag_of, kind_of, known_mode, list_ignored, mode_of, record_at, record_length,
+    record_room,
 };
 use refusal::Precision;
 pub use room::feed_room;

@@ -12,11 +12,12 @@ pub fn feed_room(input: &[u8]) -> usize
     let mut room: usize = 0;
     let mut at = 0;
     while at < input.len() {
-        let Some(kind) = format::kind_of(input[at]) else {
+        let kind = input[at];
+        if format::kind_of(kind).is_none() {
             return room.saturating_add(40);
-        };
-        room = room.saturating_add(kind.text_room());
-        at = (at + 1 + kind.body_length()).min(input.len());
+        }
+        room = room.saturating_add(format::record_room(kind));
+        at = (at + 1 + format::record_length(kind)).min(input.len());
     }
     room.saturating_add(40)
 }

@@ -47,7 +47,7 @@ use Rattle.feed_format.specs.declared.Kind.TheVariants.{Parameters as Parameters
 use Rattle.feed_format.specs.declared.Mode.{Mode}
 use Rattle.feed_format.specs.declared.Mode.TheVariants.{Transform, Skip}
 use Rattle.feed_format.specs.declared.Parameters.{Parameters}
-use Rattle.feed_format.specs.Format.{kind_of, body_length, record_length, flag_of, mode_of, level_at, levels_of, dst_refused, size_known}
+use Rattle.feed_format.specs.Format.{kind_of, body_length, record_length, flag_of, known_mode, level_at, levels_of, dst_refused, size_known}
 use Rattle.feed_rules.specs.Block.{opening_of}
 use Rattle.feed_block.specs.Work.{Accepted}
 use Rattle.feed_format.proofs.FormatLaws.{Sized, kind_size}
@@ -141,7 +141,7 @@ module _ {s : FeedState Buffered} {t : FeedState History} (f : Follows s t) wher
   unfolding parameters_effect
   parameters_same body =
       either (depth_refused (get_or body 0 0)) (stays f DepthInvalid)
-      (λ _. parameters_by_same body (flag_of (get_or body 1 0)) (mode_of (get_or body 3 0)))
+      (λ _. parameters_by_same body (flag_of (get_or body 1 0)) (known_mode (get_or body 3 0)))
 
   list_same : (body : List ℕ) → 65 ≤ length body → Same (list_effect in_buffers s body) (list_effect in_history t body)
   unfolding list_effect

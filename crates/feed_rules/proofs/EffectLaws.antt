@@ -18,7 +18,7 @@ use Rattle.feed_format.specs.declared.Mode.{Mode}
 use Rattle.feed_format.specs.declared.Parameters.{Parameters}
 use Rattle.feed_format.specs.declared.Kind.{Kind}
 use Rattle.feed_format.specs.declared.Kind.TheVariants.{Parameters as ParametersKind, List as ListKind, NoList, Levels, Edit, Reading}
-use Rattle.feed_format.specs.Format.{kind_of, is_unknown, by_kind, body_length, record_length, flag_of, mode_of, dst_refused}
+use Rattle.feed_format.specs.Format.{kind_of, is_unknown, by_kind, body_length, record_length, flag_of, known_mode, dst_refused}
 use Rattle.feed_rules.specs.Record.{FeedState, Effect, Keeper, unchanged, behind, answered_by, parameters_by, parameters_effect, list_effect, no_list_effect, levels_by, levels_effect, edit_effect, reading_effect, body_effect, kind_effect, record_effect}
 
 module _ {H : Type 0} (g : Keeper H) where
@@ -60,7 +60,7 @@ module _ {H : Type 0} (g : Keeper H) where
   unfolding body_effect parameters_effect list_effect no_list_effect levels_effect edit_effect reading_effect
   body_moves ParametersKind s body =
       either (depth_refused (get_or body 0 0)) (stays DepthInvalid)
-      (parameters_moves s body (flag_of (get_or body 1 0)) (mode_of (get_or body 3 0)))
+      (parameters_moves s body (flag_of (get_or body 1 0)) (known_mode (get_or body 3 0)))
   body_moves ListKind s body = record { blocks = omega arith; offset = λ z. refl }
   body_moves NoList s body = record { blocks = omega arith; offset = λ z. refl }
   body_moves (Levels n) s body = levels_moves s.given s n body

@@ -31,7 +31,7 @@ use Rattle.feed_format.specs.declared.Kind.TheVariants.{Parameters as Parameters
 use Rattle.feed_format.specs.declared.Mode.{Mode}
 use Rattle.feed_format.specs.declared.Mode.TheVariants.{Transform, Skip}
 use Rattle.feed_format.specs.declared.Parameters.{Parameters}
-use Rattle.feed_format.specs.Format.{kind_of, body_length, flag_of, mode_of, dst_refused, list_of, levels_of}
+use Rattle.feed_format.specs.Format.{kind_of, body_length, flag_of, known_mode, dst_refused, list_of, levels_of}
 use Rattle.feed_lines.specs.Lines.{limited_text}
 use Rattle.feed_rules.specs.Block.{block_residual, block_limited}
 
@@ -82,7 +82,7 @@ parameters_by g s body (Some extended) (Some mode) =
 unfoldable pub parameters_effect : {H : Type 0} → Keeper H → FeedState H → List ℕ → Outcome (Effect H)
 parameters_effect g s body =
     cond (depth_refused (get_or body 0 0)) (refused (unchanged s) DepthInvalid)
-    (parameters_by g s body (flag_of (get_or body 1 0)) (mode_of (get_or body 3 0)))
+    (parameters_by g s body (flag_of (get_or body 1 0)) (known_mode (get_or body 3 0)))
 
 unfoldable pub list_effect : {H : Type 0} → Keeper H → FeedState H → List ℕ → Outcome (Effect H)
 list_effect g s body =

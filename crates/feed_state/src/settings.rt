@@ -6,7 +6,7 @@ ghost use Rattle.feed_state.specs.Taken.{Silent};
 
 use crate::states::behind;
 use crate::{State, Taken};
-use feed_format::{Kind, Parameters, flag_of, list_of, mode_of};
+use feed_format::{Kind, Parameters, flag_of, known_mode, list_of};
 use refusal::{Precision, Refusal};
 
 pub fn take_parameters(s: State, body: &[u8], at: usize) -> Result<Taken, Refusal>
@@ -16,7 +16,7 @@ pub fn take_parameters(s: State, body: &[u8], at: usize) -> Result<Taken, Refusa
     let bit_depth = body[0];
     refusal::check_depth(bit_depth)?;
     let extended = flag_of(body[1]).ok_or(Refusal::ParameterInvalid)?;
-    let mode = mode_of(body[3]).ok_or(Refusal::ParameterInvalid)?;
+    let mode = known_mode(body[3]).ok_or(Refusal::ParameterInvalid)?;
     let p = Parameters {
         precision: Precision {
             bit_depth,

@@ -10,6 +10,7 @@ use crate::places;
 use parameters::DequantParams;
 use refusal::Precision;
 use scaling_values::ScalingList;
+use scaling_values::factor::factor_at;
 use transform_1d::Kind;
 
 // The coefficients of the levels.
@@ -21,7 +22,7 @@ fn scale(levels: &[i32], n: usize, by: DequantParams, list: ScalingList, out: &m
 {
     let count = n * n;
     for i in 0..count {
-        let x = places::scaled_value(levels[i], scaling::factor_at(list, n, i), by);
+        let x = places::scaled_value(levels[i], factor_at(list, n, i), by);
         out[i] = x;
     }
 }
@@ -42,7 +43,7 @@ fn spread(
 {
     let count = n * n;
     for i in 0..count {
-        let m = scaling::factor_at(list, n, i);
+        let m = factor_at(list, n, i);
         let span = places::level_span(m, by, range, low[i], high[i]);
         let first = edit_blocks::least_of(range, span);
         let last = edit_blocks::most_of(range, span);

@@ -13,6 +13,7 @@ use crate::nearest;
 use parameters::DequantParams;
 use refusal::Refusal;
 use scaling_values::ScalingList;
+use scaling_values::factor::factor_at;
 
 // Kept: coefficients, size, numbers and list apart, here and below, with Invertible, WholeList and Room as clauses: a struct of them would be made for the one call of find_block and
 // opened at each index; one with the lent levels would have to promise too that it stays the same one (its ghost_name).
@@ -30,7 +31,7 @@ fn search(
     ensures { Searched by (list_of list.entry) n coeff.now found.old found.new result }
 {
     for i in 0..n * n {
-        let m = scaling::factor_at(list, n, i);
+        let m = factor_at(list, n, i);
         let level = nearest::nearest(coeff[i], m, by);
         if !nearest::scales_to(level, coeff[i], m, by) {
             return Some(i);

@@ -51,7 +51,7 @@ fn replay(rt: &impl Print, stdin: &mut impl Read) -> bool {
     let mut coeff = [0i32; 1024];
     let mut levels = [7i32; 1040];
     let entries = cases::next_length(stdin, 64);
-    cases::read_first(stdin, entries, &mut list);
+    cases::read_bytes(stdin, entries, &mut list);
     let count = cases::next_length(stdin, 1024);
     cases::read_first(stdin, count, &mut coeff);
     let len = cases::next_length(stdin, 1040);

@@ -12,6 +12,7 @@ ghost use Rattle.level_work.specs.Work.{Scaled};
 use block_rules::Source;
 use parameters::QpPrime;
 use refusal::Precision;
+use scaling_values::factor::factor_at;
 use scaling_values::{ScaledLevel, ScalingList};
 
 pub mod refuse;
@@ -27,7 +28,7 @@ pub fn factor_of(source: Source, n: usize, index: usize) -> u8
     } else {
         ScalingList::Flat
     };
-    scaling::factor_at(list, n, index)
+    factor_at(list, n, index)
 }
 
 // The coefficient that a level at an index gives, and what was limited.

@@ -44,10 +44,14 @@ fn look_into(rt: &impl Print, table: &[u8], stream: usize, number: usize, list: 
     cases::put_each(rt, list);
 }
 
-// With a lent list of at most 65 elements.
+// With a lent list of 63, 64 or, by any other number, 65 elements.
 pub fn look(rt: &impl Print, table: &[u8], stream: usize, number: usize, long: u8) {
     let mut list = [7u8; 65];
-    let len = (long as usize).min(65);
+    let len = match long {
+        63 => 63,
+        64 => 64,
+        _ => 65,
+    };
     look_into(rt, table, stream, number, &mut list[..len]);
 }
 

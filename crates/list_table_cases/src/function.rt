@@ -1,6 +1,4 @@
-// What a call is of, and what is amiss with what it lends, by the numbers of its bytes.
-use cases::UnknownNumber;
-
+// What a call is of, and what is amiss with what it lends, by the numbers of its bytes: the last function is any number from its own on, and of a number past these nothing is amiss.
 #[derive(Clone, Copy)]
 pub enum Function {
     Store,
@@ -26,33 +24,27 @@ pub enum Amiss {
     ShortOut,
 }
 
-impl TryFrom<u8> for Function {
-    type Error = UnknownNumber;
-
-    fn try_from(number: u8) -> Result<Function, UnknownNumber> {
+impl From<u8> for Function {
+    fn from(number: u8) -> Function {
         match number {
-            0 => Ok(Function::Store),
-            1 => Ok(Function::Drop),
-            2 => Ok(Function::Look),
-            3 => Ok(Function::Wide(Scaling::Coefficients)),
-            4 => Ok(Function::Wide(Scaling::Residuals)),
-            5 => Ok(Function::Narrow(Scaling::Coefficients)),
-            6 => Ok(Function::Narrow(Scaling::Residuals)),
-            _ => Err(UnknownNumber),
+            0 => Function::Store,
+            1 => Function::Drop,
+            2 => Function::Look,
+            3 => Function::Wide(Scaling::Coefficients),
+            4 => Function::Wide(Scaling::Residuals),
+            5 => Function::Narrow(Scaling::Coefficients),
+            _ => Function::Narrow(Scaling::Residuals),
         }
     }
 }
 
-impl TryFrom<u8> for Amiss {
-    type Error = UnknownNumber;
-
-    fn try_from(number: u8) -> Result<Amiss, UnknownNumber> {
+impl From<u8> for Amiss {
+    fn from(number: u8) -> Amiss {
         match number {
-            0 => Ok(Amiss::Nothing),
-            1 => Ok(Amiss::ShortTable),
-            2 => Ok(Amiss::ShortLevels),
-            3 => Ok(Amiss::ShortOut),
-            _ => Err(UnknownNumber),
+            1 => Amiss::ShortTable,
+            2 => Amiss::ShortLevels,
+            3 => Amiss::ShortOut,
+            _ => Amiss::Nothing,
         }
     }
 }

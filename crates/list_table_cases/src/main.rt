@@ -5,7 +5,6 @@
 #![tactic(auto)]
 
 use calls::Asked;
-use cases::UnknownNumber;
 use function::{Amiss, Function};
 use parameters::QpPrime;
 use refusal::Precision;
@@ -26,10 +25,8 @@ struct Call {
     asked: Asked,
 }
 
-impl TryFrom<[u8; 10]> for Call {
-    type Error = UnknownNumber;
-
-    fn try_from(bytes: [u8; 10]) -> Result<Call, UnknownNumber> {
+impl From<[u8; 10]> for Call {
+    fn from(bytes: [u8; 10]) -> Call {
         let [
             function,
             stream,
@@ -42,9 +39,9 @@ impl TryFrom<[u8; 10]> for Call {
             bit_depth,
             extended,
         ] = bytes;
-        Ok(Call {
-            function: Function::try_from(function)?,
-            amiss: Amiss::try_from(amiss)?,
+        Call {
+            function: Function::from(function),
+            amiss: Amiss::from(amiss),
             from,
             long,
             dc,
@@ -58,7 +55,7 @@ impl TryFrom<[u8; 10]> for Call {
                     extended: extended == 1,
                 },
             },
-        })
+        }
     }
 }
 
@@ -139,10 +136,7 @@ fn turn(
     if streams::read_full(stdin, &mut bytes) < 10 {
         return false;
     }
-    let Ok(call) = Call::try_from(bytes) else {
-        return false;
-    };
-    make_on(rt, call, table, pattern, levels);
+    make_on(rt, Call::from(bytes), table, pattern, levels);
     true
 }
 

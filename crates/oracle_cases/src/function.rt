@@ -1,6 +1,4 @@
-// The functions that a case can be of, by the recorder's numbers.
-use cases::UnknownNumber;
-
+// The functions that a case can be of, by the recorder's numbers; a number that the recorder does not have is the last of the DSTs at 32 bits.
 #[derive(Clone, Copy)]
 pub enum Function {
     Range,
@@ -10,7 +8,8 @@ pub enum Function {
     Level,
     Scale32(Scale),
     Scale16(Scale),
-    Invert(Transform),
+    Invert32(Transform),
+    Invert16(Short),
 }
 
 // What is made of a block's levels, without a list or with one.
@@ -28,36 +27,38 @@ pub enum Transform {
     DctExtended,
     Dst,
     DstExtended,
-    Dct16,
-    Dst16,
 }
 
-impl TryFrom<u8> for Function {
-    type Error = UnknownNumber;
+// The transforms 16 bits wide.
+#[derive(Clone, Copy)]
+pub enum Short {
+    Dct,
+    Dst,
+}
 
+impl From<u8> for Function {
     #[rattlefmt::skip]
-    fn try_from(number: u8) -> Result<Function, UnknownNumber> {
+    fn from(number: u8) -> Function {
         match number {
-            0 => Ok(Function::Range),
-            1 => Ok(Function::Dequant),
-            2 => Ok(Function::TransformSkip),
-            3 => Ok(Function::Factor),
-            4 => Ok(Function::Level),
-            5 => Ok(Function::Scale32(Scale::Coefficients)),
-            6 => Ok(Function::Scale32(Scale::CoefficientsListed)),
-            7 => Ok(Function::Scale32(Scale::Residuals)),
-            8 => Ok(Function::Scale32(Scale::ResidualsListed)),
-            9 => Ok(Function::Scale16(Scale::Coefficients)),
-            10 => Ok(Function::Scale16(Scale::CoefficientsListed)),
-            11 => Ok(Function::Scale16(Scale::Residuals)),
-            12 => Ok(Function::Scale16(Scale::ResidualsListed)),
-            13 => Ok(Function::Invert(Transform::Dct)),
-            14 => Ok(Function::Invert(Transform::DctExtended)),
-            15 => Ok(Function::Invert(Transform::Dst)),
-            16 => Ok(Function::Invert(Transform::DstExtended)),
-            17 => Ok(Function::Invert(Transform::Dct16)),
-            18 => Ok(Function::Invert(Transform::Dst16)),
-            _ => Err(UnknownNumber),
+            0 => Function::Range,
+            1 => Function::Dequant,
+            2 => Function::TransformSkip,
+            3 => Function::Factor,
+            4 => Function::Level,
+            5 => Function::Scale32(Scale::Coefficients),
+            6 => Function::Scale32(Scale::CoefficientsListed),
+            7 => Function::Scale32(Scale::Residuals),
+            8 => Function::Scale32(Scale::ResidualsListed),
+            9 => Function::Scale16(Scale::Coefficients),
+            10 => Function::Scale16(Scale::CoefficientsListed),
+            11 => Function::Scale16(Scale::Residuals),
+            12 => Function::Scale16(Scale::ResidualsListed),
+            13 => Function::Invert32(Transform::Dct),
+            14 => Function::Invert32(Transform::DctExtended),
+            15 => Function::Invert32(Transform::Dst),
+            17 => Function::Invert16(Short::Dct),
+            18 => Function::Invert16(Short::Dst),
+            _ => Function::Invert32(Transform::DstExtended),
         }
     }
 }

@@ -104,7 +104,7 @@ fn run_transform_skip(rt: &impl Print, stdin: &mut impl Read, case: Case) {
 fn run_factor(rt: &impl Print, stdin: &mut impl Read, case: Case) {
     let mut list = [0u8; 64];
     let entries = cases::next_short_length(stdin, 64);
-    cases::read_first(stdin, entries, &mut list);
+    cases::read_bytes(stdin, entries, &mut list);
     let r = c_api::residual_scaling_coeff(&list[..entries], case.byte, case.n, case.count);
     put_answer(rt, r.number, r.row, r.column);
     put_next(rt, stdin, r.value as i64);
@@ -138,7 +138,7 @@ where
     let entries = cases::next_short_length(stdin, 64);
     let count = cases::next_short_length(stdin, 1040);
     let len = cases::next_short_length(stdin, out.len());
-    cases::read_first(stdin, entries, &mut list);
+    cases::read_bytes(stdin, entries, &mut list);
     cases::read_first(stdin, count, &mut input);
     let answer = call(&list[..entries], &input[..count], &mut out[..len]);
     answer.put(rt);
@@ -171,7 +171,8 @@ fn run(rt: &impl Print, stdin: &mut impl Read, function: Function, case: Case) {
         Function::Level => run_level(rt, stdin, case),
         Function::Scale32(what) => scaled::run_32(rt, stdin, case, what),
         Function::Scale16(what) => scaled::run_16(rt, stdin, case, what),
-        Function::Invert(what) => inverted::run(rt, stdin, case, what),
+        Function::Invert32(what) => inverted::run_32(rt, stdin, case, what),
+        Function::Invert16(what) => inverted::run_16(rt, stdin, case, what),
     }
 }
 
@@ -180,9 +181,7 @@ fn replay(rt: &impl Print, stdin: &mut impl Read) -> bool {
     if !cases::copy_text(rt, stdin) {
         return false;
     }
-    let Ok(function) = Function::try_from(cases::next::<u8, _>(stdin)) else {
-        return false;
-    };
+    let function = Function::from(cases::next::<u8, _>(stdin));
     let case = Case {
         bit_depth: cases::next(stdin),
         extended_precision: cases::next::<u8, _>(stdin) != 0,

@@ -4,25 +4,21 @@
 // The text goes on with the answer, and the plane afterwards or the checksum. tests/picture_cases.py writes cases and text.
 #![tactic(auto)]
 
-use cases::UnknownNumber;
 use planes::Extent;
 use std::io::Read;
 
-// The function that a case is of, by its number.
+// The function that a case is of, by its number; the last one is any number from its own on.
 #[derive(Clone, Copy)]
 enum Function {
     Rebuild,
     Checksum,
 }
 
-impl TryFrom<u8> for Function {
-    type Error = UnknownNumber;
-
-    fn try_from(number: u8) -> Result<Function, UnknownNumber> {
+impl From<u8> for Function {
+    fn from(number: u8) -> Function {
         match number {
-            0 => Ok(Function::Rebuild),
-            1 => Ok(Function::Checksum),
-            _ => Err(UnknownNumber),
+            0 => Function::Rebuild,
+            _ => Function::Checksum,
         }
     }
 }
@@ -118,9 +114,7 @@ fn replay(rt: &impl Print, stdin: &mut impl Read) -> bool {
     if !cases::copy_text(rt, stdin) {
         return false;
     }
-    let Ok(function) = Function::try_from(cases::next::<u8, _>(stdin)) else {
-        return false;
-    };
+    let function = Function::from(cases::next::<u8, _>(stdin));
     let case = next_case(stdin, function);
     let mut residual = [0i32; 1024];
     let mut prediction = [0u16; 1024];

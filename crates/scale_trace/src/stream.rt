@@ -15,18 +15,21 @@ use feed_state::State;
 // The lines of a block, by the parameters; a block of size 0 has none.
 // Kept: a buffer and the place where its text ends apart, here and below, as in `text`.
 #[tactic(auto, using(text::proofs::WroteLaws::wrote_none))]
-fn put_levels(state: State, n: usize, out: &mut [u8], at: usize) -> usize
+fn put_levels(state: &State, n: usize, out: &mut [u8], at: usize) -> usize
     requires t { 0 < n → T (is_size n) }
     requires n_in_bounds { at + 20 * (n * n) ≤ length out.old }
-    ensures { WroteUpTo out.old at (levels_lines state.given (list_in state.list) n) out.new result (at + 20 * (n * n)) }
+    ensures { WroteUpTo out.old at (levels_lines state.now.given (list_in state.now.list) n) out.new result (at + 20 * (n * n)) }
 {
     match state.given {
         None => at,
-        Some(p) => scale_trace_block::put_lines(state.list, p.mode, n, out, at),
+        Some(p) => scale_trace_block::put_lines(&state.list, p.mode, n, out, at),
     }
 }
 
-// A record, whole or not: its lines at a place of the buffer. The text that the feed writes is put aside.
+// The bytes that the text of any record may take.
+const TEXT: usize = 12320;
+
+// A record, whole or not: its lines at a place of the buffer. The text that the feed writes goes to a buffer that is lent for it, and that a walk over a feed fills with zeros once.
 // Kept: the four buffers apart, here and below: a struct of lent slices would have to promise for each that it stays the same one (its ghost_name), and a struct of four arrays would be filled by a copy, since `feed::step` is lent slices.
 #[tactic(auto, using(crate::proofs::StepLaws::kind_side, scale_trace_block::proofs::RoomLaws::room_is))]
 fn take_record(
@@ -37,15 +40,15 @@ fn take_record(
     coeff: &mut [i32],
     inter: &mut [i32],
     residual: &mut [i32],
+    text: &mut [u8; TEXT],
     out: &mut [u8],
     at: usize,
 ) -> Result<Taken, StepError>
     requires { at + list_room kind ≤ length out.old }
     ensures { TracesAt state result (lent levels.new coeff.new inter.new residual.new) out.old at out.new (tracing (state_of state (lent levels.old coeff.old inter.old residual.old)) kind body.now (list_room kind)) (list_room kind) }
 {
-    let mut text = [0u8; 12320];
-    let taken = feed::step(state, kind, body, levels, coeff, inter, residual, &mut text)?;
-    let end = put_levels(state, scale_trace_block::size_of(kind), out, at);
+    let taken = feed::step(state, kind, body, levels, coeff, inter, residual, text)?;
+    let end = put_levels(&state, scale_trace_block::size_of(kind), out, at);
     Ok(Taken { end, ..taken })
 }
 
@@ -68,7 +71,10 @@ pub fn step(
     if out.len() < scale_trace_block::list_room(kind) {
         return Err(StepError::NoRoom);
     }
-    take_record(state, kind, body, levels, coeff, inter, residual, out, 0)
+    let mut text = [0u8; TEXT];
+    take_record(
+        state, kind, body, levels, coeff, inter, residual, &mut text, out, 0,
+    )
 }
 
 // The line of a refusal.
@@ -94,6 +100,7 @@ fn run_within(input: &[u8], out: &mut [u8]) -> usize
     let mut coeff = [0i32; 1024];
     let mut inter = [0i32; 1024];
     let mut residual = [0i32; 1024];
+    let mut text = [0u8; TEXT];
     let mut state = feed_state::start();
     let mut end = 0;
     while (state.offset as usize) < input.len() {
@@ -106,6 +113,7 @@ fn run_within(input: &[u8], out: &mut [u8]) -> usize
             &mut coeff,
             &mut inter,
             &mut residual,
+            &mut text,
             out,
             end,
         ) {

@@ -1,19 +1,17 @@
 -- Laws of the room that a listing may take.
 --   room_is                 the lines of a record fit its room
---   block_most, size_most   no block has more than 1,024 indices
 --   room_none               a byte that is no kind has no lines
+--   size_none, list_none    a kind without levels has no size, and no lines
 use mathlib.Core.Path.{◌≡◌, refl, sym}
-use mathlib.Core.Bool.{true, true≢false}
-use Prim.Native.Nat.{ℕ, ◌*◌, ◌≤◌}
-use native.Mathlib.Omega.{arith}
-use Rattle.h265.proofs.RangeLaws.{size_square}
-use Rattle.feed_format.proofs.FormatLaws.{Sized, kind_size}
+use mathlib.Core.Bool.{Bool, true, false, cond, true≢false}
+use Prim.Native.Nat.{ℕ, ◌*◌}
+use borrow.Author.Tests.{ne_eqb}
+use lib.Dec.{eqb}
 use Rattle.std.specs.Prelude.{Option, Some, None}
 use Rattle.feed_format.specs.declared.Kind.{Kind}
-use Rattle.feed_format.specs.declared.Kind.TheVariants.{Parameters, List as ListKind, NoList, Levels, Edit, Reading}
-use lib.Dec.{T}
-use Rattle.feed_format.specs.Format.{kind_of, is_unknown, size_known}
-use Rattle.scale_trace_rules.specs.Trace.{block_size, size_of, list_room}
+use Rattle.feed_format.specs.declared.Kind.TheVariants.{Parameters, List as ListKind, NoList, Edit, Reading}
+use Rattle.feed_format.specs.Format.{kind_of, is_unknown}
+use Rattle.scale_trace_rules.specs.Trace.{size_of, list_room}
 
 pub room_is : (k : ℕ) → list_room k ≡ 20 * (size_of (kind_of k) * size_of (kind_of k))
 unfolding list_room
@@ -27,17 +25,19 @@ room_none k e = by (kind_of k) e
     by None e = refl
     by (Some kind) e = absurd (true≢false (sym e))
 
-pub block_most : (kind : Kind) → T (size_known kind) → block_size kind * block_size kind ≤ 1024
-block_most Parameters h = omega arith
-block_most ListKind h = omega arith
-block_most NoList h = omega arith
-block_most (Levels n) h = size_square n h
-block_most Edit h = omega arith
-block_most Reading h = omega arith
-
-pub size_most : {n : ℕ} (k : ℕ) → n ≡ size_of (kind_of k) → n * n ≤ 1024
-size_most k e = rw e (by (kind_of k) (kind_size k))
+pub size_none : (k : ℕ) → (k ≡ 4 → ⊥) → (k ≡ 5 → ⊥) → (k ≡ 6 → ⊥) → (k ≡ 7 → ⊥) → ◌≡◌ {A = ℕ} 0 (size_of (kind_of k))
+unfolding kind_of
+size_none k a b c d =
+    simp (ne_eqb k 4 a, ne_eqb k 5 b, ne_eqb k 6 c, ne_eqb k 7 d) (either (eqb k 1) (eqb k 2) (eqb k 3) (eqb k 8) (eqb k 9))
   where
-    by : (kind : Option Kind) → Sized kind → size_of kind * size_of kind ≤ 1024
-    by None h = omega arith
-    by (Some kind) h = block_most kind h
+    either : (t u v w x : Bool) → ◌≡◌ {A = ℕ} 0 (size_of (cond t (Some Parameters) (cond u (Some ListKind) (cond v (Some NoList) (cond w (Some Edit) (cond x (Some Reading) None))))))
+    either true u v w x = refl
+    either false true v w x = refl
+    either false false true w x = refl
+    either false false false true x = refl
+    either false false false false true = refl
+    either false false false false false = refl
+
+pub list_none : (k : ℕ) → (k ≡ 4 → ⊥) → (k ≡ 5 → ⊥) → (k ≡ 6 → ⊥) → (k ≡ 7 → ⊥) → ◌≡◌ {A = ℕ} 0 (list_room k)
+unfolding list_room
+list_none k a b c d = rw (← size_none k a b c d) refl

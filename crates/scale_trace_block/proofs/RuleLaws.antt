@@ -1,10 +1,10 @@
 -- Laws of the rule that supplies m.
 --   source_none, -skip, -four, -eight, -dc, -repeat   each answer of `source_of`, from the tests that lead to it
---   position_is                                       the position that the code works out
+--   position_16, position_32                          the position that the code works out
 use mathlib.Core.Path.{◌≡◌, refl, ap}
 use mathlib.Core.Bool.{true, false}
 use mathlib.Core.List.{List}
-use Prim.Native.Nat.{ℕ, ◌+◌, ◌-◌, ◌*◌, ◌/◌, ◌%◌, ◌^◌, ◌<◌, ◌≤◌}
+use Prim.Native.Nat.{ℕ, ◌+◌, ◌*◌, ◌/◌, ◌%◌, ◌<◌, ◌≤◌}
 use native.Mathlib.Omega.{arith}
 use borrow.Author.Tests.{eq-eqb, ne_eqb}
 use lib.Dec.{T}
@@ -56,8 +56,10 @@ module _ {es : List ℕ} {d : ℕ} (mode : Mode) (n i : ℕ) (g : list_ignored m
       above : (n ≡ 4 → ⊥) → (n ≡ 8 → ⊥) → 16 ≤ n
       above a b = size_cases (λ m. (m ≡ 4 → ⊥) → (m ≡ 8 → ⊥) → 16 ≤ m) (λ f g. absurd (f refl)) (λ f g. absurd (g refl)) (λ f g. omega arith) (λ f g. omega arith) n t a b
 
-pub position_is : (n i : ℕ) → T (is_size n) → (n ≡ 4 → ⊥) → i / n / (n / 8) * 8 + i % n / (n / 8) ≡ repeated_position n i
+pub position_16 : (n i : ℕ) → n ≡ 16 → i / 16 / 2 * 8 + i % 16 / 2 ≡ repeated_position n i
 unfolding repeated_position log2_size
-position_is n i t =
-    size_cases (λ (m : ℕ). (m ≡ 4 → ⊥) → i / m / (m / 8) * 8 + i % m / (m / 8) ≡ i / m / 2 ^ (log2_size m - 3) * 8 + i % m / 2 ^ (log2_size m - 3))
-    (λ a. absurd (a refl)) (λ a. refl) (λ a. refl) (λ a. refl) n t
+position_16 n i e = rw e refl
+
+pub position_32 : (n i : ℕ) → n ≡ 32 → i / 32 / 4 * 8 + i % 32 / 4 ≡ repeated_position n i
+unfolding repeated_position log2_size
+position_32 n i e = rw e refl

@@ -64,7 +64,7 @@ fn put_rule(source: Source, out: &mut [u8], at: usize) -> usize
 // The line of one index: at most 20 bytes.
 #[tactic(auto, using(h265::proofs::RangeLaws::size_square))]
 fn put_line(
-    list: Option<List>,
+    list: &Option<List>,
     mode: Mode,
     n: usize,
     index: usize,
@@ -73,7 +73,7 @@ fn put_line(
 ) -> usize
     requires index_in_block { T (is_size n) × (index < n * n) }
     requires at_in_bounds { at + 20 ≤ length out.old }
-    ensures { WroteUpTo out.old at (line_text (list_in list) mode n index) out.new result (at + 20) }
+    ensures { WroteUpTo out.old at (line_text (list_in list.now) mode n index) out.new result (at + 20) }
 {
     let source = rule::source_of(list, mode, n, index);
     let m = rule::factor_of(list, mode, n, index);
@@ -84,10 +84,10 @@ fn put_line(
 
 // The lines of a block, in row order; a block of size 0 has none.
 #[tactic(auto, using(h265::proofs::TransformLaws::cell_row, crate::proofs::LineLaws::lines_done))]
-pub fn put_lines(list: Option<List>, mode: Mode, n: usize, out: &mut [u8], at: usize) -> usize
+pub fn put_lines(list: &Option<List>, mode: Mode, n: usize, out: &mut [u8], at: usize) -> usize
     requires known_size { 0 < n → T (is_size n) }
     requires n_in_bounds { at + 20 * (n * n) ≤ length out.old }
-    ensures { WroteUpTo out.old at (block_lines (list_in list) mode n) out.new result (at + 20 * (n * n)) }
+    ensures { WroteUpTo out.old at (block_lines (list_in list.now) mode n) out.new result (at + 20 * (n * n)) }
 {
     let mut end = at;
     for i in 0..n * n {

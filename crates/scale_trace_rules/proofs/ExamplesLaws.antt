@@ -6,7 +6,7 @@ use Rattle.refusal.specs.Condition.{depth_refused}
 use Rattle.transform_1d.specs.Kinds.{dst_refused as kind_refused}
 use Rattle.edited_history.specs.History.{by_edit, answer_to}
 use Rattle.text.specs.Text.{digits, unsigned_text}
-use Rattle.feed_format.specs.Format.{kind_of, record_length, flag_of, mode_of, dst_refused, list_ignored}
+use Rattle.feed_format.specs.Format.{kind_of, record_length, flag_of, mode_of, known_mode, dst_refused, list_ignored}
 use Rattle.feed_lines.specs.Lines.{refused_text}
 use Rattle.feed_rules.specs.Block.{list_for}
 use Rattle.feed_rules.specs.Record.{parameters_effect, list_effect, no_list_effect, block_after, levels_by, levels_effect, edit_effect, reading_effect, body_effect, record_effect}
@@ -16,5 +16,5 @@ use Rattle.scale_trace_rules.specs.Trace.{trace_effect, trace_text}
 use Rattle.scale_trace_rules.specs.Examples.{examples, ExamplesHold}
 
 pub examples_hold : ExamplesHold
-unfolding ExamplesHold examples tabulate tabulate_from factor_source entry_of factor_by scaling_factor depth_refused kind_refused by_edit answer_to digits unsigned_text kind_of record_length flag_of mode_of dst_refused list_ignored refused_text list_for parameters_effect list_effect no_list_effect block_after levels_by levels_effect edit_effect reading_effect body_effect record_effect text_by opened_as edited_by read_by beginning block_source block_factor rule_text line_text lines_from block_lines trace_effect trace_text
+unfolding ExamplesHold examples tabulate tabulate_from factor_source entry_of factor_by scaling_factor depth_refused kind_refused by_edit answer_to digits unsigned_text kind_of record_length flag_of mode_of known_mode dst_refused list_ignored refused_text list_for parameters_effect list_effect no_list_effect block_after levels_by levels_effect edit_effect reading_effect body_effect record_effect text_by opened_as edited_by read_by beginning block_source block_factor rule_text line_text lines_from block_lines trace_effect trace_text
 examples_hold = refl

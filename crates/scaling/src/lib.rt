@@ -2,7 +2,6 @@
 #![tactic(auto)]
 
 pub use scaling_values::ScaledLevel;
-pub use scaling_values::factor::factor_at;
 
 mod factor;
 mod level;

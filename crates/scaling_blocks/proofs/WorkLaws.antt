@@ -9,20 +9,20 @@
 --   shared_row                             a row that is not the first of those that share their entries has the quotient of the row above
 --   stored_rest                            a place that a loop has not come to is as lent
 --   fills_none, -more, -to, -then, -first  a loop that lays entries out, one after the other, and the DC number last
---   copied_parts                           a row that became the row above it, by the parts of the entries
+--   fills_copy                             the next entry is one that is there
 --   coefficients_of_lem, residuals_of          coefficients where they stand, and residuals in their place
 --   skip_counted                           the same with the count of the coefficients
 --   reads_more                             a store more into an output, by what its elements read as
 use mathlib.Core.Path.{◌≡◌, refl, sym, ap, ap₂, subst, ◌∙◌}
 use mathlib.Core.Bool.{Bool, true, false}
-use mathlib.Core.List.{List, map, ◌++◌}
+use mathlib.Core.List.{List, map}
 use Prim.Native.Nat.{ℕ, ◌+◌, ◌-◌, ◌*◌, ◌/◌, ◌%◌, ◌^◌, ◌≤◌, ◌<◌}
 use native.Mathlib.Nat.{mod-lt}
 use native.Mathlib.Decide.{dec_lt}
 use native.Mathlib.Omega.{arith}
 use lib.Arith.{digits_div, digits_mod}
 use lib.IntN.{ℤ, pos, ◌*ℤ◌, *ℤ_comm, pos-*ℤ-pos}
-use lib.ListN.{length, get_or, set, drop, length-set, length-append, length-drop}
+use lib.ListN.{length, get_or, set, length-set}
 use lib.Signed.{◌≤ℤ◌}
 use lib.Pow.{pow_pos, split, high}
 use lib.Seq.{get_or-set_same, get_or-set_other}
@@ -43,11 +43,11 @@ use Rattle.scaling_values.specs.Level.{level_by, flat_level, listed_level, liste
 use Rattle.scaling_values.specs.Flat.{Regular}
 use Rattle.scaling_values.specs.Work.{flat_at, listed_at, flat_limited_at, listed_limited_at, residual_at, Counted, Rows, Coefficients, Fills}
 use Rattle.scaling_values.proofs.CountLaws.{count_cong}
-use Rattle.std.proofs.lemmas.List.{map-set, get_or_append_left, get_or-append_right, get_or-drop}
+use Rattle.std.proofs.lemmas.List.{map-set}
 use Rattle.scaling_blocks.specs.Blocks.{output_width}
 use Rattle.scaling_blocks.specs.Each.{by_entry}
 use Rattle.h265.proofs.RangeLaws.{size_bound, log2_size_bound}
-use Rattle.scaling_blocks.specs.Spread.{Laid, Copied}
+use Rattle.scaling_blocks.specs.Spread.{Laid}
 use Rattle.scaling_values.proofs.FlatLaws.{base_eq}
 use Rattle.scaling_values.proofs.SkipLaws.{ts_residual_fits}
 use Rattle.scaling_values.proofs.LevelLaws.{flat_level_within, listed_level_fits, listed_level_within}
@@ -108,6 +108,17 @@ module _ {f : ℕ → ℕ} {i j : ℕ} {xs ys : List ℕ} (s : Fills f i j xs ys
         ];
       }
 
+  -- the next entry is one that is there
+  pub fills_copy : (k a : ℕ) → k ≡ j + 1 → j < length xs → a < j → f a ≡ f j → Fills f i k xs (set ys j (get_or ys a 0))
+  fills_copy k a q b l e =
+      record {
+        same = length-set ys j (get_or ys a 0) ∙ s.same;
+        more = λ h m n. elim (dec_lt m j) [
+          | yes o ↦ get_or-set_other ys j m (get_or ys a 0) 0 (λ w. let x : ⊥ = omega arith in x) ∙ s.more h m o
+          | no o ↦ let w : m ≡ j = omega (arith, q) in rw w (get_or-set_same ys j (get_or ys a 0) 0 (omega (arith, b, s.same)) ∙ s.more h a l ∙ e)
+        ];
+      }
+
   pub fills_to : {k : ℕ} → j ≡ k → Fills f i k xs ys
   fills_to q = subst (λ (m : ℕ). Fills f i m xs ys) q s
 
@@ -124,37 +135,6 @@ fills_first {f} {g} {j} {xs} {ys} {v} s b e h =
         | no l ↦ let w : m ≡ 0 = omega arith in rw w (get_or-set_same ys 0 v 0 (omega (arith, b, s.same)) ∙ e)
       ];
     }
-
--- a row that became the row above it, by its parts
-module _ (n row : ℕ) (xs front back new : List ℕ) (e : xs ≡ front ++ back) (l : length front ≡ row * n) (r : n ≤ row * n) (b : n ≤ length back) (c : new ≡ drop (row * n - n) front) where
-  new_length : length new ≡ n
-  new_length = ap length c ∙ length-drop (row * n - n) front ∙ omega arith
-
-  copied_from : (j : ℕ) → j < n → get_or (front ++ (new ++ drop n back)) (row * n + j) 0 ≡ get_or xs (row * n - n + j) 0
-  copied_from j h =
-      get_or-append_right front (new ++ drop n back) (row * n) (row * n + j) 0 l (omega arith)
-      ∙ ap (λ (i : ℕ). get_or (new ++ drop n back) i 0) (omega arith)
-      ∙ get_or_append_left new (drop n back) 0 j (omega (arith, new_length))
-      ∙ ap (λ (z : List ℕ). get_or z j 0) c
-      ∙ get_or-drop (row * n - n) front j 0
-      ∙ sym (get_or_append_left front back 0 (row * n - n + j) (omega arith))
-      ∙ ap (λ (z : List ℕ). get_or z (row * n - n + j) 0) (sym e)
-
-  pub copied_parts : Copied n row n xs (front ++ (new ++ drop n back))
-  copied_parts =
-      record {
-        same = simp (length-append, length-drop) (omega (arith, new_length, ap length e, length-append front back));
-        fills = λ f q. record {
-          same = simp (length-append, length-drop) (omega (arith, new_length, ap length e, length-append front back));
-          more = λ h k a. elim (dec_lt k (row * n)) [
-            | yes o ↦ get_or_append_left front (new ++ drop n back) 0 k (omega arith) ∙ sym (get_or_append_left front back 0 k (omega arith)) ∙ ap (λ (z : List ℕ). get_or z k 0) (sym e) ∙ h k o
-            | no o ↦
-                let j = k - row * n in
-                let w : k ≡ row * n + j = omega arith in
-                rw w (copied_from j (omega arith) ∙ h (row * n - n + j) (omega arith) ∙ q j (omega arith))
-          ];
-        };
-      }
 
 -- ---- loops
 pub stored_rest : {A : Type 0} {f : ℕ → A} {xs : List A} {k : ℕ} {ys : List A} → Stored f xs k ys → (i : ℕ) (z : A) → k ≤ i → get_or ys i z ≡ get_or xs i z

@@ -21,7 +21,7 @@ fn spread_row(list: &[u8], row: usize, n: usize, repeats: u32, entries: &mut [u8
 }
 
 // A row that has the entries of the row above it, copied.
-// Kept: two parts and `copy_from_slice`, since `copy_within` moves one entry at a time.
+// Kept: a loop: `copy_within` moves one entry at a time, and `copy_from_slice` between two parts of a slice is a call of `memmove`, which the archive for C would need from outside.
 fn copy_row(row: usize, n: usize, entries: &mut [u8])
     requires n_in_bounds { n * n ≤ length entries.old }
     requires le_row { (1 ≤ row) × (row < n) }
@@ -29,8 +29,10 @@ fn copy_row(row: usize, n: usize, entries: &mut [u8])
     ensures { Copied n row n entries.old entries.new }
 {
     let at = row * n;
-    let (above, below) = entries.split_at_mut(at);
-    below[..n].copy_from_slice(&above[at - n..]);
+    let above = at - n;
+    for c in 0..n {
+        entries[at + c] = entries[above + c];
+    }
 }
 
 // One row after those above it: the first of the rows that share their entries is laid out by the list.

@@ -4,13 +4,12 @@
 // throughout. The text goes on with the answer, and the value with what was limited, or the count of limited coefficients and the output. tests/scaling_cases.py writes cases and text.
 #![tactic(auto)]
 
-use cases::UnknownNumber;
 use parameters::QpPrime;
 use refusal::{Precision, Refusal};
 use std::fmt::Display;
 use std::io::Read;
 
-// The function that a case is of, by its number.
+// The function that a case is of, by its number; the last one is any number from its own on.
 #[derive(Clone, Copy)]
 enum Function {
     Factor,
@@ -28,22 +27,19 @@ enum Scaling {
     SkipListed,
 }
 
-impl TryFrom<u8> for Function {
-    type Error = UnknownNumber;
-
-    fn try_from(number: u8) -> Result<Function, UnknownNumber> {
+impl From<u8> for Function {
+    fn from(number: u8) -> Function {
         match number {
-            0 => Ok(Function::Factor),
-            1 => Ok(Function::Level),
-            2 => Ok(Function::Wide(Scaling::Flat)),
-            3 => Ok(Function::Wide(Scaling::Listed)),
-            4 => Ok(Function::Wide(Scaling::SkipFlat)),
-            5 => Ok(Function::Wide(Scaling::SkipListed)),
-            6 => Ok(Function::Narrow(Scaling::Flat)),
-            7 => Ok(Function::Narrow(Scaling::Listed)),
-            8 => Ok(Function::Narrow(Scaling::SkipFlat)),
-            9 => Ok(Function::Narrow(Scaling::SkipListed)),
-            _ => Err(UnknownNumber),
+            0 => Function::Factor,
+            1 => Function::Level,
+            2 => Function::Wide(Scaling::Flat),
+            3 => Function::Wide(Scaling::Listed),
+            4 => Function::Wide(Scaling::SkipFlat),
+            5 => Function::Wide(Scaling::SkipListed),
+            6 => Function::Narrow(Scaling::Flat),
+            7 => Function::Narrow(Scaling::Listed),
+            8 => Function::Narrow(Scaling::SkipFlat),
+            _ => Function::Narrow(Scaling::SkipListed),
         }
     }
 }
@@ -149,16 +145,14 @@ fn replay(rt: &impl Print, stdin: &mut impl Read) -> bool {
     if !cases::copy_text(rt, stdin) {
         return false;
     }
-    let Ok(function) = Function::try_from(cases::next::<u8, _>(stdin)) else {
-        return false;
-    };
+    let function = Function::from(cases::next::<u8, _>(stdin));
     let case = next_case(stdin);
     let mut list = [0u8; 65];
     let mut levels = [0i32; 1040];
     let entries = cases::next_short_length(stdin, 65);
     let count = cases::next_short_length(stdin, 1040);
     let len = cases::next_short_length(stdin, 1040);
-    cases::read_first(stdin, entries, &mut list);
+    cases::read_bytes(stdin, entries, &mut list);
     cases::read_first(stdin, count, &mut levels);
     let list = &list[..entries];
     let levels = &levels[..count];

@@ -408,6 +408,7 @@ pub trait Stage {
 }
 
 // Kept: an impl for each size, whose line is a function for each (crate `lines`), and which a caller names as one type.
+#[derive(Clone, Copy)]
 pub struct Whole8;
 
 impl Line<8, 8> for Whole8 {
@@ -437,6 +438,7 @@ impl Stage for Whole8 {
     ghost size = { Prim.search rules };
 }
 
+#[derive(Clone, Copy)]
 pub struct Whole16;
 
 impl Line<16, 16> for Whole16 {

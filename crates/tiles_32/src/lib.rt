@@ -8,6 +8,7 @@ use tiles::{Input, Line, Output, Stage, lines_as_rows, parts_as_rows};
 use vectors::{Sums, Values};
 
 // Kept: an impl for each size, as in `tiles`.
+#[derive(Clone, Copy)]
 pub struct Whole32;
 
 impl Line<32, 32> for Whole32 {

@@ -12,6 +12,7 @@ mod rest; // whether a block ends after its first rows
 pub use rest::rest_zero;
 
 // Kept: an impl for each size, as in `tiles`.
+#[derive(Clone, Copy)]
 pub struct Quarter8;
 
 impl Line<4, 8> for Quarter8 {
@@ -41,6 +42,7 @@ impl Stage for Quarter8 {
     ghost size = { Prim.search rules };
 }
 
+#[derive(Clone, Copy)]
 pub struct Quarter16;
 
 impl Line<4, 16> for Quarter16 {
@@ -70,6 +72,7 @@ impl Stage for Quarter16 {
     ghost size = { Prim.search rules };
 }
 
+#[derive(Clone, Copy)]
 pub struct Quarter32;
 
 impl Line<8, 32> for Quarter32 {

@@ -4,12 +4,12 @@
 // the output. tests/transform_cases.py writes cases and text.
 #![tactic(auto)]
 
-use cases::{Number, UnknownNumber};
+use cases::Number;
 use refusal::Refusal;
 use std::fmt::Display;
 use std::io::Read;
 
-// The function that a case is of, by its number.
+// The function that a case is of, by its number; the last one is any number from its own on.
 #[derive(Clone, Copy)]
 enum Function {
     Wide(Wide),
@@ -30,18 +30,15 @@ enum Narrow {
     Dst,
 }
 
-impl TryFrom<u8> for Function {
-    type Error = UnknownNumber;
-
-    fn try_from(number: u8) -> Result<Function, UnknownNumber> {
+impl From<u8> for Function {
+    fn from(number: u8) -> Function {
         match number {
-            0 => Ok(Function::Wide(Wide::Dct)),
-            1 => Ok(Function::Wide(Wide::DctExtended)),
-            2 => Ok(Function::Wide(Wide::Dst)),
-            3 => Ok(Function::Wide(Wide::DstExtended)),
-            4 => Ok(Function::Narrow(Narrow::Dct)),
-            5 => Ok(Function::Narrow(Narrow::Dst)),
-            _ => Err(UnknownNumber),
+            0 => Function::Wide(Wide::Dct),
+            1 => Function::Wide(Wide::DctExtended),
+            2 => Function::Wide(Wide::Dst),
+            3 => Function::Wide(Wide::DstExtended),
+            4 => Function::Narrow(Narrow::Dct),
+            _ => Function::Narrow(Narrow::Dst),
         }
     }
 }
@@ -109,9 +106,7 @@ fn replay(rt: &impl Print, stdin: &mut impl Read) -> bool {
     if !cases::copy_text(rt, stdin) {
         return false;
     }
-    let Ok(function) = Function::try_from(cases::next::<u8, _>(stdin)) else {
-        return false;
-    };
+    let function = Function::from(cases::next::<u8, _>(stdin));
     let case = Case {
         n: cases::next(stdin),
         nx: cases::next(stdin),

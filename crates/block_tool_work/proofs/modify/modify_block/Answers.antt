@@ -1,12 +1,10 @@
 -- `block_tool_work::modify::modify_block` meets its contract: the block is rotated where it is to be, and its sums are those of what then stands there.
-use mathlib.Core.Path.{◌≡◌, sym, ap, ◌∙◌}
-use Prim.Native.Nat.{ℕ, ◌*◌}
+use mathlib.Core.Path.{◌≡◌, ap, ◌∙◌}
+use Prim.Native.Nat.{◌*◌}
 use native.Mathlib.Omega.{arith}
 use lib.ListN.{length}
 use Rattle.integers.specs.Lists.{overwrite}
 use Rattle.integers.proofs.ListsLaws.{overwrite-length}
-use Rattle.refusal.specs.Condition.{rotation_refused}
-use Rattle.refusal.proofs.ConditionLaws.{rotation_accepted}
 use Rattle.block_tool_rules.specs.Modification.{rotated, accumulated}
 use Rattle.block_tool_work.specs.Work.{at}
 use Rattle.block_tool_work.proofs.AccumulationLaws.{accumulated_cong}

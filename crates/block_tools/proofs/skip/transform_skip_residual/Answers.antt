@@ -1,8 +1,6 @@
 -- `block_tools::skip::transform_skip_residual` meets its contract: refused with 25, refused as transform skip is, or the residuals that it wrote are modified where they stand.
--- What is read of an i32 is the i32 itself.
 use mathlib.Core.Path.{◌≡◌, sym, ◌∙◌}
 use Rattle.std.proofs.Common.{rules, Err}
-use Rattle.std.proofs.lemmas.List.{map-id}
 use Rattle.scaling_values.specs.Given.{list_of}
 use Rattle.block_tool_work.proofs.ResidualLaws.{Skipped, skip_done, skip_block, skip_modified, skip_refused}
 use Rattle.block_tools.proofs.skip.transform_skip_residual.Goals as goal
@@ -10,11 +8,11 @@ use Rattle.block_tools.proofs.skip.transform_skip_residual.Goals.{In_ok-limited}
 
 -- what transform skip wrote
 skipped : (c : In_ok-limited)
-    → let a = c.args in Skipped a.accumulate a.rotate (list_of a.list) a.n a.qp_prime.0 a.precision.bit_depth a.precision.extended a.levels.now a.out.now c.in_ok-limited.limited c.transform_skip.new.out
+    → let a = c.args in Skipped a.accumulate a.rotate (list_of a.list) a.n a.qp_prime.0 a.precision.bit_depth a.precision.extended a.levels.now a.out.now c.in_ok-limited.limited c.skip.new.out
 skipped c =
     let a = c.args in
     skip_done a.accumulate a.rotate (list_of a.list) a.n a.qp_prime.0 a.precision.bit_depth a.precision.extended a.levels.now a.out.now (sym c.rotation_refused.ensures ∙ c.in_ok-check.ensures)
-    (rw (map-id a.out.now, map-id c.transform_skip.new.out) at c.in_ok-limited.ensures)
+    c.in_ok-limited.ensures
 
 pub modify_block-requires : goal.modify_block-requires
 modify_block-requires c =
@@ -32,4 +30,4 @@ returns-in_err-limited c =
     let told : c.from_residual-in_err-limited.result ≡ Err c.in_err-limited.field-0.0 = search rules in
     rw told
     (skip_refused a.accumulate a.rotate (list_of a.list) a.n a.qp_prime.0 a.precision.bit_depth a.precision.extended a.levels.now a.out.now c.in_err-limited.field-0.0 (sym c.rotation_refused.ensures ∙ c.in_ok-check.ensures)
-    (rw (map-id a.out.now, map-id c.transform_skip.new.out) at c.in_err-limited.ensures))
+    c.in_err-limited.ensures)

@@ -19,11 +19,11 @@ loop-k-init c = (omega arith, refl, stored_none)
 
 pub loop-k-preserved : goal.loop-k-preserved
 loop-k-preserved c =
-    let f : SFits w16 (get_or c.trans_matrix-t.result (c.loop-k.k * (1024 / c.args.n) + c.args.m) (pos 0)) = record { sfits = c.r-1.given } in (
+    let f : SFits w16 (get_or c.args.t.now (c.loop-k.k * (1024 / c.args.n) + c.args.m) (pos 0)) = record { sfits = c.r-1.given } in (
       omega arith,
       refl,
-      stored_more c.loop-k.invariant.2 (omega (arith, size_bound c.args.n c.requires.0, length-replicate 32 (pos 0)))
-          (round_trip f ∙ table_entry c.args.n c.loop-k.k c.args.m c.trans_matrix-t.ensures c.requires.0 (omega arith) c.requires.1),
+      stored_more c.loop-k.invariant.2 (omega (arith, size_bound c.args.n c.requires.1, length-replicate 32 (pos 0)))
+          (round_trip f ∙ table_entry c.args.n c.loop-k.k c.args.m c.requires.0 c.requires.1 (omega arith) c.requires.2),
     )
 
 pub returns : goal.returns

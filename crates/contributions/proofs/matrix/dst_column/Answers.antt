@@ -17,9 +17,9 @@ loop-k-init c = (omega arith, stored_none)
 
 pub loop-k-preserved : goal.loop-k-preserved
 loop-k-preserved c =
-    let f : SFits w16 (get_or c.dst_matrix-t.result (4 * c.loop-k.k + c.args.m) (pos 0)) = record { sfits = c.r-1.given } in (
+    let f : SFits w16 (get_or c.args.t.now (4 * c.loop-k.k + c.args.m) (pos 0)) = record { sfits = c.r-1.given } in (
       omega arith,
-      stored_more c.loop-k.invariant.1 (omega (arith, length-replicate 32 (pos 0))) (round_trip f ∙ dst_entry c.loop-k.k c.args.m c.dst_matrix-t.ensures (omega arith) c.requires),
+      stored_more c.loop-k.invariant.1 (omega (arith, length-replicate 32 (pos 0))) (round_trip f ∙ dst_entry c.loop-k.k c.args.m c.requires.0 (omega arith) c.requires.1),
     )
 
 pub returns : goal.returns

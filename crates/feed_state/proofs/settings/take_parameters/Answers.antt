@@ -32,7 +32,7 @@ returns-in_err-mode c =
     let why = none_said _ ParameterInvalid _ c.in_err-mode.ensures.value in
     record {
       leaves = λ w.
-          rw (told, why.1, c.in_ok-check_depth.ensures.0, sym c.flag_of.ensures ∙ c.in_ok-extended.ensures.ok_part, sym c.mode_of.ensures ∙ why.0)
+          rw (told, why.1, c.in_ok-check_depth.ensures.0, sym c.flag_of.ensures ∙ c.in_ok-extended.ensures.ok_part, sym c.known_mode.ensures ∙ why.0)
           (quiet_kept c.args.s ParameterInvalid c.args.at w (omega arith) (omega arith));
     }
 
@@ -41,6 +41,6 @@ unfolding parameters_effect
 returns c =
     record {
       leaves = λ w.
-          rw (c.in_ok-check_depth.ensures.0, sym c.flag_of.ensures ∙ c.in_ok-extended.ensures.ok_part, sym c.mode_of.ensures ∙ c.in_ok-mode.ensures.ok_part)
+          rw (c.in_ok-check_depth.ensures.0, sym c.flag_of.ensures ∙ c.in_ok-extended.ensures.ok_part, sym c.known_mode.ensures ∙ c.in_ok-mode.ensures.ok_part)
           (quiet_moved c.args.s _ w _ c.args.at (omega arith) (rw c.body_length.ensures at c.behind.ensures) refl);
     }

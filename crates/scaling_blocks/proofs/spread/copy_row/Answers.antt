@@ -1,19 +1,59 @@
--- `scaling_blocks::spread::copy_row` meets its contract: the row's part became the last part of what stands before it.
-use mathlib.Core.Path.{◌∙◌}
-use Prim.Native.Nat.{◌+◌, ◌*◌, ◌≤◌}
+-- `scaling_blocks::spread::copy_row` meets its contract. The loop's invariant: the first c entries of the row have become those above them.
+use mathlib.Core.Path.{refl, ◌∙◌}
+use Prim.Native.Nat.{◌+◌, ◌-◌, ◌*◌, ◌≤◌, ◌<◌}
 use native.Mathlib.Nat.{mul-le-mul, le_refl}
 use native.Mathlib.Omega.{arith}
-use lib.ListN.{length-drop}
-use Rattle.std.proofs.lemmas.List.{take_all}
-use Rattle.scaling_blocks.proofs.WorkLaws.{copied_parts}
+use lib.Arith.{digits_lt}
+use lib.ListN.{get_or, length-set}
+use Rattle.scaling_blocks.proofs.WorkLaws.{fills_none, fills_copy}
 use Rattle.scaling_blocks.proofs.spread.copy_row.Goals as goal
+use Rattle.scaling_blocks.proofs.spread.copy_row.Goals.{In-loop-c, Start}
 
-pub returns : goal.returns
-returns c =
-    let a = c.args in
-    let s = c.split_at_mut-above in
-    let least : 1 * a.n ≤ a.row * a.n = mul-le-mul c.requires.le_row.0 (le_refl a.n) in
-    let next : (a.row + 1) * a.n ≤ a.n * a.n = mul-le-mul (omega (arith, c.requires.le_row.1)) (le_refl a.n) in
-    copied_parts a.n a.row a.entries.now s.result.0.now s.result.1.now c.copy_from_slice.new.self s.ensures.value s.ensures.front_len (omega (arith, least))
-    (omega (arith, next, c.requires.n_in_bounds, s.ensures.back_len))
-    (c.copy_from_slice.ensures.after ∙ take_all _ _ (rw length-drop (omega (arith, s.ensures.front_len))))
+-- the row begins after the one above it, and ends in the block
+row_small : (s : Start) → s.args.row * s.args.n ≤ 32 * 32
+row_small s = mul-le-mul (let e : s.args.row ≤ 32 = omega (arith, s.requires.le_row.1, s.requires.n_bound) in e) s.requires.n_bound
+
+row_least : (s : Start) → 1 * s.args.n ≤ s.args.row * s.args.n
+row_least s = mul-le-mul s.requires.le_row.0 (le_refl s.args.n)
+
+below : (c : In-loop-c) → c.args.row * c.args.n + c.loop-c.c < c.args.n * c.args.n
+below c = digits_lt c.requires.le_row.1 c.loop-c-test.true
+
+pub overflow_mul-at : goal.overflow_mul-at
+overflow_mul-at c = omega (arith, row_small c)
+
+pub overflow_sub-above : goal.overflow_sub-above
+overflow_sub-above c = omega (arith, row_least c)
+
+pub loop-c-init : goal.loop-c-init
+loop-c-init c = (omega arith, record { same = refl; fills = λ f h. fills_none (omega arith) })
+
+pub overflow_add-entries : goal.overflow_add-entries
+overflow_add-entries c = omega (arith, row_small (goal.at.overflow_add-entries c).Start, c.requires.n_bound, c.loop-c-test.true)
+
+pub bounds-entries-above : goal.bounds-entries-above
+bounds-entries-above c = omega (arith, below (goal.at.bounds-entries-above c).In-loop-c, row_least (goal.at.bounds-entries-above c).Start, c.loop-c.invariant.1.same, c.requires.n_in_bounds)
+
+pub overflow_add-entries-in-loop-c : goal.overflow_add-entries-in-loop-c
+overflow_add-entries-in-loop-c c = omega (arith, row_small (goal.at.overflow_add-entries-in-loop-c c).Start, c.requires.n_bound, c.loop-c-test.true)
+
+pub bounds-entries-at : goal.bounds-entries-at
+bounds-entries-at c = omega (arith, below (goal.at.bounds-entries-at c).In-loop-c, c.loop-c.invariant.1.same, c.requires.n_in_bounds)
+
+pub loop-c-preserved : goal.loop-c-preserved
+loop-c-preserved c =
+    let l = c in
+    let n = l.args.n in
+    let first = l.args.row * n in (
+      omega arith,
+      record {
+        same = length-set l.loop-c.entries (first + l.loop-c.c) (get_or l.loop-c.entries (first - n + l.loop-c.c) 0) ∙ l.loop-c.invariant.1.same;
+        fills =
+            λ f h.
+            fills_copy (l.loop-c.invariant.1.fills f h) (first + (l.loop-c.c + 1)) (first - n + l.loop-c.c) (omega arith) (omega (arith, below (goal.at.loop-c-preserved c).In-loop-c, l.requires.n_in_bounds))
+            (omega (arith, row_least (goal.at.loop-c-preserved c).Start, c.loop-c-test.true)) (h l.loop-c.c c.loop-c-test.true);
+      },
+    )
+
+pub shape_of-entries : goal.shape_of-entries
+shape_of-entries c = c.loop-c.invariant.1.same

@@ -1,0 +1,9 @@
+-- `contributions::products::dct_products` meets its contract: the products by two columns of the matrix are the contributions.
+use mathlib.Core.Path.{◌∙◌}
+use Rattle.contributions.proofs.ColumnLaws.{products_are}
+use Rattle.contributions.proofs.products.dct_products.Goals as goal
+
+pub returns : goal.returns
+returns c =
+    let a = c.args in
+    c.products.ensures ∙ products_are a.coeff.now a.out.now c.dct_column-down.ensures c.dct_column-across.ensures
