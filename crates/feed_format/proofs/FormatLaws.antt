@@ -3,14 +3,14 @@
 --   length_none             kinds 3 and 9 and bytes that are no kind have no body
 --   room_none               kinds 1, 2, 3 and 8 and bytes that are no kind have no text
 --   Sized, kind_size        a kind of levels has one of the four sizes
---   none_is                 what std's `is_none` says of a kind
+--   none_is, none_at        what std's `is_none` says of a kind, and of a byte's
 --   unknown_room            an unknown kind has no text
 --   kind_known              the same of a byte that is of a kind
 --   length_most, text_most  the body and the text of a known kind
 --   room_most               no record's text takes more than that of the largest block
 use Rattle.std.specs.Prelude.{Option, Some, None}
 use Rattle.std.specs.Option.{is_some}
-use mathlib.Core.Path.{◌≡◌, refl, sym}
+use mathlib.Core.Path.{◌≡◌, refl, sym, ap, ◌∙◌}
 use mathlib.Core.Bool.{Bool, true, false, not, cond, true≢false}
 use Prim.Native.Nat.{ℕ, ◌≤◌}
 use native.Mathlib.Omega.{arith}
@@ -70,6 +70,9 @@ kind_known k e = rw e at (kind_size k)
 pub none_is : (kind : Option Kind) (t : Bool) → is_some kind ≡ not t → is_unknown kind ≡ t
 none_is None t e = sym (not-false t (sym e))
 none_is (Some kind) t e = sym (not-true t (sym e))
+
+pub none_at : (k : ℕ) {kind : Option Kind} {s t : Bool} → kind ≡ kind_of k → is_some kind ≡ not s → s ≡ t → is_unknown (kind_of k) ≡ t
+none_at k {kind} {s} e n h = ap is_unknown (sym e) ∙ none_is kind s n ∙ h
 
 pub unknown_room : (k : ℕ) → is_unknown (kind_of k) ≡ true → record_room k ≡ 0
 unfolding record_room

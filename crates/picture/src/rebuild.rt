@@ -26,6 +26,7 @@ fn rebuilt_sample(top: u16, prediction: u16, residual: i32) -> u16
 
 // One row of the block: n samples from `from` on, put into the plane from `at` on.
 // Kept: n, `from` and `at` beside the slices: `Placed` speaks of the whole plane, to which the law of the rows adds one row; of row slices each would need a law that it is that part of the whole.
+#[inline(always)]
 fn rebuild_row(
     n: usize,
     top: u16,
@@ -46,7 +47,8 @@ fn rebuild_row(
 
 // The rows of the block.
 // Kept: size and depth, column and row, residual and prediction apart: `rebuild_block` is called with them apart, as C hands them over, and the definition takes each by itself.
-fn rebuild_rows(
+#[inline(always)]
+fn put_rows(
     n: usize,
     bit_depth: u8,
     residual: &[i32],
@@ -71,6 +73,29 @@ fn rebuild_rows(
             (y + k) * extent.stride + x,
             plane,
         );
+    }
+}
+
+// The same. A block of size 4 has rows of a length that the compiler knows.
+// Kept: two calls: rows of four whose length comes with the call take twice the time, most of it before and behind the loop over whole vectors.
+fn rebuild_rows(
+    n: usize,
+    bit_depth: u8,
+    residual: &[i32],
+    prediction: &[u16],
+    extent: Extent,
+    x: usize,
+    y: usize,
+    plane: &mut [u16],
+)
+    requires inside { Inside n bit_depth extent.stride x y (length residual.now) (length prediction.now) (length plane.old) }
+    requires below { Below (sample_max bit_depth) (n * n) prediction.now }
+    ensures { plane.new ≡ rebuilt_plane n bit_depth residual.now prediction.now extent.stride x y plane.old }
+{
+    if n == 4 {
+        put_rows(4, bit_depth, residual, prediction, extent, x, y, plane);
+    } else {
+        put_rows(n, bit_depth, residual, prediction, extent, x, y, plane);
     }
 }
 

@@ -5,6 +5,7 @@
 --   by_entry_same, by_entry_fits, by_entry_listed   what is written and counted by the m at every index: the same by equal m, fitting, the block's
 --   flat_listed                            without a list every m is 16
 --   laid_small, laid_few                   its size, and how often an entry is repeated
+--   row_small                              where a row begins
 --   row_position                           the position of an index of a row
 --   shared_row                             a row that is not the first of those that share their entries has the quotient of the row above
 --   stored_rest                            a place that a loop has not come to is as lent
@@ -17,7 +18,7 @@ use mathlib.Core.Path.{◌≡◌, refl, sym, ap, ap₂, subst, ◌∙◌}
 use mathlib.Core.Bool.{Bool, true, false}
 use mathlib.Core.List.{List, map}
 use Prim.Native.Nat.{ℕ, ◌+◌, ◌-◌, ◌*◌, ◌/◌, ◌%◌, ◌^◌, ◌≤◌, ◌<◌}
-use native.Mathlib.Nat.{mod-lt}
+use native.Mathlib.Nat.{mod-lt, mul-le-mul}
 use native.Mathlib.Decide.{dec_lt}
 use native.Mathlib.Omega.{arith}
 use lib.Arith.{digits_div, digits_mod}
@@ -73,6 +74,9 @@ flat_listed {p} g n levels {k} {xs = xs} c =
       out = c.out ∙ overwrite_cong k (flat_at p levels) (listed_at p flat n levels) xs (λ i a. ap (λ (z : ℤ). level_by p z (get_or levels i (pos 0))) e);
       count = c.count;
     }
+
+pub row_small : {n row : ℕ} → n ≤ 32 → row < n → row * n ≤ 32 * 32
+row_small {n} {row} b h = mul-le-mul (let e : row ≤ 32 = omega (arith, b, h) in e) b
 
 pub row_position : (n r row c : ℕ) → Rows n r → c < n → row / 2 ^ r * 8 + c / 2 ^ r ≡ repeated_position n (row * n + c)
 unfolding repeated_position

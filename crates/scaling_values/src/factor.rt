@@ -21,6 +21,7 @@ fn repeated_position(index: usize, log2n: u32) -> usize
 // m at an index of a block by a list's entries and its DC.
 // Kept: `WholeList` is a clause, here and in the crates above: it is of a lent list and of a size, and a struct of both would be made behind each ladder and taken apart again.
 // Kept: entries and DC stand apart here and in `scaling_coeff`, as the ported Rust and C give them.
+// Kept: an arm for each size, by whose numbers the compiler has masks in place of shifts: with `n.ilog2()` one m takes a third longer.
 pub fn listed_at(list: &[u8], dc: u8, n: usize, index: usize) -> u8
     requires whole_list { WholeList (length list.now) n }
     requires index_bound { index < n * n }
@@ -32,7 +33,10 @@ pub fn listed_at(list: &[u8], dc: u8, n: usize, index: usize) -> u8
     if index == 0 {
         return dc;
     }
-    list[repeated_position(index, n.ilog2())]
+    if n == 16 {
+        return list[repeated_position(index, 4)];
+    }
+    list[repeated_position(index, 5)]
 }
 
 // m at an index of a block.

@@ -1,35 +1,14 @@
--- `block_work::columns::column_count` meets its contract: the columns passed, from the last one leftwards, have zeros only.
-use mathlib.Core.Path.{◌≡◌, refl, sym, ap, ◌∙◌}
-use Prim.Native.Nat.{ℕ, suc, ◌+◌, ◌-◌}
-use native.Mathlib.Omega.{arith}
-use Rattle.block_rules.specs.Columns.{last_where, column_used, column_count}
-use Rattle.block_laws.proofs.ColumnsLaws.{count_used, count_unused}
+-- `block_work::columns::column_count` meets its contract: a block of size 4 is one of size n.
+use mathlib.Core.Path.{◌≡◌, sym, subst}
+use Prim.Native.Nat.{ℕ, ◌*◌, ◌≤◌}
+use lib.Dec.{T}
+use lib.ListN.{length}
+use Rattle.h265.specs.Range.{is_size}
+use Rattle.block_rules.specs.Columns.{column_count}
 use Rattle.block_work.proofs.columns.column_count.Goals as goal
 
-pub loop-c-init : goal.loop-c-init
-unfolding column_count
-loop-c-init c = refl
+pub count_columns-requires : goal.count_columns-requires
+count_columns-requires c = subst (λ (k : ℕ). T (is_size k) × (k * k ≤ length c.args.coeff.now)) c.if-n-eq4.true c.requires
 
-pub loop-c-preserved : goal.loop-c-preserved
-loop-c-preserved c =
-    let a = c.args in
-    let b = c.loop-c.c - 1 in
-    let e : c.loop-c.c ≡ suc b = omega (arith, c.loop-c-test.true) in
-    c.loop-c.invariant ∙ ap (λ (i : ℕ). last_where i (column_used a.n a.coeff.now)) e
-    ∙ count_unused a.n a.coeff.now b (sym c.is_used.ensures ∙ c.if-is_used.false)
-
-pub returns-then-is_used : goal.returns-then-is_used
-returns-then-is_used c =
-    let a = c.args in
-    let b = c.loop-c.c - 1 in
-    let e : c.loop-c.c ≡ suc b = omega (arith, c.loop-c-test.true) in
-    let one : b + 1 ≡ suc b = omega arith in
-    one ∙ sym (c.loop-c.invariant ∙ ap (λ (i : ℕ). last_where i (column_used a.n a.coeff.now)) e
-    ∙ count_used a.n a.coeff.now b (sym c.is_used.ensures ∙ c.if-is_used.true))
-
-pub returns : goal.returns
-unfolding last_where
-returns c =
-    let a = c.args in
-    let none : c.loop-c.c ≡ 0 = omega (arith, c.loop-c-test.false) in
-    sym (c.loop-c.invariant ∙ ap (λ (i : ℕ). last_where i (column_used a.n a.coeff.now)) none)
+pub returns-then-n-eq4 : goal.returns-then-n-eq4
+returns-then-n-eq4 c = subst (λ (k : ℕ). c.count_columns.result ≡ column_count k c.args.coeff.now) (sym c.if-n-eq4.true) c.count_columns.ensures

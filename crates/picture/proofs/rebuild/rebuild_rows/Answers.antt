@@ -1,33 +1,22 @@
--- `picture::rebuild::rebuild_rows` meets its contract. The loop's invariant: k rows of the block are put, and everything else is as lent.
-use mathlib.Core.Path.{◌≡◌, ap, subst, ◌∙◌}
-use Prim.Native.Nat.{ℕ}
-use native.Mathlib.Omega.{arith}
+-- `picture::rebuild::rebuild_rows` meets its contract: a block of size 4 is one of size n.
+use mathlib.Core.Path.{◌≡◌, sym, subst}
+use Prim.Native.Nat.{ℕ, ◌*◌}
 use lib.ListN.{length}
-use Rattle.integers.specs.Lists.{tabulate}
-use Rattle.picture.specs.Samples.{sample_max, rebuilt_at, placed_at, rebuilt_plane}
-use Rattle.picture.proofs.SamplesLaws.{Rows, rows_none, rows_more, rows_all}
+use Rattle.picture.specs.Rebuild.{Inside, Below}
+use Rattle.picture.specs.Samples.{sample_max, rebuilt_plane}
 use Rattle.picture.proofs.rebuild.rebuild_rows.Goals as goal
-use Rattle.picture.proofs.rebuild.rebuild_rows.Goals.{At-loop-k, Start}
 
-pub loop-k-init : goal.loop-k-init
-loop-k-init c = (rows_none, omega arith)
+pub put_rows-requires-clause-inside : goal.put_rows-requires-clause-inside
+put_rows-requires-clause-inside c =
+    let a = c.args in
+    subst (λ (k : ℕ). Inside k a.bit_depth a.extent.stride a.x a.y (length a.residual.now) (length a.prediction.now) (length a.plane.now)) c.if-n-eq4.true c.requires.inside
 
--- the largest sample, in the code's variable
-top_is : (c : At-loop-k) → c.sample_max-top.result ≡ sample_max c.args.bit_depth
-top_is c = c.sample_max-top.ensures
+pub put_rows-requires-clause-below : goal.put_rows-requires-clause-below
+put_rows-requires-clause-below c =
+    let a = c.args in
+    subst (λ (k : ℕ). Below (sample_max a.bit_depth) (k * k) a.prediction.now) c.if-n-eq4.true c.requires.below
 
-pub loop-k-preserved : goal.loop-k-preserved
-loop-k-preserved c =
-    let r = c in
-    let l = r in
-    (rows_more l.loop-k.invariant.0 r.rebuild_row.ensures l.requires.inside.columns, omega arith)
-
-pub returns : goal.returns
-unfolding rebuilt_plane
-returns c =
-    let l = c in
-    let a = l.args in
-    let f = rebuilt_at l.sample_max-top.result a.residual.now a.prediction.now in
-    let whole : l.loop-k.k ≡ a.n = omega arith in
-    rows_all (subst (λ (k : ℕ). Rows k a.n a.extent.stride a.x a.y f a.plane.now l.loop-k.plane) whole l.loop-k.invariant.0)
-    ∙ ap (λ (t : ℕ). tabulate (length a.plane.now) (placed_at a.n a.n a.extent.stride a.x a.y (rebuilt_at t a.residual.now a.prediction.now) a.plane.now)) (top_is (goal.at.returns c).At-loop-k)
+pub returns-then-n-eq4 : goal.returns-then-n-eq4
+returns-then-n-eq4 c =
+    let a = c.args in
+    subst (λ (k : ℕ). c.put_rows.new.plane ≡ rebuilt_plane k a.bit_depth a.residual.now a.prediction.now a.extent.stride a.x a.y a.plane.now) (sym c.if-n-eq4.true) c.put_rows.ensures

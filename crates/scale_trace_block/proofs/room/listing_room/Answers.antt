@@ -1,24 +1,17 @@
 -- `scale_trace_block::room::listing_room` meets its contract: what is counted and what the rest asks are what the whole asks.
-use mathlib.Core.Path.{◌≡◌, sym, ap, ◌∙◌}
-use mathlib.Core.Bool.{Bool}
-use lib.ListN.{get_or}
-use Rattle.feed_format.specs.Format.{kind_of, is_unknown}
-use Rattle.feed_format.proofs.FormatLaws.{none_is}
+use mathlib.Core.Path.{sym, ◌∙◌}
+use Rattle.feed_format.proofs.FormatLaws.{none_at}
 use Rattle.feed_format.proofs.RoomLaws.{room_more, room_unknown, room_end}
 use Rattle.scale_trace_rules.specs.Trace.{listing_room}
 use Rattle.scale_trace_block.proofs.room.listing_room.Goals as goal
-use Rattle.scale_trace_block.proofs.room.listing_room.Goals.{After-is_none}
-
-known : {t : Bool} (c : After-is_none) → c.is_none.result ≡ t → is_unknown (kind_of (get_or c.args.input.now c.loop-at.at 0)) ≡ t
-known c e = ap is_unknown (sym c.kind_of.ensures) ∙ none_is _ _ c.is_none.ensures ∙ e
 
 pub returns-then-is_none : goal.returns-then-is_none
 unfolding listing_room
-returns-then-is_none c = c.saturating_add.ensures ∙ sym (room_unknown c.loop-at.invariant c.loop-at-test.true (known (goal.at.returns-then-is_none c).After-is_none c.if-is_none.true))
+returns-then-is_none c = c.saturating_add.ensures ∙ sym (room_unknown c.loop-at.invariant c.loop-at-test.true (none_at _ c.kind_of.ensures c.is_none.ensures c.if-is_none.true))
 
 pub loop-at-preserved : goal.loop-at-preserved
 loop-at-preserved c =
-    room_more c.loop-at.invariant _ c.loop-at-test.true (known (goal.at.loop-at-preserved c).After-is_none c.if-is_none.false) (rw c.record_length.ensures.value at c.min-at.ensures) _ (rw c.list_room.ensures at c.saturating_add-room.ensures)
+    room_more c.loop-at.invariant _ c.loop-at-test.true (none_at _ c.kind_of.ensures c.is_none.ensures c.if-is_none.false) (rw c.record_length.ensures.value at c.min-at.ensures) _ (rw c.list_room.ensures at c.saturating_add-room.ensures)
 
 pub returns : goal.returns
 unfolding listing_room
